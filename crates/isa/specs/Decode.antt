@@ -1,0 +1,71 @@
+-- Decoding at a program address of an image (document 01, "Program space and data space" and "Decode at an address").
+-- Assumes nothing.
+use Prim.Native.Nat.{ℕ, _+_, _-_}
+use mathlib.Core.Bool.{Bool, cond, _||_}
+use mathlib.Core.List.{List}
+use lib.Dec.{eqb, ltb, leb}
+use lib.ListN.{length, getD}
+use Rattle.isa.specs.Refusals.{Numbered, plain, located, numbered}
+use Rattle.isa.specs.Displacement.{forwardOf}
+use Rattle.isa.specs.Map.{entryOf, bytesOf, cyclesOf, formOf}
+use Rattle.isa.specs.declared.Instruction.{Instruction}
+use Rattle.isa.specs.declared.Form.{Form}
+use Rattle.isa.specs.declared.Form.the-variants.{Is, Undefined}
+use Rattle.isa.specs.declared.Decoded.{Decoded}
+use Rattle.isa.specs.declared.Decoded.the-variants.{Valid, Refused}
+use Rattle.isa.specs.declared.rom.RomByte.{RomByte}
+use Rattle.isa.specs.declared.rom.RomByte.the-variants.{Byte, Outside}
+
+-- what decoding answers: an instruction with its length and its cycles, or a refusal
+pub data Answer : Type 0 where
+  instruction : Instruction → (length cycles : ℕ) → Answer
+  refused : Numbered → Answer
+
+-- the program's answer by document 01's numbers
+abbrev pub answerOf : Decoded → Answer
+answerOf (Valid i bytes cycles) = instruction i bytes cycles
+answerOf (Refused r) = refused (numbered r)
+
+-- "An image is 2048 bytes (800h to FFFh) or 4096 bytes (000h to FFFh)."
+abbrev pub isImage : ℕ → Bool
+isImage n = eqb n 2048 || eqb n 4096
+
+-- the ROM byte at a program address: the last byte of the image, of either length, stands at FFFh
+unfoldable pub romAt : List ℕ → ℕ → RomByte
+romAt image address =
+    cond (ltb address 4096)
+    (cond (leb 4096 (address + length image)) (Byte (getD image (address + length image - 4096) 0)) Outside)
+    Outside
+
+-- "an operand byte after FFFh is the one at 000h": the byte at an offset from the opcode, and 0 where the instruction is shorter
+unfoldable pub operandAt : List ℕ → ℕ → ℕ → ℕ → RomByte
+operandAt image address offset bytes =
+    cond (ltb offset bytes) (romAt image (forwardOf address offset)) (Byte 0)
+
+-- "5 undefined opcode"
+abbrev pub withForm : ℕ → ℕ → Form → Answer
+withForm address opcode (Is i) = instruction i (bytesOf (entryOf opcode)) (cyclesOf (entryOf opcode))
+withForm address opcode Undefined = refused (located 5 address)
+
+-- "4 operand byte outside ROM". An undefined opcode has no operand bytes, so that 5 comes before this 4
+abbrev pub withSecond : ℕ → ℕ → ℕ → RomByte → Answer
+withSecond address opcode first (Byte second) = withForm address opcode (formOf opcode first second)
+withSecond address opcode first Outside = refused (located 4 address)
+
+abbrev pub withFirst : List ℕ → ℕ → ℕ → RomByte → Answer
+withFirst image address opcode (Byte first) =
+    withSecond address opcode first (operandAt image address 2 (bytesOf (entryOf opcode)))
+withFirst image address opcode Outside = refused (located 4 address)
+
+-- "4 opcode byte outside ROM"
+abbrev pub withOpcode : List ℕ → ℕ → RomByte → Answer
+withOpcode image address (Byte opcode) =
+    withFirst image address opcode (operandAt image address 1 (bytesOf (entryOf opcode)))
+withOpcode image address Outside = refused (located 4 address)
+
+-- "Decode at an address: 1 image length; 3 address above FFFh"
+unfoldable pub decodeAt : List ℕ → ℕ → Answer
+decodeAt image address =
+    cond (isImage (length image))
+    (cond (ltb address 4096) (withOpcode image address (romAt image address)) (refused (plain 3)))
+    (refused (plain 1))

@@ -1,0 +1,35 @@
+-- Refusals by document 01's numbers ("What each operation turns down").
+-- Assumes nothing.
+use Prim.Native.Nat.{ℕ}
+use Rattle.isa.specs.declared.Refusal.{Refusal}
+use Rattle.isa.specs.declared.Refusal.the-variants as R
+
+-- "A refusal is a number": alone, or with an address
+pub data Numbered : Type 0 where
+  plain : (number : ℕ) → Numbered
+  located : (number address : ℕ) → Numbered
+
+-- "4 to 7 and 14 to 17 also give the instruction's address (a request's 6 gives PC), 18 the vector's."
+abbrev pub numbered : Refusal → Numbered
+numbered R.ImageLength = plain 1
+numbered R.IllFormedMachine = plain 2
+numbered R.AddressRange = plain 3
+numbered (R.OutsideRom a) = located 4 a
+numbered (R.UndefinedOpcode a) = located 5 a
+numbered (R.StackFull a) = located 6 a
+numbered (R.StackEmpty a) = located 7 a
+numbered R.OperandRange = plain 8
+numbered R.BufferLength = plain 9
+numbered R.WindowAddress = plain 10
+numbered R.UnknownSource = plain 11
+numbered R.StepCount = plain 12
+numbered R.CertificateLength = plain 13
+numbered (R.MalformedMark a) = located 14 a
+numbered (R.MisplacedReturn a) = located 15 a
+numbered (R.SuccessorKind a) = located 16 a
+numbered (R.NeedTooSmall a) = located 17 a
+numbered (R.VectorKind a) = located 18 a
+numbered R.TooManyLevels = plain 19
+numbered R.JobTooShort = plain 20
+numbered R.JobVersion = plain 21
+numbered R.JobLength = plain 22

@@ -1,0 +1,61 @@
+// Decoding at a program address of an image.
+use crate::Decoded;
+use crate::Form;
+use crate::Refusal;
+use crate::decoding::form;
+use crate::rom::RomByte;
+use crate::rom::is_image_length;
+use crate::rom::operand_byte;
+use crate::rom::rom_byte;
+use crate::table::timing_of;
+use crate::table::timings;
+ghost use mathlib.Core.Path.{_≡_};
+ghost use Rattle.isa.specs.Map.{Timings};
+ghost use Rattle.isa.specs.Decode.{answerOf, decodeAt, romAt, withOpcode};
+
+// The instruction at an address of the program space.
+fn decode_in_range(table: &[u8; 256], image: &[u8], address: u16) -> Decoded
+    requires { ⌜ Timings (now table) ⌝ }
+    ensures { λ r. ⌜ answerOf r ≡ withOpcode (now (image .entry)) address (romAt (now (image .entry)) address) ⌝ }
+{
+    let RomByte::Byte(opcode) = rom_byte(image, address) else {
+        return Decoded::Refused(Refusal::OutsideRom(address));
+    };
+    let timing = timing_of(table, opcode);
+    let RomByte::Byte(first) = operand_byte(image, address, 1, timing.length) else {
+        return Decoded::Refused(Refusal::OutsideRom(address));
+    };
+    let RomByte::Byte(second) = operand_byte(image, address, 2, timing.length) else {
+        return Decoded::Refused(Refusal::OutsideRom(address));
+    };
+    let Form::Is(instruction) = form(opcode, first, second) else {
+        return Decoded::Refused(Refusal::UndefinedOpcode(address));
+    };
+    Decoded::Valid {
+        instruction,
+        length: timing.length,
+        cycles: timing.cycles,
+    }
+}
+
+// The instruction at an address of an image, by a table that is lent.
+pub fn decode_by(table: &[u8; 256], image: &[u8], address: u16) -> Decoded
+    requires { ⌜ Timings (now table) ⌝ }
+    ensures { λ r. ⌜ answerOf r ≡ decodeAt (now (image .entry)) address ⌝ }
+{
+    if !is_image_length(image.len()) {
+        return Decoded::Refused(Refusal::ImageLength);
+    }
+    if 4096 <= address {
+        return Decoded::Refused(Refusal::AddressRange);
+    }
+    decode_in_range(table, image, address)
+}
+
+// The instruction at an address of an image.
+pub fn decode(image: &[u8], address: u16) -> Decoded
+    ensures { λ r. ⌜ answerOf r ≡ decodeAt (now (image .entry)) address ⌝ }
+{
+    let table = timings();
+    decode_by(&table, image, address)
+}
