@@ -6,3 +6,5 @@ pub mod Encode
 pub mod Flow
 pub mod Sources
 pub mod Lengths
+pub mod RoundTrip
+pub mod Targets
