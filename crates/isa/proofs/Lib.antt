@@ -4,3 +4,7 @@ pub mod Prefix
 pub mod Reading
 pub mod DecodedLength
 pub mod Targets
+pub mod RoundTrip
+pub mod Counts
+pub mod Cases
+pub mod InImage

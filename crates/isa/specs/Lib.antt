@@ -8,3 +8,5 @@ pub mod Sources
 pub mod Lengths
 pub mod RoundTrip
 pub mod Targets
+pub mod Counts
+pub mod Cases

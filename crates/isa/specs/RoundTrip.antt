@@ -1,17 +1,44 @@
--- Instructions and the bytes of an image.
+-- Writing and decoding undo one another (document 01, "The opcode map" and "Write an instruction").
 -- Assumes nothing.
 use Prim.Native.Nat.{ℕ, _<_}
 use mathlib.Core.Path.{_≡_}
+use mathlib.Core.Logic.{_↔_}
+use mathlib.Core.Bool.{true}
 use mathlib.Core.List.{List}
 use lib.ListN.{length, getD}
+use Rattle.isa.specs.Refusals.{plain}
 use Rattle.isa.specs.Displacement.{forwardOf}
-use Rattle.isa.specs.Decode.{romAt}
+use Rattle.isa.specs.Map.{entryOf, cyclesOf}
+use Rattle.isa.specs.Decode.{isImage, romAt, instruction, decodeAt}
+use Rattle.isa.specs.Encode.{encodeOf, bytes, refused, outcome}
+use Rattle.isa.specs.declared.Instruction.{Instruction}
+use Rattle.isa.specs.declared.Encoded.the-variants.{Beyond}
 use Rattle.isa.specs.declared.rom.RomByte.the-variants.{Byte}
 
 -- every element is a byte: what a slice of u8 holds
 abbrev pub Bytes : List ℕ → Type 0
 Bytes image = (j : ℕ) → getD image j 0 < 256
 
--- the bytes stand in the image from an address on; the one after FFFh is the one at 000h
+-- the bytes stand in the image from an address on; "an operand byte after FFFh is the one at 000h"
 abbrev pub Holds : List ℕ → ℕ → List ℕ → Type 0
 Holds image a bs = (j : ℕ) → j < length bs → romAt image (forwardOf a j) ≡ Byte (getD bs j 0)
+
+-- "An instruction decodes to one of the manual's forms with its operands": every instruction that is not refused does, wherever
+-- its bytes stand, and with the length and the cycles of its opcode
+abbrev pub WrittenDecodes : Type 0
+WrittenDecodes =
+    (i : Instruction) → (encodeOf i ≡ Beyond → ⊥) → (image : List ℕ) → isImage (length image) ≡ true → (a : ℕ) → a < 4096 → Holds image a (bytes (encodeOf i)) → decodeAt image a ≡ instruction i (length (bytes (encodeOf i))) (cyclesOf (entryOf (getD (bytes (encodeOf i)) 0 0)))
+
+-- "It is written from the buffer's first byte": what was decoded is written as the bytes that stand there, as many as decoding answered
+abbrev pub DecodedWrites : Type 0
+DecodedWrites =
+    (image : List ℕ) → Bytes image → (a : ℕ) (i : Instruction) (n cycles : ℕ) → decodeAt image a ≡ instruction i n cycles → (length (bytes (encodeOf i)) ≡ n) × Holds image a (bytes (encodeOf i))
+
+-- no image has the instruction at any address
+abbrev pub Undecoded : Instruction → Type 0
+Undecoded i = (image : List ℕ) → Bytes image → (a n cycles : ℕ) → decodeAt image a ≡ instruction i n cycles → ⊥
+
+-- "8 operand beyond its field, or of a kind the map lacks for it", and "never where it doesn't apply": refused are the instructions
+-- that no bytes decode to
+abbrev pub RefusedExactly : Type 0
+RefusedExactly = (i : Instruction) (size : ℕ) → (outcome (encodeOf i) size ≡ refused (plain 8)) ↔ Undecoded i

@@ -1,0 +1,26 @@
+-- The bench cases that speak of decoding, and the places where the manual misleads, by computation.
+-- Assumes nothing.
+use mathlib.Core.Path.{refl}
+use Rattle.isa.specs.Map.{entryOf, bytesOf, cyclesOf, formOf, formAs}
+use Rattle.isa.specs.Decode.{romAt, operandAt, decodeAt}
+use Rattle.isa.specs.Flow.{flowOf}
+use Rattle.isa.specs.Cases.{DecodingCases}
+
+pub decoding-cases : DecodingCases
+unfolding decodeAt romAt operandAt formOf formAs entryOf bytesOf cyclesOf flowOf
+decoding-cases =
+    record {
+      p7 = record { farthest = (refl, refl); farthest-back = (refl, refl); itself = (refl, refl) };
+      p8 = (refl, refl);
+      p9 = (refl, refl);
+      p10 = record { calls = (refl, refl); jumps = (refl, refl) };
+      long-ends = record { farthest = (refl, refl); farthest-back = (refl, refl) };
+      return-opcodes = record { of-interrupt = (refl, refl); of-subroutine = (refl, refl) };
+      tested-bit = λ f s. refl;
+      no-forms-of-their-own = record {
+        nop = (refl, refl);
+        clear-a = (refl, refl);
+        shift-a = (refl, refl);
+        clear = λ d. (refl, refl)
+      }
+    }
