@@ -21,6 +21,6 @@ decoding-cases =
         nop = (refl, refl);
         clear-a = (refl, refl);
         shift-a = (refl, refl);
-        clear = λ d. (refl, refl)
-      }
+        clear = λ d. (refl, refl);
+      };
     }

@@ -1,37 +1,26 @@
--- Writing and decoding undo one another in an image, and 8 refuses what no image holds.
+-- Writing and decoding undo one another in an image.
 -- Assumes nothing.
 use mathlib.Core.Path.{_≡_, refl, sym, ap, _∙_}
-use mathlib.Core.Logic.{_⊎_, inl, inr, ⊎-elim}
-use mathlib.Core.Bool.{Bool, true, false, cond, _&&_}
-use mathlib.Core.List.{List, [], _∷_, _++_}
-use Prim.Native.Nat.{ℕ, zero, suc, _+_, _-_, _*_, _/_, _%_, _<_, _≤_, min}
+use mathlib.Core.Bool.{Bool, true, false}
+use mathlib.Core.List.{List, [], _∷_}
+use Prim.Native.Nat.{ℕ, _+_, _%_, _<_, min}
 use native.Mathlib.Omega.{arith}
-use borrow.Author.Tests.{ltb-true, ltb-false, lt-ltb, le-leb}
-use lib.Dec.{T, ltb, leb, eqb}
-use lib.IntN.{ℤ, pos, negsuc}
-use lib.ListN.{length, getD, take, replicate, length-take, length-append, length-replicate, List·getD-append, List·getD-eq-default}
+use borrow.Author.Tests.{ltb-true, ltb-false, lt-ltb}
+use lib.Dec.{ltb}
+use lib.ListN.{length, getD, take, length-take, List·getD-eq-default}
 use lib.Seq.{getD-take}
-use Rattle.isa.specs.declared.Operand.{Operand}
-use Rattle.isa.specs.declared.Operand.the-variants.{Direct, Short, ThroughX, ThroughY}
-use Rattle.isa.specs.declared.Instruction.{Instruction}
-use Rattle.isa.specs.declared.Instruction.the-variants as I
-use Rattle.isa.specs.declared.Form.{Form}
-use Rattle.isa.specs.declared.Form.the-variants.{Is, Undefined}
 use Rattle.isa.specs.declared.Encoded.{Encoded}
 use Rattle.isa.specs.declared.Encoded.the-variants.{One, Two, Three, Beyond}
 use Rattle.isa.specs.declared.rom.RomByte.the-variants.{Byte}
-use Rattle.isa.specs.Refusals.{plain}
-use Rattle.isa.specs.Displacement.{modulo, forwardOf}
-use Rattle.isa.specs.Map.{formOf, formAs, entryOf, bytesOf}
-use Rattle.isa.specs.Decode.{isImage, romAt, operandAt, instruction, decodeAt}
-use Rattle.isa.specs.Encode.{encodeOf, bytes, inField, withByte, withBytes, shortJump, extendedJump, withBit, bitJump, bitDirect, onData, onShort, Outcome, wrote, refused, outcome}
-use Rattle.isa.specs.Counts.{isUndefined}
-use Rattle.isa.specs.Cases.{placed}
-use Rattle.isa.specs.RoundTrip.{Bytes, Holds, WrittenDecodes, DecodedWrites, Undecoded, RefusedExactly}
+use Rattle.isa.specs.Displacement.{forwardOf}
+use Rattle.isa.specs.Map.{entryOf, bytesOf}
+use Rattle.isa.specs.Decode.{romAt, operandAt, decodeAt}
+use Rattle.isa.specs.Encode.{encodeOf, bytes}
+use Rattle.isa.specs.RoundTrip.{Holds, WrittenDecodes, DecodedWrites}
 use Rattle.isa.proofs.Column.{pick}
-use Rattle.isa.proofs.Finite.{at, bounded}
+use Rattle.isa.proofs.Finite.{bounded}
 use Rattle.isa.proofs.Reading.{Read, reading, rom-byte, operand-byte}
-use Rattle.isa.proofs.RoundTrip.{decodes-back, writes-back, formBytes}
+use Rattle.isa.proofs.RoundTrip.{decodes-back, writes-back}
 
 some : (e : Encoded) → (e ≡ Beyond → ⊥) → 0 < length (bytes e)
 some (One a) n = omega arith
@@ -40,7 +29,9 @@ some (Three a b c) n = omega arith
 some Beyond n = absurd (n refl)
 
 -- an operand byte of an instruction that stands in the image: 0 past its end
-operand-held : (image : List ℕ) (a : ℕ) (bs : List ℕ) → Holds image a bs → (j : ℕ) (b : Bool) → ltb j (length bs) ≡ b → operandAt image a j (length bs) ≡ Byte (getD bs j 0)
+operand-held :
+    (image : List ℕ) (a : ℕ) (bs : List ℕ) → Holds image a bs → (j : ℕ) (b : Bool) → ltb j (length bs) ≡ b →
+    operandAt image a j (length bs) ≡ Byte (getD bs j 0)
 unfolding operandAt
 operand-held image a bs held j true e = rw e (held j (ltb-true j (length bs) e))
 operand-held image a bs held j false e = rw e (ap Byte (sym (List·getD-eq-default bs 0 (ltb-false j (length bs) e))))
@@ -57,7 +48,9 @@ written-decodes i n image size a h held =
     rw (size, lt-ltb a 4096 h, opcode, count, first, count, second, decodes-back i n .0, count)
 
 -- three bytes that were read stand in the image, as far as the instruction goes
-held-by : (image : List ℕ) (a k f s n : ℕ) → a < 4096 → romAt image a ≡ Byte k → operandAt image a 1 n ≡ Byte f → operandAt image a 2 n ≡ Byte s → (j : ℕ) → j < 3 → j < n → romAt image (forwardOf a j) ≡ Byte (getD (k ∷ f ∷ s ∷ []) j 0)
+held-by :
+    (image : List ℕ) (a k f s n : ℕ) → a < 4096 → romAt image a ≡ Byte k → operandAt image a 1 n ≡ Byte f →
+    operandAt image a 2 n ≡ Byte s → (j : ℕ) → j < 3 → j < n → romAt image (forwardOf a j) ≡ Byte (getD (k ∷ f ∷ s ∷ []) j 0)
 unfolding operandAt
 held-by image a k f s n h e0 e1 e2 =
     pick (λ j. j < n → romAt image (forwardOf a j) ≡ Byte (getD (k ∷ f ∷ s ∷ []) j 0)) 3 (
@@ -68,7 +61,9 @@ held-by image a k f s n h e0 e1 e2 =
       ),
     )
 
-holds-taken : (image : List ℕ) (a k f s n : ℕ) → a < 4096 → romAt image a ≡ Byte k → operandAt image a 1 n ≡ Byte f → operandAt image a 2 n ≡ Byte s → Holds image a (take n (k ∷ f ∷ s ∷ []))
+holds-taken :
+    (image : List ℕ) (a k f s n : ℕ) → a < 4096 → romAt image a ≡ Byte k → operandAt image a 1 n ≡ Byte f →
+    operandAt image a 2 n ≡ Byte s → Holds image a (take n (k ∷ f ∷ s ∷ []))
 holds-taken image a k f s n h e0 e1 e2 j m =
     let both : j < min n 3 = rw (length-take n (k ∷ f ∷ s ∷ [])) at m in
     let within : j < n = omega arith in
@@ -90,31 +85,3 @@ decoded-writes image all a i n c q =
       ap length are ∙ length-take size (r .k ∷ r .f ∷ r .s ∷ []) ∙ omega arith,
       rw are (holds-taken image a (r .k) (r .f) (r .s) size (r .below) (r .opcode) (r .first) (r .second)),
     )
-
--- an opcode of no bytes is undefined, whatever follows
-no-bytes : (k f s : ℕ) → k < 256 → bytesOf (entryOf k) ≡ 0 → T (isUndefined (formOf k f s))
-unfolding bytesOf entryOf formOf formAs
-no-bytes k f s h e = rw e at (at (λ k. cond (eqb (bytesOf (entryOf k)) 0) (isUndefined (formOf k f s)) true) 256 tt k h)
-
--- what was decoded is not refused
-decoded-not-beyond : (i : Instruction) → encodeOf i ≡ Beyond → Undecoded i
-decoded-not-beyond i e image all a n c q =
-    let r : Read image a i n = reading image a i n c q in
-    let hk : r .k < 256 = rom-byte image all a (r .k) (r .opcode) in
-    let none : 0 ≡ n = rw e at (decoded-writes image all a i n c q .0) in
-    rw (r .form) at (no-bytes (r .k) (r .f) (r .s) hk (r .count ∙ sym none))
-
--- the bytes of an instruction are bytes
-nil-bytes : Bytes []
-nil-bytes j = omega arith
-
-cons-bytes : (a : ℕ) (bs : List ℕ) → a < 256 → Bytes bs → Bytes (a ∷ bs)
-cons-bytes a bs h hs zero = h
-cons-bytes a bs h hs (suc j) = hs j
-
-one-byte : (a : ℕ) → a < 256 → Bytes (a ∷ [])
-one-byte a h = cons-bytes a [] h nil-bytes
-
-chosen-bytes : (b : Bool) (e : Encoded) → (b ≡ true → Bytes (bytes e)) → Bytes (bytes (cond b e Beyond))
-chosen-bytes true e h = h refl
-chosen-bytes false e h = nil-bytes

@@ -8,3 +8,4 @@ pub mod RoundTrip
 pub mod Counts
 pub mod Cases
 pub mod InImage
+pub mod RefusedExactly

@@ -15,7 +15,7 @@ use Rattle.isa.specs.declared.rom.RomByte.{RomByte}
 use Rattle.isa.specs.declared.rom.RomByte.the-variants.{Byte, Outside}
 use Rattle.isa.specs.Refusals.{Numbered, plain}
 use Rattle.isa.specs.Displacement.{forwardOf}
-use Rattle.isa.specs.Map.{entryOf, bytesOf, cyclesOf, formOf}
+use Rattle.isa.specs.Map.{entryOf, bytesOf, formOf}
 use Rattle.isa.specs.Decode.{isImage, romAt, operandAt, Answer, instruction, refused, withForm, withSecond, withFirst, withOpcode, decodeAt}
 use Rattle.isa.specs.RoundTrip.{Bytes}
 
@@ -32,12 +32,17 @@ pub record Read (image : List ℕ) (a : ℕ) (i : Instruction) (n : ℕ) : Type 
   pub count : bytesOf (entryOf k) ≡ n
 
 -- a test before a refusal has passed where the answer is an instruction
-passed : (b : Bool) (x : Answer) (r : Numbered) (i : Instruction) (n c : ℕ) → cond b x (refused r) ≡ instruction i n c → (b ≡ true) × (x ≡ instruction i n c)
+passed :
+    (b : Bool) (x : Answer) (r : Numbered) (i : Instruction) (n c : ℕ) → cond b x (refused r) ≡ instruction i n c →
+    (b ≡ true) × (x ≡ instruction i n c)
 passed true x r i n c q = (refl, q)
 passed false x r i n c q = let z : _≡_ {A = ℕ} 0 1 = cc in absurd (omega arith)
 
 module _ (image : List ℕ) (a : ℕ) (below : a < 4096) (i : Instruction) (n c : ℕ) where
-  from-form : (k f s : ℕ) → romAt image a ≡ Byte k → operandAt image a 1 (bytesOf (entryOf k)) ≡ Byte f → operandAt image a 2 (bytesOf (entryOf k)) ≡ Byte s → (x : Form) → formOf k f s ≡ x → withForm a k x ≡ instruction i n c → Read image a i n
+  from-form :
+      (k f s : ℕ) → romAt image a ≡ Byte k → operandAt image a 1 (bytesOf (entryOf k)) ≡ Byte f →
+      operandAt image a 2 (bytesOf (entryOf k)) ≡ Byte s → (x : Form) → formOf k f s ≡ x → withForm a k x ≡ instruction i n c →
+      Read image a i n
   from-form k f s e0 e1 e2 Undefined e q = let z : _≡_ {A = ℕ} 0 1 = cc in absurd (omega arith)
   from-form k f s e0 e1 e2 (Is j) e q =
       record {
@@ -52,11 +57,15 @@ module _ (image : List ℕ) (a : ℕ) (below : a < 4096) (i : Instruction) (n c 
         count = cc;
       }
 
-  from-second : (k f : ℕ) → romAt image a ≡ Byte k → operandAt image a 1 (bytesOf (entryOf k)) ≡ Byte f → (r : RomByte) → operandAt image a 2 (bytesOf (entryOf k)) ≡ r → withSecond a k f r ≡ instruction i n c → Read image a i n
+  from-second :
+      (k f : ℕ) → romAt image a ≡ Byte k → operandAt image a 1 (bytesOf (entryOf k)) ≡ Byte f → (r : RomByte) →
+      operandAt image a 2 (bytesOf (entryOf k)) ≡ r → withSecond a k f r ≡ instruction i n c → Read image a i n
   from-second k f e0 e1 (Byte s) e2 q = from-form k f s e0 e1 e2 (formOf k f s) refl q
   from-second k f e0 e1 Outside e2 q = let z : _≡_ {A = ℕ} 0 1 = cc in absurd (omega arith)
 
-  from-first : (k : ℕ) → romAt image a ≡ Byte k → (r : RomByte) → operandAt image a 1 (bytesOf (entryOf k)) ≡ r → withFirst image a k r ≡ instruction i n c → Read image a i n
+  from-first :
+      (k : ℕ) → romAt image a ≡ Byte k → (r : RomByte) → operandAt image a 1 (bytesOf (entryOf k)) ≡ r →
+      withFirst image a k r ≡ instruction i n c → Read image a i n
   from-first k e0 (Byte f) e1 q = from-second k f e0 e1 (operandAt image a 2 (bytesOf (entryOf k))) refl q
   from-first k e0 Outside e1 q = let z : _≡_ {A = ℕ} 0 1 = cc in absurd (omega arith)
 
@@ -77,7 +86,9 @@ reading image a i n c q =
 same-byte : (x k : ℕ) → x < 256 → Byte x ≡ Byte k → k < 256
 same-byte x k h e = let q : x ≡ k = cc in omega arith
 
-chosen-byte : (b : Bool) (r t : RomByte) → ((k : ℕ) → r ≡ Byte k → k < 256) → ((k : ℕ) → t ≡ Byte k → k < 256) → (k : ℕ) → cond b r t ≡ Byte k → k < 256
+chosen-byte :
+    (b : Bool) (r t : RomByte) → ((k : ℕ) → r ≡ Byte k → k < 256) → ((k : ℕ) → t ≡ Byte k → k < 256) → (k : ℕ) →
+    cond b r t ≡ Byte k → k < 256
 chosen-byte true r t h g k e = h k e
 chosen-byte false r t h g k e = g k e
 

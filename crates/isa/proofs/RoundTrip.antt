@@ -42,11 +42,11 @@ chosen : (b : Bool) (e : Encoded) (i : Instruction) → (b ≡ true → Back e i
 chosen true e i h n = h refl n
 chosen false e i h n = absurd (n refl)
 
-and-left : (a b : Bool) → (a && b) ≡ true → a ≡ true
+pub and-left : (a b : Bool) → (a && b) ≡ true → a ≡ true
 and-left true b e = refl
 and-left false b e = e
 
-and-right : (a b : Bool) → (a && b) ≡ true → b ≡ true
+pub and-right : (a b : Bool) → (a && b) ≡ true → b ≡ true
 and-right true b e = e
 and-right false b e = let z : _≡_ {A = Bool} false true = e in cc
 
@@ -72,7 +72,10 @@ field-back base d b h =
     ap (signed 5) e ∙ short-back d h
 
 -- a short jump, by what the map has in its two columns
-short-jump : (mk : ℤ → Instruction) (base : ℕ) → base < 8 → ((k : ℕ) → (k % 16 ≡ base) ⊎ (k % 16 ≡ base + 8) → Makes k 0 0 (mk (shortDisplacement k)) 1) → (d : ℤ) → Back (shortJump base d) (mk d)
+short-jump :
+    (mk : ℤ → Instruction) (base : ℕ) → base < 8 →
+    ((k : ℕ) → (k % 16 ≡ base) ⊎ (k % 16 ≡ base + 8) → Makes k 0 0 (mk (shortDisplacement k)) 1) → (d : ℤ) →
+    Back (shortJump base d) (mk d)
 short-jump mk base b column d =
     chosen (inField 5 d) (One (modulo 32 d * 8 + base)) (mk d)
     (λ h _. let made : Makes (modulo 32 d * 8 + base) 0 0 (mk (shortDisplacement (modulo 32 d * 8 + base))) 1 =
@@ -80,7 +83,9 @@ short-jump mk base b column d =
     (made .0 ∙ ap (λ z. Is (mk z)) (field-back base d b h), made .1))
 
 -- CALL or JP
-extended-jump : (mk : ℕ → Instruction) (base : ℕ) → base < 16 → ((k f : ℕ) → k % 16 ≡ base → Makes k f 0 (mk (extended k f)) 2) → (t : ℕ) → Back (extendedJump base t) (mk t)
+extended-jump :
+    (mk : ℕ → Instruction) (base : ℕ) → base < 16 → ((k f : ℕ) → k % 16 ≡ base → Makes k f 0 (mk (extended k f)) 2) → (t : ℕ) →
+    Back (extendedJump base t) (mk t)
 extended-jump mk base b column t =
     chosen (ltb t 4096) (Two (t % 16 * 16 + base) (t / 16)) (mk t)
     (λ h _. let below : t < 4096 = ltb-true t 4096 h in
@@ -97,7 +102,10 @@ two-bytes : (k f s : ℕ) (i : Instruction) → Makes k f s i 3 → Back (withBy
 two-bytes k f s i made = chosen (ltb f 256 && ltb s 256) (Three k f s) i (λ _ _. made)
 
 -- JRR or JRS, by what the map has at each of the eight opcodes
-bit-jump : (mk : ℕ → ℕ → ℤ → Instruction) (base : ℕ) → ((bit : ℕ) → bit < 8 → (f s : ℕ) → Makes (withBit base bit) f s (mk bit f (longDisplacement s)) 3) → (bit address : ℕ) (d : ℤ) → Back (bitJump base bit address d) (mk bit address d)
+bit-jump :
+    (mk : ℕ → ℕ → ℤ → Instruction) (base : ℕ) →
+    ((bit : ℕ) → bit < 8 → (f s : ℕ) → Makes (withBit base bit) f s (mk bit f (longDisplacement s)) 3) →
+    (bit address : ℕ) (d : ℤ) → Back (bitJump base bit address d) (mk bit address d)
 bit-jump mk base column bit address d =
     chosen (ltb bit 8 && inField 8 d) (withBytes (withBit base bit) address (modulo 256 d)) (mk bit address d)
     (λ h. let below : bit < 8 = ltb-true bit 8 (and-left (ltb bit 8) (inField 8 d) h) in
@@ -107,20 +115,27 @@ bit-jump mk base column bit address d =
     (made .0 ∙ ap (λ z. Is (mk bit address z)) (long-back d (and-right (ltb bit 8) (inField 8 d) h)), made .1))
 
 -- RES or SET
-bit-direct : (mk : ℕ → ℕ → Instruction) (base : ℕ) → ((bit : ℕ) → bit < 8 → (f : ℕ) → Makes (withBit base bit) f 0 (mk bit f) 2) → (bit address : ℕ) → Back (bitDirect base bit address) (mk bit address)
+bit-direct :
+    (mk : ℕ → ℕ → Instruction) (base : ℕ) → ((bit : ℕ) → bit < 8 → (f : ℕ) → Makes (withBit base bit) f 0 (mk bit f) 2) →
+    (bit address : ℕ) → Back (bitDirect base bit address) (mk bit address)
 bit-direct mk base column bit address =
     chosen (ltb bit 8) (withByte (withBit base bit) address) (mk bit address)
     (λ h. byte (mk bit) (withBit base bit) (column bit (ltb-true bit 8 h)) address)
 
 -- an instruction on a data operand, from each kind of operand
-with-short : (mk : Operand → Instruction) (short x y rr : ℕ) → ((a : ℕ) → Makes rr a 0 (mk (Direct a)) 2) → Each (λ r. Makes (r * 64 + short) 0 0 (mk (Short r)) 1) 4 → Makes x 0 0 (mk ThroughX) 1 → Makes y 0 0 (mk ThroughY) 1 → (o : Operand) → Back (onShort short x y rr o) (mk o)
+with-short :
+    (mk : Operand → Instruction) (short x y rr : ℕ) → ((a : ℕ) → Makes rr a 0 (mk (Direct a)) 2) →
+    Each (λ r. Makes (r * 64 + short) 0 0 (mk (Short r)) 1) 4 → Makes x 0 0 (mk ThroughX) 1 → Makes y 0 0 (mk ThroughY) 1 →
+    (o : Operand) → Back (onShort short x y rr o) (mk o)
 with-short mk short x y rr d s bx by (Direct a) n = byte (λ a. mk (Direct a)) rr d a n
 with-short mk short x y rr d s bx by (Short r) n =
     chosen (ltb r 4) (One (r * 64 + short)) (mk (Short r)) (λ h _. pick (λ r. Makes (r * 64 + short) 0 0 (mk (Short r)) 1) 4 s r (ltb-true r 4 h)) n
 with-short mk short x y rr d s bx by ThroughX n = bx
 with-short mk short x y rr d s bx by ThroughY n = by
 
-without-short : (mk : Operand → Instruction) (x y rr : ℕ) → ((a : ℕ) → Makes rr a 0 (mk (Direct a)) 2) → Makes x 0 0 (mk ThroughX) 1 → Makes y 0 0 (mk ThroughY) 1 → (o : Operand) → Back (onData x y rr o) (mk o)
+without-short :
+    (mk : Operand → Instruction) (x y rr : ℕ) → ((a : ℕ) → Makes rr a 0 (mk (Direct a)) 2) → Makes x 0 0 (mk ThroughX) 1 →
+    Makes y 0 0 (mk ThroughY) 1 → (o : Operand) → Back (onData x y rr o) (mk o)
 without-short mk x y rr d bx by (Direct a) n = byte (λ a. mk (Direct a)) rr d a n
 without-short mk x y rr d bx by (Short r) n = absurd (n refl)
 without-short mk x y rr d bx by ThroughX n = bx
@@ -212,7 +227,9 @@ module _ (f s : ℕ) (hf : f < 256) (hs : s < 256) where
   both-fit : (ltb f 256 && ltb s 256) ≡ true
   both-fit = rw (lt-ltb f 256 hf, lt-ltb s 256 hs)
 
-  bit-again : (k : ℕ) → bytes (cond (inField 8 (longDisplacement s)) (withBytes k f (modulo 256 (longDisplacement s))) Beyond) ≡ k ∷ f ∷ s ∷ []
+  bit-again :
+      (k : ℕ) →
+      bytes (cond (inField 8 (longDisplacement s)) (withBytes k f (modulo 256 (longDisplacement s))) Beyond) ≡ k ∷ f ∷ s ∷ []
   bit-again k = rw (long-fits s hs, long-again s hs, one-fits, lt-ltb s 256 hs)
 
   -- column by column; a row with operand bytes by their tests

@@ -27,12 +27,17 @@ Holds image a bs = (j : ℕ) → j < length bs → romAt image (forwardOf a j) �
 -- its bytes stand, and with the length and the cycles of its opcode
 abbrev pub WrittenDecodes : Type 0
 WrittenDecodes =
-    (i : Instruction) → (encodeOf i ≡ Beyond → ⊥) → (image : List ℕ) → isImage (length image) ≡ true → (a : ℕ) → a < 4096 → Holds image a (bytes (encodeOf i)) → decodeAt image a ≡ instruction i (length (bytes (encodeOf i))) (cyclesOf (entryOf (getD (bytes (encodeOf i)) 0 0)))
+    (i : Instruction) → (encodeOf i ≡ Beyond → ⊥) →
+    (image : List ℕ) → isImage (length image) ≡ true →
+    (a : ℕ) → a < 4096 → Holds image a (bytes (encodeOf i)) →
+    decodeAt image a ≡ instruction i (length (bytes (encodeOf i))) (cyclesOf (entryOf (getD (bytes (encodeOf i)) 0 0)))
 
 -- "It is written from the buffer's first byte": what was decoded is written as the bytes that stand there, as many as decoding answered
 abbrev pub DecodedWrites : Type 0
 DecodedWrites =
-    (image : List ℕ) → Bytes image → (a : ℕ) (i : Instruction) (n cycles : ℕ) → decodeAt image a ≡ instruction i n cycles → (length (bytes (encodeOf i)) ≡ n) × Holds image a (bytes (encodeOf i))
+    (image : List ℕ) → Bytes image →
+    (a : ℕ) (i : Instruction) (n cycles : ℕ) → decodeAt image a ≡ instruction i n cycles →
+    (length (bytes (encodeOf i)) ≡ n) × Holds image a (bytes (encodeOf i))
 
 -- no image has the instruction at any address
 abbrev pub Undecoded : Instruction → Type 0
