@@ -1,6 +1,7 @@
 pub mod Finite
 pub mod Column
 pub mod Prefix
+pub mod GoesOn
 pub mod Reading
 pub mod DecodedLength
 pub mod Targets

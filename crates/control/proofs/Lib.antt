@@ -1,0 +1,2 @@
+pub mod StaysFormed
+pub mod Stopped

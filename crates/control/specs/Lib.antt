@@ -1,0 +1,5 @@
+pub mod Modes
+pub mod Stack
+pub mod Moving
+pub mod Requests
+pub mod Forming

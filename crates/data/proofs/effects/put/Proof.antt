@@ -1,0 +1,16 @@
+-- `effects::put` meets its contract.
+-- Assumes nothing.
+use borrow.Author.Needs.{needs}
+use Rattle.data.specs.Effect.{putOf}
+use Rattle.data.proofs.effects.put.Statement.{statement}
+use Rattle.data.proofs.effects.put.Tie as tie
+
+store-requires : tie.Need-store-requires
+store-requires c κs = search needs
+
+returns : tie.Need-returns
+unfolding putOf
+returns c = rw (c .before .store .ensures)
+
+pub put-spec : {M : Type 1} → statement M
+put-spec = tie.close (tie.spec store-requires returns)

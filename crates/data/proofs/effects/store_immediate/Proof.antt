@@ -1,0 +1,14 @@
+-- `effects::store_immediate` meets its contract.
+-- Assumes nothing.
+use borrow.Author.Needs.{needs}
+use Rattle.data.proofs.effects.store_immediate.Statement.{statement}
+use Rattle.data.proofs.effects.store_immediate.Tie as tie
+
+store-requires : tie.Need-store-requires
+store-requires c κs = search needs
+
+returns : tie.Need-returns
+returns c = rw (c .store .ensures)
+
+pub store-immediate-spec : {M : Type 1} → statement M
+store-immediate-spec = tie.close (tie.spec store-requires returns)

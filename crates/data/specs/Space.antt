@@ -1,0 +1,43 @@
+-- Data space and the ROM window (document 01, "Program space and data space").
+-- Assumes nothing.
+use Prim.Native.Nat.{ℕ, _+_, _-_, _*_, _%_}
+use mathlib.Core.Bool.{Bool, cond}
+use mathlib.Core.List.{List}
+use lib.ListN.{getD, set}
+use lib.Dec.{ltb, leb}
+use Rattle.isa.specs.Decode.{romAt}
+use Rattle.isa.specs.declared.rom.RomByte.{RomByte}
+use Rattle.isa.specs.declared.rom.RomByte.the-variants.{Byte, Outside}
+use Rattle.isa.specs.declared.Operand.{Operand}
+use Rattle.isa.specs.declared.Operand.the-variants.{Direct, Short, ThroughX, ThroughY}
+
+-- "ROM that the image lacks reads 0"
+abbrev pub shownOf : RomByte → ℕ
+shownOf (Byte byte) = byte
+shownOf Outside = 0
+
+-- "address d reads the ROM byte at 64 × w + (d − 40h), w being the low six bits of 0C9h"
+abbrev pub windowAddress : List ℕ → ℕ → ℕ
+windowAddress bytes a = 64 * (getD bytes 0xC9 0 % 64) + (a - 0x40)
+
+-- the one read of a data byte: "00h–3Fh are 64 RAM bytes. 40h–7Fh show ROM [..]. 80h–FFh are plain bytes."
+unfoldable pub readOf : (image bytes : List ℕ) → (a : ℕ) → ℕ
+readOf image bytes a =
+    cond (ltb a 0x40) (getD bytes a 0)
+    (cond (leb 0x80 a) (getD bytes a 0)
+    (shownOf (romAt image (windowAddress bytes a))))
+
+-- the one store of a data byte: in the window "a store there does nothing"
+unfoldable pub storeOf : (bytes : List ℕ) → (a value : ℕ) → List ℕ
+storeOf bytes a value = cond (ltb a 0x40) (set bytes a value) (cond (leb 0x80 a) (set bytes a value) bytes)
+
+-- the data address of an operand: "X, Y, V, W are 80h–83h"
+unfoldable pub addressOf : (bytes : List ℕ) → Operand → ℕ
+addressOf bytes (Direct a) = a
+addressOf bytes (Short n) = 0x80 + n % 4
+addressOf bytes ThroughX = getD bytes 0x80 0
+addressOf bytes ThroughY = getD bytes 0x81 0
+
+-- the byte of an operand
+unfoldable pub operandOf : (image bytes : List ℕ) → Operand → ℕ
+operandOf image bytes o = readOf image bytes (addressOf bytes o)

@@ -1,0 +1,69 @@
+// Data space: the one read and the one store of a data byte, and where an operand stands. The bytes are lent, by data address;
+// those under the ROM window (40h-7Fh) are never read and never change.
+use isa::Operand;
+use isa::rom::RomByte;
+use isa::rom::rom_byte;
+ghost use mathlib.Core.Path.{_≡_};
+ghost use Rattle.isa.specs.Decode.{romAt};
+ghost use Rattle.data.specs.Space.{shownOf, readOf, storeOf, addressOf, operandOf};
+
+// The byte of program space that the ROM window shows at an address, 0 where the image has none.
+fn shown(image: &[u8], address: u16) -> u8
+    ensures { λ r. ⌜ r ≡ shownOf (romAt (now (image .entry)) address) ⌝ }
+{
+    match rom_byte(image, address) {
+        RomByte::Byte(byte) => byte,
+        RomByte::Outside => 0,
+    }
+}
+
+// The one read of a data byte.
+pub fn read(image: &[u8], bytes: &[u8; 256], address: u8) -> u8
+    ensures { λ r. ⌜ r ≡ readOf (now (image .entry)) (now (bytes .entry)) address ⌝ }
+{
+    let at = address as usize;
+    if address < 0x40 {
+        return bytes[at];
+    }
+    if 0x80 <= address {
+        return bytes[at];
+    }
+    let window = bytes[0xC9];
+    shown(
+        image,
+        64 * ((window % 64) as u16) + ((address - 0x40) as u16),
+    )
+}
+
+// The one store of a data byte. In the ROM window it does nothing.
+pub fn store(bytes: &mut [u8; 256], address: u8, value: u8)
+    ensures { λ _. ⌜ now (bytes .exit) ≡ storeOf (now (bytes .entry)) address value ⌝ }
+{
+    let at = address as usize;
+    if address < 0x40 {
+        bytes[at] = value;
+        return;
+    }
+    if 0x80 <= address {
+        bytes[at] = value;
+    }
+}
+
+// The data address of an operand.
+pub fn address(bytes: &[u8; 256], operand: Operand) -> u8
+    ensures { λ r. ⌜ r ≡ addressOf (now (bytes .entry)) operand ⌝ }
+{
+    match operand {
+        Operand::Direct(a) => a,
+        Operand::Short(n) => 0x80 + n % 4,
+        Operand::ThroughX => bytes[0x80],
+        Operand::ThroughY => bytes[0x81],
+    }
+}
+
+// The byte of an operand.
+pub fn operand(image: &[u8], bytes: &[u8; 256], o: Operand) -> u8
+    ensures { λ r. ⌜ r ≡ operandOf (now (image .entry)) (now (bytes .entry)) o ⌝ }
+{
+    read(image, bytes, address(bytes, o))
+}

@@ -1,0 +1,3 @@
+pub mod Stops
+pub mod Formed
+pub mod Steps

@@ -1,0 +1,97 @@
+-- A run step by step.
+-- Assumes nothing.
+use Prim.Native.Nat.{ℕ, zero, suc, _+_, _-_, _<_, _≤_}
+use mathlib.Core.Path.{_≡_, refl, sym, ap, _∙_}
+use mathlib.Core.Bool.{Bool, true, false, _&&_}
+use mathlib.Core.List.{List}
+use native.Mathlib.Omega.{arith}
+use native.Mathlib.Nat.{zero-add, suc-add}
+use native.Mathlib.Numerals.{add-one}
+use borrow.Author.Count.{below-more}
+use lib.ListN.{getD, length, replicate}
+use Rattle.isa.specs.Refusals.{Numbered}
+use Rattle.isa.specs.Sources.{namesOnlySources}
+use Rattle.isa.specs.Decode.{isImage, decodeAt}
+use Rattle.machine.specs.declared.Machine.{Machine}
+use Rattle.machine.specs.State.{isWellFormed, Ended, done, refused}
+use Rattle.machine.specs.Step.{Step, Answer, doneOf, refusedOf, decodedOf, unrequestedOf, advancedOf, stepOf}
+use Rattle.machine.specs.Step as step
+use Rattle.machine.specs.Run.{Run, runAt, asAnswer, joinedBy, continuedOf, stepsOf, requestsFit}
+
+-- a step that is not refused
+pub step-advances : (image : List ℕ) (m : Machine) (request : ℕ) → isImage (length image) ≡ true → isWellFormed m ≡ true → namesOnlySources request ≡ true → stepOf image m request ≡ advancedOf image m request
+unfolding stepOf
+step-advances image m request i w n = rw (i, w, n)
+
+both : (a b : Bool) → (a && b) ≡ true → (a ≡ true) × (b ≡ true)
+both true b e = (refl, e)
+both false b e = let z : _≡_ {A = ℕ} 0 1 = cc in absurd (omega arith)
+
+-- each of the first n request bytes names nothing but sources
+pub fits-at : (requests : List ℕ) (n : ℕ) → requestsFit requests n ≡ true → (k : ℕ) → k < n → namesOnlySources (getD requests k 0) ≡ true
+unfolding requestsFit
+fits-at requests zero e k h = absurd (omega arith)
+fits-at requests (suc n) e k h =
+    let p : (namesOnlySources (getD requests n 0) ≡ true) × (requestsFit requests n ≡ true) = both (namesOnlySources (getD requests n 0)) (requestsFit requests n) e in
+    below-more (λ j. namesOnlySources (getD requests j 0) ≡ true) n (fits-at requests n (p .1)) (p .0) k (omega arith)
+
+-- step i of a run, from what the program knows
+pub stepped : (image requests : List ℕ) (m : Machine) (n i request : ℕ) (s : Step) → isImage (length image) ≡ true → isWellFormed m ≡ true → requestsFit requests n ≡ true → i < n → request ≡ getD requests i 0 → s ≡ advancedOf image m request → s ≡ stepOf image m (getD requests i 0)
+stepped image requests m n i request s v w f h e a =
+    a ∙ ap (advancedOf image m) e ∙ sym (step-advances image m (getD requests i 0) v w (fits-at requests n f i h))
+
+-- asleep with nothing to take, and awake
+pub idle : (image : List ℕ) (m : Machine) → m .control .asleep ≡ true → doneOf m 0 ≡ unrequestedOf image m
+unfolding unrequestedOf
+idle image m e = rw e
+
+pub awake : (image : List ℕ) (m : Machine) → m .control .asleep ≡ false → decodedOf image m (decodeAt image (m .control .pc)) ≡ unrequestedOf image m
+unfolding unrequestedOf
+awake image m e = rw e
+
+-- a run that has ended stays as it is
+ended-stays : (image : List ℕ) (r : Run) (request : ℕ) (n : Numbered) → r .report .ending ≡ refused n → continuedOf image r request ≡ r
+ended-stays image r request n e = rw e
+
+module _ (image requests : List ℕ) (m : Machine) where
+  next-step : (i : ℕ) → stepsOf image requests m (suc i) ≡ continuedOf image (stepsOf image requests m i) (getD requests i 0)
+  unfolding stepsOf
+  next-step i = refl
+
+  after : (i : ℕ) (r : Run) → r ≡ stepsOf image requests m i → continuedOf image r (getD requests i 0) ≡ stepsOf image requests m (suc i)
+  after i r e = rw (next-step i, ← e)
+
+  stays-by : (k d : ℕ) (r : Numbered) → stepsOf image requests m k .report .ending ≡ refused r → stepsOf image requests m (d + k) ≡ stepsOf image requests m k
+  stays-by k zero r e = ap (stepsOf image requests m) (zero-add k)
+  stays-by k (suc d) r e =
+      let before : stepsOf image requests m (d + k) ≡ stepsOf image requests m k = stays-by k d r e in
+      ap (stepsOf image requests m) (suc-add d k) ∙ next-step (d + k)
+      ∙ ended-stays image (stepsOf image requests m (d + k)) (getD requests (d + k) 0) r (ap (λ (x : Run). x .report .ending) before ∙ e) ∙ before
+
+  -- a step that completes, after i that did
+  pub one-more : (i cycles more : ℕ) (n o : Machine) → runAt n i cycles done ≡ stepsOf image requests m i → doneOf o more ≡ stepOf image n (getD requests i 0) → runAt o (i + 1) (cycles + more) done ≡ stepsOf image requests m (i + 1)
+  one-more i cycles more n o e s =
+      let joined : runAt o (i + 1) (cycles + more) done ≡ continuedOf image (runAt n i cycles done) (getD requests i 0) = rw (← s) in
+      joined ∙ after i (runAt n i cycles done) e ∙ ap (stepsOf image requests m) (sym (add-one i))
+
+  -- a step that stops, after i that completed, ends the run
+  pub stops-at : (i n cycles : ℕ) (o p : Machine) (r : Numbered) → i < n → runAt o i cycles done ≡ stepsOf image requests m i → refusedOf p r ≡ stepOf image o (getD requests i 0) → runAt p i cycles (refused r) ≡ stepsOf image requests m n
+  stops-at i n cycles o p r h e s =
+      let joined : runAt p i cycles (refused r) ≡ continuedOf image (runAt o i cycles done) (getD requests i 0) = rw (← s) in
+      let here : runAt p i cycles (refused r) ≡ stepsOf image requests m (suc i) = joined ∙ after i (runAt o i cycles done) e in
+      let whole : (n - suc i) + suc i ≡ n = omega arith in
+      here ∙ sym (stays-by (suc i) (n - suc i) r (sym (ap (λ (x : Run). x .report .ending) here))) ∙ ap (stepsOf image requests m) whole
+
+-- a list of one request byte
+pub fit-one : (q : ℕ) → namesOnlySources q ≡ true → requestsFit (replicate 1 q) 1 ≡ true
+unfolding requestsFit
+fit-one q e = rw e
+
+-- a run of one step is that step
+pub one-step : (image : List ℕ) (m : Machine) (q : ℕ) (r : Run) → r ≡ stepsOf image (replicate 1 q) m 1 → _≡_ {A = Step} (record { machine = r .machine; answer = asAnswer (r .report) }) (stepOf image m q)
+unfolding stepsOf
+one-step image m q r e = rw e (by-answer (stepOf image m q .machine) (stepOf image m q .answer))
+  where
+    by-answer : (n : Machine) (a : Answer) → _≡_ {A = Step} (record { machine = joinedBy (runAt m 0 0 done) n a .machine; answer = asAnswer (joinedBy (runAt m 0 0 done) n a .report) }) (record { machine = n; answer = a })
+    by-answer n (step.done cycles) = rw (zero-add cycles)
+    by-answer n (step.refused reason) = refl

@@ -1,0 +1,5 @@
+pub mod Pairs
+pub mod Execute
+pub mod State
+pub mod Step
+pub mod Run

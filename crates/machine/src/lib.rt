@@ -1,0 +1,84 @@
+// The ST62 machine: control beside the stack, flags and data bytes; step, run, reset and host store.
+mod executing;
+mod pairs;
+pub mod running;
+pub mod state;
+mod stepping;
+
+use alu::Flags;
+use control::Control;
+use control::Stop;
+use isa::Refusal;
+
+// Normal and interrupt mode have a flag pair each; the other three modes share the NMI pair.
+pub struct FlagPairs {
+    pub normal: Flags,
+    pub interrupt: Flags,
+    pub nmi: Flags,
+}
+
+// The machine. Of the 256 bytes the 64 under the ROM window (40h-7Fh) are never read and never change.
+pub struct Machine {
+    pub control: Control,
+    pub stack: [u16; 6],
+    pub flags: FlagPairs,
+    pub bytes: [u8; 256],
+}
+
+// What an instruction makes of control and of the flag pair in use.
+pub struct Executed {
+    pub control: Control,
+    pub flags: Flags,
+    pub stop: Stop,
+}
+
+// A step's answer: its cycles, or why it was refused or stopped.
+pub enum StepAnswer {
+    Done(u8),
+    Refused(Refusal),
+}
+
+// What a step makes of all but the data bytes and the stack, which it is lent.
+pub struct Advanced {
+    pub control: Control,
+    pub flags: FlagPairs,
+    pub answer: StepAnswer,
+}
+
+// A machine after a step, and the step's answer.
+pub struct Stepped {
+    pub machine: Machine,
+    pub answer: StepAnswer,
+}
+
+// How a run or a host store ended.
+pub enum Ending {
+    Done,
+    Refused(Refusal),
+}
+
+// A run's answer: the steps completed, their cycles, and how it ended.
+pub struct Report {
+    pub steps: u32,
+    pub cycles: u32,
+    pub ending: Ending,
+}
+
+// What a run makes of all but the data bytes and the stack, which it is lent.
+pub struct Progress {
+    pub control: Control,
+    pub flags: FlagPairs,
+    pub report: Report,
+}
+
+// A machine after a run, and the run's answer.
+pub struct Ran {
+    pub machine: Machine,
+    pub report: Report,
+}
+
+// A machine after a host store, and whether it was done.
+pub struct Stored {
+    pub machine: Machine,
+    pub ending: Ending,
+}
