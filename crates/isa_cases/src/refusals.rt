@@ -68,6 +68,7 @@ fn put_decoded(what: &[u8], image: &[u8], address: u16) {
     put(b"\n");
 }
 
+// Images of other lengths, and addresses above FFFh or below a 2K image.
 fn put_lengths() {
     let short = [0u8; 2047];
     put_decoded(b"2047 bytes: ", &short, 0x800);
@@ -111,6 +112,7 @@ fn put_count(count: u8) {
     put_number(count as u32);
 }
 
+// Operands at the ends of their fields and beyond, and a short operand where the map has none.
 fn put_fields() {
     let mut buffer = [0u8; 3];
     put_written(b"JRNZ by 15: ", Instruction::Jrnz(15), &mut buffer);
@@ -134,6 +136,7 @@ fn put_fields() {
     );
 }
 
+// Buffers as long as the instruction, and shorter; 8 comes before 9.
 fn put_buffers() {
     let mut one = [0u8; 1];
     put_written(b"RET, 1 byte: ", Instruction::Ret, &mut one);
@@ -152,6 +155,7 @@ fn put_buffers() {
     );
 }
 
+// Refusals of decoding, then of writing, each beside an answer that is none.
 pub fn put_refusals() {
     put_lengths();
     put_ends();
