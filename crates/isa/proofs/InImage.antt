@@ -69,7 +69,7 @@ holds-taken image a k f s n h e0 e1 e2 j m =
     let within : j < n = omega arith in
     rw (getD-take n (k ∷ f ∷ s ∷ []) j 0 within) (held-by image a k f s n h e0 e1 e2 j (omega arith) within)
 
-bytes-few : (k : ℕ) → k < 256 → bytesOf (entryOf k) < 4
+pub bytes-few : (k : ℕ) → k < 256 → bytesOf (entryOf k) < 4
 unfolding bytesOf entryOf
 bytes-few k h = bounded (λ k. bytesOf (entryOf k)) 4 tt k h
 

@@ -10,3 +10,5 @@ pub mod Counts
 pub mod Cases
 pub mod InImage
 pub mod RefusedExactly
+pub mod DecodeRefusals
+pub mod WriteEffects

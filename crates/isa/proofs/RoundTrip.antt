@@ -236,7 +236,10 @@ module _ (f s : ℕ) (hf : f < 256) (hs : s < 256) where
   again-3 : (k : ℕ) → k < 256 → k % 16 ≡ 3 → Again k f s
   unfolding encodeOf formOf formAs entryOf bytesOf
   again-3 = rows (λ k. Again k f s) 3
-      (bit-again 0x03) (bit-again 0x13) (bit-again 0x23) (bit-again 0x33) (bit-again 0x43) (bit-again 0x53) (bit-again 0x63) (bit-again 0x73) (bit-again 0x83) (bit-again 0x93) (bit-again 0xA3) (bit-again 0xB3) (bit-again 0xC3) (bit-again 0xD3) (bit-again 0xE3) (bit-again 0xF3)
+      (bit-again 0x03) (bit-again 0x13) (bit-again 0x23) (bit-again 0x33)
+      (bit-again 0x43) (bit-again 0x53) (bit-again 0x63) (bit-again 0x73)
+      (bit-again 0x83) (bit-again 0x93) (bit-again 0xA3) (bit-again 0xB3)
+      (bit-again 0xC3) (bit-again 0xD3) (bit-again 0xE3) (bit-again 0xF3)
 
   again-5 : (k : ℕ) → k < 256 → k % 16 ≡ 5 → Again k f s
   unfolding encodeOf formOf formAs entryOf bytesOf
@@ -246,22 +249,34 @@ module _ (f s : ℕ) (hf : f < 256) (hs : s < 256) where
   again-7 : (k : ℕ) → k < 256 → k % 16 ≡ 7 → Again k f s
   unfolding encodeOf formOf formAs entryOf bytesOf
   again-7 = rows (λ k. Again k f s) 7
-      refl (rw one-fits) refl (rw one-fits) refl (rw one-fits) refl refl refl refl refl (rw one-fits) refl (rw one-fits) refl refl
+      refl (rw one-fits) refl (rw one-fits)
+      refl (rw one-fits) refl refl
+      refl refl refl (rw one-fits)
+      refl (rw one-fits) refl refl
 
   again-11 : (k : ℕ) → k < 256 → k % 16 ≡ 11 → Again k f s
   unfolding encodeOf formOf formAs entryOf bytesOf
   again-11 = rows (λ k. Again k f s) 11
-      (rw one-fits) (rw one-fits) (rw one-fits) (rw one-fits) (rw one-fits) (rw one-fits) (rw one-fits) (rw one-fits) (rw one-fits) (rw one-fits) (rw one-fits) (rw one-fits) (rw one-fits) (rw one-fits) (rw one-fits) (rw one-fits)
+      (rw one-fits) (rw one-fits) (rw one-fits) (rw one-fits)
+      (rw one-fits) (rw one-fits) (rw one-fits) (rw one-fits)
+      (rw one-fits) (rw one-fits) (rw one-fits) (rw one-fits)
+      (rw one-fits) (rw one-fits) (rw one-fits) (rw one-fits)
 
   again-13 : (k : ℕ) → k < 256 → k % 16 ≡ 13 → Again k f s
   unfolding encodeOf formOf formAs entryOf bytesOf
   again-13 = rows (λ k. Again k f s) 13
-      (rw both-fit) refl refl refl refl refl refl refl refl refl refl refl refl refl refl refl
+      (rw both-fit) refl refl refl
+      refl refl refl refl
+      refl refl refl refl
+      refl refl refl refl
 
   again-15 : (k : ℕ) → k < 256 → k % 16 ≡ 15 → Again k f s
   unfolding encodeOf formOf formAs entryOf bytesOf
   again-15 = rows (λ k. Again k f s) 15
-      refl (rw one-fits) refl (rw one-fits) refl (rw one-fits) refl (rw one-fits) refl (rw one-fits) refl (rw one-fits) refl (rw one-fits) refl (rw one-fits)
+      refl (rw one-fits) refl (rw one-fits)
+      refl (rw one-fits) refl (rw one-fits)
+      refl (rw one-fits) refl (rw one-fits)
+      refl (rw one-fits) refl (rw one-fits)
 
 -- an opcode with the two bytes that follow is written as it stands
 pub writes-back : (k f s : ℕ) → k < 256 → f < 256 → s < 256 → Again k f s

@@ -10,3 +10,5 @@ pub mod RoundTrip
 pub mod Targets
 pub mod Counts
 pub mod Cases
+pub mod DecodeRefusals
+pub mod WriteEffects

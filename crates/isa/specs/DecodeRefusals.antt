@@ -1,0 +1,41 @@
+-- When decoding refuses, and with which number (document 01, "What each operation turns down").
+-- Assumes nothing.
+use Prim.Native.Nat.{ℕ, _<_, _≤_}
+use mathlib.Core.Path.{_≡_}
+use mathlib.Core.Bool.{true, false}
+use mathlib.Core.List.{List}
+use lib.ListN.{length}
+use Rattle.isa.specs.Refusals.{Numbered, plain, located}
+use Rattle.isa.specs.Displacement.{forwardOf}
+use Rattle.isa.specs.Map.{entryOf, bytesOf}
+use Rattle.isa.specs.Decode.{isImage, romAt, refused, decodeAt}
+use Rattle.isa.specs.Counts.{undefinedOpcodes, member}
+use Rattle.isa.specs.declared.rom.RomByte.the-variants.{Byte, Outside}
+
+-- the opcode k stands at a program address of an image
+pub record Opcode (image : List ℕ) (a k : ℕ) : Type 0 where
+  pub size : isImage (length image) ≡ true
+  pub below : a < 4096
+  pub here : romAt image a ≡ Byte k
+  pub byte : k < 256
+
+-- a byte of the instruction with the opcode k lies outside ROM
+pub record Cut (image : List ℕ) (a k : ℕ) : Type 0 where
+  pub offset : ℕ
+  pub inside : offset < bytesOf (entryOf k)
+  pub outside : romAt image (forwardOf a offset) ≡ Outside
+
+-- "Decode at an address: 1 image length; 3 address above FFFh; 4 opcode byte outside ROM; 5 undefined opcode; 4 operand byte outside
+-- ROM." "The first that applies is given, and never where it doesn't apply." 4 and 5 "also give the instruction's address"
+pub record DecodeRefusals : Type 0 where
+  pub image-length : (image : List ℕ) (a : ℕ) → isImage (length image) ≡ false → decodeAt image a ≡ refused (plain 1)
+  pub address-range : (image : List ℕ) (a : ℕ) → isImage (length image) ≡ true → 4096 ≤ a → decodeAt image a ≡ refused (plain 3)
+  pub opcode-outside :
+      (image : List ℕ) (a : ℕ) → isImage (length image) ≡ true → a < 4096 → romAt image a ≡ Outside →
+      decodeAt image a ≡ refused (located 4 a)
+  pub undefined-opcode :
+      (image : List ℕ) (a k : ℕ) → Opcode image a k → member k undefinedOpcodes ≡ true → decodeAt image a ≡ refused (located 5 a)
+  pub operand-outside : (image : List ℕ) (a k : ℕ) → Opcode image a k → Cut image a k → decodeAt image a ≡ refused (located 4 a)
+  pub none-else :
+      (image : List ℕ) (a k : ℕ) → Opcode image a k → member k undefinedOpcodes ≡ false → (Cut image a k → ⊥) →
+      (r : Numbered) → decodeAt image a ≡ refused r → ⊥
