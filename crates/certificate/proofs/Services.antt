@@ -1,0 +1,38 @@
+-- The levels of the sources 1 to 4: the greatest of what each takes.
+-- Assumes nothing.
+use Prim.Native.Nat.{ℕ, _+_, max}
+use native.Mathlib.Nat.{max-zero, zero-max, suc-max-suc}
+use native.Mathlib.Numerals.{one-add}
+use mathlib.Core.Path.{_≡_, sym}
+use mathlib.Core.Bool.{Bool, true, false, cond}
+use mathlib.Core.List.{List, [], _∷_}
+use Rattle.isa.specs.Sources.{names, vectorOf}
+use Rattle.isa.specs.declared.Source.{Source}
+use Rattle.isa.specs.declared.Source.the-variants.{First, Second, Third, Fourth}
+use Rattle.certificate.specs.Marks.{needAt}
+use Rattle.certificate.specs.Levels.{wiredNeeds, greatest, ifAny, sourceLevels, levelsFor}
+
+-- one need more, where its source is wired
+one-more : (wired : Bool) (n : ℕ) (ns : List ℕ) → ifAny (cond wired (n ∷ ns) ns) ≡ max (cond wired (1 + n) 0) (ifAny ns)
+one-more true n [] = rw (max-zero, max-zero)
+one-more true n (m ∷ ns) = simp (one-add, suc-max-suc)
+one-more false n ns = sym (zero-max (ifAny ns))
+
+one-source : (certificate : List ℕ) (wired : ℕ) (s : Source) (sources : List Source)
+    → ifAny (wiredNeeds certificate wired (s ∷ sources)) ≡ max (levelsFor certificate wired s) (ifAny (wiredNeeds certificate wired sources))
+unfolding levelsFor
+one-source certificate wired s sources = one-more (names wired s) (needAt certificate (vectorOf s)) (wiredNeeds certificate wired sources)
+
+pub source-levels : (certificate : List ℕ) (wired : ℕ)
+    → sourceLevels certificate wired
+    ≡ max (levelsFor certificate wired First)
+    (max (levelsFor certificate wired Second) (max (levelsFor certificate wired Third) (levelsFor certificate wired Fourth)))
+unfolding sourceLevels
+source-levels certificate wired =
+    rw (
+      one-source certificate wired First (Second ∷ Third ∷ Fourth ∷ []),
+      one-source certificate wired Second (Third ∷ Fourth ∷ []),
+      one-source certificate wired Third (Fourth ∷ []),
+      one-source certificate wired Fourth [],
+      max-zero,
+    )
