@@ -6,11 +6,12 @@ use mathlib.Core.List.{List}
 use Rattle.certificate.specs.Check.{checkOf, accepted}
 use Rattle.certificate.specs.Rules.{Rules}
 
--- the check accepts with a number of levels exactly when the rules hold with it
+-- "Accepted means that nothing under Check below applies; the number is Levels.": accepted with a number exactly when the rules hold with it,
+-- at most six
 pub record Exactly (image certificate : List ℕ) (wired levels : ℕ) : Type 0 where
   pub sound : checkOf image certificate wired ≡ accepted levels → Rules image certificate wired levels
   pub complete : Rules image certificate wired levels → checkOf image certificate wired ≡ accepted levels
 
--- for every image, certificate, wired byte and number: "a check that always refuses, or always accepts .. falls by demand 2's rules"
+-- for every image, certificate, wired byte and number, so that "a check that always refuses, or always accepts the empty table, falls"
 abbrev pub Agreement : Type 0
 Agreement = (image certificate : List ℕ) (wired levels : ℕ) → Exactly image certificate wired levels

@@ -42,12 +42,12 @@ abbrev pub found : Finding → Found
 found Passes = passes
 found (Fault refusal) = fault (numbered refusal)
 
--- where the test fails, the refusal; where it passes, what the rest finds
+-- "The first that applies is given": the refusal where a test fails, and where it passes what the rest finds
 abbrev pub unless : Bool → Numbered → Found → Found
 unless true refusal more = more
 unless false refusal more = fault refusal
 
--- "The first that applies is given": of two parts
+-- .. and the first of two parts
 abbrev pub andThen : Found → Found → Found
 andThen passes more = more
 andThen (fault refusal) more = fault refusal
@@ -93,21 +93,24 @@ vectorsFound certificate wired =
     (andThen (sourceFound certificate wired Third) (sourceFound certificate wired Fourth)))))
 
 -- "19 more than six levels"
-abbrev pub verdict : Found → (levels : ℕ) → Verdict
-verdict passes levels = cond (leb levels 6) (accepted levels) (refused (plain 19))
-verdict (fault refusal) levels = refused refusal
+abbrev pub levelsFound : List ℕ → (wired : ℕ) → Found
+levelsFound certificate wired = unless (leb (levelsOf certificate wired) 6) (plain 19) passes
 
--- "Then marked addresses upward .. Then 18 .. 19": the first mark is that of the image's lowest address
-abbrev pub byRules : (image certificate : List ℕ) → (wired : ℕ) → Verdict
-byRules image certificate wired =
-    verdict (andThen (marksFound image certificate (4096 - length certificate) certificate) (vectorsFound certificate wired))
-    (levelsOf certificate wired)
+-- "Then marked addresses upward .. Then 18 ..; 19 ..". The first mark is that of the image's lowest address
+abbrev pub rulesFound : (image certificate : List ℕ) → (wired : ℕ) → Found
+rulesFound image certificate wired =
+    andThen (andThen (marksFound image certificate (4096 - length certificate) certificate) (vectorsFound certificate wired))
+    (levelsFound certificate wired)
+
+-- "Accepted means that nothing under Check below applies; the number is Levels."
+abbrev pub verdict : (levels : ℕ) → Found → Verdict
+verdict levels passes = accepted levels
+verdict levels (fault refusal) = refused refusal
 
 -- "Check: 1, 13 (certificate not the image's length), 11 (wired byte). Then .."
 unfoldable pub checkOf : (image certificate : List ℕ) → (wired : ℕ) → Verdict
 checkOf image certificate wired =
-    cond (isImage (length image))
-    (cond (eqb (length certificate) (length image))
-    (cond (namesOnlySources wired) (byRules image certificate wired) (refused (plain 11)))
-    (refused (plain 13)))
-    (refused (plain 1))
+    verdict (levelsOf certificate wired)
+    (unless (isImage (length image)) (plain 1)
+    (unless (eqb (length certificate) (length image)) (plain 13)
+    (unless (namesOnlySources wired) (plain 11) (rulesFound image certificate wired))))

@@ -8,12 +8,13 @@ use Rattle.isa.specs.declared.Source.{Source}
 use Rattle.isa.specs.declared.Source.the-variants.{Nmi, First, Second, Third, Fourth}
 use Rattle.certificate.specs.Marks.{needAt}
 
--- the needs at the vectors of those sources that are wired
+-- "among the wired sources": the needs at the vectors of those sources that are wired
 abbrev pub wiredNeeds : List ℕ → (wired : ℕ) → List Source → List ℕ
 wiredNeeds certificate wired [] = []
 wiredNeeds certificate wired (s ∷ sources) =
     cond (names wired s) (needAt certificate (vectorOf s) ∷ wiredNeeds certificate wired sources) (wiredNeeds certificate wired sources)
 
+-- "greatest need"
 abbrev pub greatest : List ℕ → ℕ
 greatest [] = 0
 greatest (n ∷ ns) = max n (greatest ns)

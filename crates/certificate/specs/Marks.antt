@@ -9,11 +9,12 @@ use Rattle.isa.specs.Decode.{romAt}
 use Rattle.isa.specs.declared.rom.RomByte.{RomByte}
 use Rattle.isa.specs.declared.rom.RomByte.the-variants.{Byte, Outside}
 
+-- the mark that stands in a byte; outside ROM there is none
 abbrev pub markIn : RomByte → ℕ
 markIn (Byte mark) = mark
 markIn Outside = 0x00
 
--- "One mark for each ROM byte, lowest address first.": an address has its mark where the image has its byte, and 00h outside ROM
+-- "One mark for each ROM byte, lowest address first.": an address has its mark where the image has its byte
 unfoldable pub markAt : (certificate : List ℕ) → (address : ℕ) → ℕ
 markAt certificate a = markIn (romAt certificate a)
 
@@ -27,16 +28,19 @@ pub record WellFormed (mark : ℕ) : Type 0 where
   pub kind-most : mark / 16 ≤ 4
   pub need-most : mark % 16 ≤ 6
 
--- the kind, and 0 for a mark that is none or malformed. So "outside ROM, unmarked or of wrong kind, malformed marks counting so" is to have another kind
+-- "High digit, the kind", and 0 for a mark that is none or malformed: "outside ROM, unmarked or of wrong kind, malformed marks counting
+-- so" is then one test, that the kind is another
 abbrev pub kindOf : (mark : ℕ) → ℕ
 kindOf mark = cond (leb (mark / 16) 4 && leb (mark % 16) 6) (mark / 16) 0
 
+-- "Low digit, the need"
 abbrev pub needOf : (mark : ℕ) → ℕ
 needOf mark = mark % 16
 
--- kind and need of an address
+-- the kind of an address
 unfoldable pub kindAt : (certificate : List ℕ) → (address : ℕ) → ℕ
 kindAt certificate a = kindOf (markAt certificate a)
 
+-- the need of an address
 unfoldable pub needAt : (certificate : List ℕ) → (address : ℕ) → ℕ
 needAt certificate a = needOf (markAt certificate a)

@@ -27,10 +27,11 @@ pub record Question : Type 1 where
   pub refusal : Numbered
   pub Applies : Type 0
 
+-- the question of a refusal
 abbrev pub asks : Numbered → Type 0 → Question
 asks r A = record { refusal = r; Applies = A }
 
--- none of the questions applies
+-- "nothing .. applies"
 abbrev pub None : List Question → Type 0
 None [] = Unit
 None (q ∷ qs) = (q .Applies → ⊥) × None qs
@@ -40,7 +41,7 @@ abbrev pub FirstApplies : List Question → Numbered → Type 0
 FirstApplies [] r = ⊥
 FirstApplies (q ∷ qs) r = (q .Applies × (r ≡ q .refusal)) ⊎ ((q .Applies → ⊥) × FirstApplies qs r)
 
--- some of the successors
+-- "successor or CALL target": some of them
 abbrev pub Some : (Successor → Type 0) → List Successor → Type 0
 Some P [] = ⊥
 Some P (s ∷ successors) = P s ⊎ Some P successors
@@ -55,7 +56,7 @@ Misplaced kind flow.Return = kind ≢ 4
 Misplaced kind flow.ReturnFromInterrupt = (kind ≢ 1) × (kind ≢ 3)
 Misplaced kind flow.Sleep = ⊥
 
--- an instruction is decoded at a, and P holds of its flow and its next address
+-- "a defined instruction wholly in ROM" stands at a, by what decoding answers, and P holds of its flow and its next address
 abbrev pub Decodes : Answer → (a : ℕ) → (Flow → ℕ → Type 0) → Type 0
 Decodes (decode.instruction i bytes cycles) a P = P (flowOf i a) (forwardOf a bytes)
 Decodes (decode.refused r) a P = ⊥
@@ -73,10 +74,11 @@ module _ (certificate : List ℕ) where
   abbrev pub malformed : (a : ℕ) → Question
   malformed a = asks (located 14 a) (Marked certificate a × (WellFormed (markAt certificate a) → ⊥))
 
-  -- "4, 5, 4", by what decoding answers: it gives one 4 for the opcode and for an operand byte
+  -- "4, 5, 4", the order of which is decoding's own: it answers with one of them
   abbrev pub outsideRom : Answer → (a : ℕ) → Question
   outsideRom d a = asks (located 4 a) (Marked certificate a × (d ≡ decode.refused (located 4 a)))
 
+  -- "5 undefined opcode"
   abbrev pub undefinedOpcode : Answer → (a : ℕ) → Question
   undefinedOpcode d a = asks (located 5 a) (Marked certificate a × (d ≡ decode.refused (located 5 a)))
 
@@ -94,10 +96,11 @@ module _ (certificate : List ℕ) where
   needTooSmall d a =
       asks (located 17 a) (Marked certificate a × Decodes d a (λ f next. Some (TooSmall (needAt certificate a)) (successorsOf (kindAt certificate a) f next)))
 
-  -- "at each: 14 malformed mark; 4, 5, 4; 15 ..; 16 ..; 17 .."
+  -- "4, 5, 4; 15 ..; 16 ..; 17 .."
   abbrev pub atInstruction : Answer → (a : ℕ) → List Question
   atInstruction d a = outsideRom d a ∷ undefinedOpcode d a ∷ misplacedReturn d a ∷ successorKind d a ∷ needTooSmall d a ∷ []
 
+  -- "at each: 14 malformed mark; .."
   abbrev pub atMark : Answer → (a : ℕ) → List Question
   atMark d a = malformed a ∷ atInstruction d a
 
@@ -145,7 +148,7 @@ abbrev pub Described : List Question → (levels : ℕ) → Verdict → Type 0
 Described qs levels (accepted number) = None qs × (number ≡ levels)
 Described qs levels (refused r) = FirstApplies qs r
 
--- what the check answers, whatever it is given
+-- whatever the check is given
 abbrev pub AnswersFirst : Type 0
 AnswersFirst =
     (image certificate : List ℕ) (wired : ℕ)

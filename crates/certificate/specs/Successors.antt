@@ -21,7 +21,7 @@ placed kind flow.Return = eqb kind 4
 placed kind flow.ReturnFromInterrupt = eqb kind 1 || eqb kind 3
 placed kind flow.Sleep = true
 
--- a successor that must have a kind
+-- "has the same kind", or in start-up code's RETI "of kind 2": a successor that must have a kind, and takes no level
 abbrev pub within : (address kind : ℕ) → Successor
 within a k = record { address = a; kind = k; levels = 0 }
 
@@ -46,21 +46,23 @@ listed Nowhere = []
 listed (One s) = s ∷ []
 listed (Two s t) = s ∷ t ∷ []
 
--- each passes a test
+-- "each successor": all of them pass a test
 abbrev pub every : (Successor → Bool) → List Successor → Bool
 every test [] = true
 every test (s ∷ successors) = test s && every test successors
 
--- none of "16 successor or CALL target outside ROM, unmarked or of wrong kind"
+-- one has the kind that it must have
 abbrev pub hasKind : List ℕ → Successor → Bool
 hasKind certificate s = eqb (kindAt certificate (s .address)) (s .kind)
 
+-- none of them is "16 successor or CALL target outside ROM, unmarked or of wrong kind"
 unfoldable pub allHaveKind : List ℕ → List Successor → Bool
 allHaveKind certificate successors = every (hasKind certificate) successors
 
--- "The need is at least each successor's, and for CALL at least the target's plus 1."
+-- a need is at least one's, with the levels that going there takes
 abbrev pub covers : List ℕ → (need : ℕ) → Successor → Bool
 covers certificate need s = leb (needAt certificate (s .address) + s .levels) need
 
+-- "The need is at least each successor's, and for CALL at least the target's plus 1."
 unfoldable pub coversAll : List ℕ → (need : ℕ) → List Successor → Bool
 coversAll certificate need successors = every (covers certificate need) successors

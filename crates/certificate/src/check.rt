@@ -23,7 +23,8 @@ ghost use mathlib.Core.Path.{_≡_};
 ghost use Prim.Native.Nat.{_-_, _≤_};
 ghost use lib.ListN.{length};
 ghost use Rattle.isa.specs.Map.{Timings};
-ghost use Rattle.certificate.specs.Check.{found, answered, flowFound, markFound, marksFound, byRules, checkOf};
+ghost use Rattle.certificate.specs.Check.{found, answered, flowFound, markFound, marksFound, rulesFound, verdict, checkOf};
+ghost use Rattle.certificate.specs.Levels.{levelsOf};
 
 // 15, 16 and 17 at a marked address, with where its instruction continues.
 fn check_flow(certificate: &[u8], address: u16, mark: u8, flow: Flow, next: u16) -> Finding
@@ -99,7 +100,7 @@ fn check_marks(table: &[u8; 256], image: &[u8], certificate: &[u8]) -> Finding
 // The rules of a certificate of the right length: the marks upward, then the vectors, then 19.
 fn check_rules(image: &[u8], certificate: &[u8], wired: u8) -> Checked
     requires { ⌜ length (now certificate) ≤ 4096 ⌝ }
-    ensures { λ r. ⌜ answered r ≡ byRules (now (image .entry)) (now (certificate .entry)) wired ⌝ }
+    ensures { λ r. ⌜ answered r ≡ verdict (levelsOf (now (certificate .entry)) wired) (rulesFound (now (image .entry)) (now (certificate .entry)) wired) ⌝ }
 {
     // A constant table is built where it is named: made once here, and lent to every mark.
     let table = timings();
