@@ -1,6 +1,6 @@
 -- Document 01's bench cases of the check, computed.
 -- Assumes nothing.
-use mathlib.Core.Path.{_≡_, refl}
+use mathlib.Core.Path.{refl}
 use Rattle.isa.specs.Map
 use Rattle.isa.specs.Decode
 use Rattle.isa.specs.Flow

@@ -1,16 +1,16 @@
 -- Where the rules hold, the check accepts.
 -- Assumes nothing.
-use Prim.Native.Nat.{ℕ, zero, suc, _+_, _-_, _/_, _%_, _≤_, _<_}
+use Prim.Native.Nat.{ℕ, zero, suc, _+_, _-_, _≤_, _<_}
 use native.Mathlib.Nat.{add-zero}
 use native.Mathlib.Omega.{arith}
-use mathlib.Core.Path.{_≡_, refl, ap, sym, _∙_}
-use mathlib.Core.Logic.{_⊎_, inl, inr, _≢_}
-use mathlib.Core.Bool.{Bool, true, false, cond, _&&_, _||_, or-true}
+use mathlib.Core.Path.{_≡_, refl, ap, sym}
+use mathlib.Core.Logic.{_⊎_, inl, inr}
+use mathlib.Core.Bool.{Bool, true, false, cond, or-true}
 use mathlib.Core.List.{List, [], _∷_}
-use lib.Dec.{leb, ltb, eqb}
+use lib.Dec.{leb, eqb}
 use lib.ListN.{length, getD}
 use borrow.Author.Tests.{le-leb, lt-ltb, eq-eqb, ne-eqb}
-use Rattle.isa.specs.Decode.{isImage, romAt, decodeAt}
+use Rattle.isa.specs.Decode.{isImage}
 use Rattle.isa.specs.Sources.{names, vectorOf}
 use Rattle.isa.specs.Displacement.{forwardOf}
 use Rattle.isa.specs.Flow.{flowOf}
@@ -21,8 +21,8 @@ use Rattle.isa.specs.declared.Flow.the-variants as flow
 use Rattle.certificate.specs.Marks.{markAt, Marked, WellFormed, kindOf, kindAt, needAt}
 use Rattle.certificate.specs.Successors.{placed, successorsOf, allHaveKind, coversAll}
 use Rattle.certificate.specs.Levels.{levelsOf}
-use Rattle.certificate.specs.Check.{accepted, Found, passes, flowFound, decodedFound, markFound, marksFound, vectorFound, sourceFound, vectorsFound, checkOf}
-use Rattle.certificate.specs.Rules.{Continues, Calls, EndsStartUp, FlowRule, Lawful, Rules}
+use Rattle.certificate.specs.Check.{accepted, passes, flowFound, decodedFound, markFound, marksFound, vectorFound, sourceFound, vectorsFound, checkOf}
+use Rattle.certificate.specs.Rules.{Continues, FlowRule, Rules}
 use Rattle.certificate.proofs.Facts.{marked, kind-of, mark-is, at-most-4096}
 
 has-kind : {mark : ℕ} → WellFormed mark → 0 < kindOf mark

@@ -2,10 +2,10 @@
 -- Assumes nothing.
 use Prim.Native.Nat.{ℕ}
 use mathlib.Core.Path.{_≡_, refl}
-use mathlib.Core.Logic.{_⊎_, inl, inr}
+use mathlib.Core.Logic.{inl, inr}
 use mathlib.Core.Bool.{Bool, true, false}
 use mathlib.Core.List.{List, [], _∷_, _++_}
-use Rattle.certificate.specs.Check.{Verdict, accepted, refused, Found, passes, fault, unless, andThen, verdict}
+use Rattle.certificate.specs.Check.{Found, passes, fault, unless, andThen, verdict}
 use Rattle.certificate.specs.Refusals.{Question, None, FirstApplies, Described}
 
 -- a finding answers questions: it passes where none applies, and is a fault with the first that does

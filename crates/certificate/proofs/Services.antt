@@ -14,7 +14,7 @@ use Rattle.certificate.specs.Levels.{wiredNeeds, greatest, ifAny, source
 
 -- one need more, where its source is wired
 one-more : (wired : Bool) (n : ℕ) (ns : List ℕ) → ifAny (cond wired (n ∷ ns) ns) ≡ max (cond wired (1 + n) 0) (ifAny ns)
-one-more true n [] = rw (max-zero, max-zero)
+one-more true n [] = rw (max-zero n, max-zero (1 + n))
 one-more true n (m ∷ ns) = simp (one-add, suc-max-suc)
 one-more false n ns = sym (zero-max (ifAny ns))
 

@@ -1,11 +1,11 @@
 -- Where the check accepts, the rules hold.
 -- Assumes nothing.
-use Prim.Native.Nat.{ℕ, zero, suc, _+_, _-_, _/_, _%_, _≤_, _<_}
+use Prim.Native.Nat.{ℕ, zero, suc, _+_, _-_, _≤_, _<_}
 use native.Mathlib.Nat.{add-zero}
 use native.Mathlib.Omega.{arith}
-use mathlib.Core.Path.{_≡_, refl, ap, sym, _∙_}
+use mathlib.Core.Path.{_≡_, refl, sym, _∙_}
 use mathlib.Core.Logic.{_⊎_, inl, inr, _≢_}
-use mathlib.Core.Bool.{Bool, true, false, cond, _&&_, _||_, false≢true}
+use mathlib.Core.Bool.{Bool, true, false, cond, _&&_, _||_}
 use mathlib.Core.List.{List, [], _∷_}
 use lib.Dec.{leb, ltb, eqb}
 use lib.ListN.{length, getD}
@@ -24,9 +24,9 @@ use Rattle.isa.specs.declared.rom.RomByte.the-variants.{Byte, Outside}
 use Rattle.certificate.specs.Marks.{markIn, markAt, Marked, WellFormed, kindOf, kindAt, needAt}
 use Rattle.certificate.specs.Successors.{placed, successorsOf, allHaveKind, coversAll}
 use Rattle.certificate.specs.Levels.{levelsOf}
-use Rattle.certificate.specs.Check.{Verdict, accepted, refused, Found, passes, fault, unless, andThen, flowFound, decodedFound, markFound, marksFound, vectorFound, sourceFound, vectorsFound, rulesFound, verdict, checkOf}
+use Rattle.certificate.specs.Check.{accepted, refused, Found, passes, fault, unless, andThen, flowFound, decodedFound, markFound, marksFound, vectorFound, sourceFound, vectorsFound, rulesFound, verdict, checkOf}
 use Rattle.certificate.proofs.Facts.{marked, well-formed, both-true, image-length, at-most-4096}
-use Rattle.certificate.specs.Rules.{Continues, Calls, EndsStartUp, FlowRule, Lawful, Rules}
+use Rattle.certificate.specs.Rules.{Continues, EndsStartUp, FlowRule, Lawful, Rules}
 
 -- tests that pass
 unless-passes : (t : Bool) (r : Numbered) (more : Found) → unless t r more ≡ passes → (t ≡ true) × (more ≡ passes)

@@ -1,7 +1,7 @@
 -- Where an instruction may stand and where it leads (document 01, "The certificate"), as the check goes by it.
 -- Assumes nothing.
 use Prim.Native.Nat.{ℕ, _+_}
-use mathlib.Core.Bool.{Bool, true, false, cond, _&&_, _||_}
+use mathlib.Core.Bool.{Bool, true, cond, _&&_, _||_}
 use mathlib.Core.List.{List, [], _∷_}
 use lib.Dec.{leb, eqb}
 use Rattle.isa.specs.declared.Flow.{Flow}
@@ -22,23 +22,23 @@ placed kind flow.ReturnFromInterrupt = eqb kind 1 || eqb kind 3
 placed kind flow.Sleep = true
 
 -- "has the same kind", or in start-up code's RETI "of kind 2": a successor that must have a kind, and takes no level
-abbrev pub within : (address kind : ℕ) → Successor
-within a k = record { address = a; kind = k; levels = 0 }
+abbrev pub continuesAt : (address kind : ℕ) → Successor
+continuesAt a k = record { address = a; kind = k; levels = 0 }
 
 -- "the target has kind 4", and takes a level: "for CALL at least the target's plus 1"
-abbrev pub called : (address : ℕ) → Successor
-called a = record { address = a; kind = 4; levels = 1 }
+abbrev pub callTarget : (address : ℕ) → Successor
+callTarget a = record { address = a; kind = 4; levels = 1 }
 
 -- "each address where the instruction may continue, both ways of a condition, has the same kind. For CALL that is the address plus 2,
 -- and the target has kind 4.", "these have no successor, but RETI in kind 1 has the next address, of kind 2"
 unfoldable pub successorsOf : (kind : ℕ) → Flow → (next : ℕ) → List Successor
-successorsOf kind flow.Next next = within next kind ∷ []
-successorsOf kind (flow.Jump target) next = within target kind ∷ []
-successorsOf kind (flow.Branch condition target) next = within target kind ∷ within next kind ∷ []
-successorsOf kind (flow.Call target) next = called target ∷ within next kind ∷ []
+successorsOf kind flow.Next next = continuesAt next kind ∷ []
+successorsOf kind (flow.Jump target) next = continuesAt target kind ∷ []
+successorsOf kind (flow.Branch condition target) next = continuesAt target kind ∷ continuesAt next kind ∷ []
+successorsOf kind (flow.Call target) next = callTarget target ∷ continuesAt next kind ∷ []
 successorsOf kind flow.Return next = []
-successorsOf kind flow.ReturnFromInterrupt next = cond (eqb kind 1) (within next 2 ∷ []) []
-successorsOf kind flow.Sleep next = within next kind ∷ []
+successorsOf kind flow.ReturnFromInterrupt next = cond (eqb kind 1) (continuesAt next 2 ∷ []) []
+successorsOf kind flow.Sleep next = continuesAt next kind ∷ []
 
 -- the program's successors as a list
 abbrev pub listed : Onward → List Successor

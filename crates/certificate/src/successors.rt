@@ -9,7 +9,7 @@ use crate::marks::kind_at;
 use crate::marks::need_at;
 use isa::Flow;
 ghost use mathlib.Core.Path.{_≡_};
-ghost use Rattle.certificate.specs.Successors.{placed, within, called, successorsOf, listed, hasKind, allHaveKind, covers, coversAll};
+ghost use Rattle.certificate.specs.Successors.{placed, continuesAt, successorsOf, listed, hasKind, allHaveKind, covers, coversAll};
 
 // Whether an instruction may stand in code of a kind: RET only in subroutines, RETI only in start-up and services.
 pub fn is_placed(kind: u8, flow: Flow) -> bool
@@ -29,8 +29,8 @@ pub fn is_placed(kind: u8, flow: Flow) -> bool
 }
 
 // A successor in code of a kind, which takes no level.
-fn within(address: u16, kind: u8) -> Successor
-    ensures { λ r. ⌜ r ≡ within address kind ⌝ }
+fn continues_at(address: u16, kind: u8) -> Successor
+    ensures { λ r. ⌜ r ≡ continuesAt address kind ⌝ }
 {
     Successor {
         address,
@@ -39,38 +39,35 @@ fn within(address: u16, kind: u8) -> Successor
     }
 }
 
-// The target of a CALL, which takes the level of the pushed address.
-fn called(address: u16) -> Successor
-    ensures { λ r. ⌜ r ≡ called address ⌝ }
-{
-    Successor {
-        address,
-        kind: SUBROUTINE,
-        levels: 1,
-    }
-}
-
 // Where an instruction in code of a kind leads. Only RETI leaves its kind: start-up code ends, and main code begins.
 pub fn successors_of(kind: u8, flow: Flow, next: u16) -> Onward
     ensures { λ r. ⌜ listed r ≡ successorsOf kind flow next ⌝ }
 {
     match flow {
-        Flow::Next => Onward::One(within(next, kind)),
-        Flow::Jump(target) => Onward::One(within(target, kind)),
+        Flow::Next => Onward::One(continues_at(next, kind)),
+        Flow::Jump(target) => Onward::One(continues_at(target, kind)),
         Flow::Branch {
             condition: _,
             target,
-        } => Onward::Two(within(target, kind), within(next, kind)),
-        Flow::Call(target) => Onward::Two(called(target), within(next, kind)),
+        } => Onward::Two(continues_at(target, kind), continues_at(next, kind)),
+        // The pushed return address takes a level.
+        Flow::Call(target) => Onward::Two(
+            Successor {
+                address: target,
+                kind: SUBROUTINE,
+                levels: 1,
+            },
+            continues_at(next, kind),
+        ),
         Flow::Return => Onward::Nowhere,
         Flow::ReturnFromInterrupt => {
             if kind == START_UP {
-                Onward::One(within(next, MAIN))
+                Onward::One(continues_at(next, MAIN))
             } else {
                 Onward::Nowhere
             }
         }
-        Flow::Sleep => Onward::One(within(next, kind)),
+        Flow::Sleep => Onward::One(continues_at(next, kind)),
     }
 }
 

@@ -1,5 +1,6 @@
--- the tags of the flows that stand anywhere
-use Prim.Native.Nat.{ℕ, _-_}
+-- `successors::is_placed` meets its contract: RET, RETI, and the flows that stand anywhere.
+-- Assumes nothing.
+use Prim.Native.Nat.{ℕ}
 use mathlib.Core.List.{List, [], _∷_}
 use mathlib.Core.Bool.{true}
 use mathlib.Core.Path.{_≡_, refl}
@@ -14,6 +15,7 @@ use Rattle.certificate.specs.Successors.{placed}
 use Rattle.certificate.proofs.successors.is_placed.Statement.{statement}
 use Rattle.certificate.proofs.successors.is_placed.Tie as tie
 
+-- the tags of the flows that stand anywhere
 abbrev others : List ℕ
 others = 0 ∷ 1 ∷ 2 ∷ 3 ∷ 6 ∷ []
 
