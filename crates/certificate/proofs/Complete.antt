@@ -18,7 +18,7 @@ use Rattle.isa.specs.declared.Source.{Source}
 use Rattle.isa.specs.declared.Source.the-variants.{Nmi, First, Second, Third, Fourth}
 use Rattle.isa.specs.declared.Flow.{Flow}
 use Rattle.isa.specs.declared.Flow.the-variants as flow
-use Rattle.certificate.specs.Marks.{markAt, Marked, WellFormed, kindOf, kindAt, needAt}
+use Rattle.certificate.specs.Marks.{markAt, Marked, WellFormed, kindOf, kindAt, needAt, lowest}
 use Rattle.certificate.specs.Successors.{placed, successorsOf, allHaveKind, coversAll}
 use Rattle.certificate.specs.Levels.{levelsOf}
 use Rattle.certificate.specs.Check.{accepted, passes, flowFound, decodedFound, markFound, marksFound, vectorFound, sourceFound, vectorsFound, checkOf}
@@ -30,7 +30,8 @@ has-kind {mark} w = rw (kind-of mark w) (w .kind-least)
 
 -- all marks of a part pass, so the part does
 all-pass : (image certificate : List ℕ) (a : ℕ) (marks : List ℕ)
-    → ((i : ℕ) → i < length marks → markFound image certificate (a + i) (getD marks i 0) ≡ passes) → marksFound image certificate a marks ≡ passes
+    → ((i : ℕ) → i < length marks → markFound image certificate (a + i) (getD marks i 0) ≡ passes)
+    → marksFound image certificate a marks ≡ passes
 unfolding marksFound
 all-pass image certificate a [] each = refl
 all-pass image certificate a (m ∷ marks) each =
@@ -112,12 +113,13 @@ module _ (image certificate : List ℕ) (wired levels : ℕ) (rules : Rules imag
         source-passes Fourth,
       )
 
-  marks-pass : marksFound image certificate (4096 - length certificate) certificate ≡ passes
+  marks-pass : marksFound image certificate (lowest certificate) certificate ≡ passes
   marks-pass =
       let length-most = at-most-4096 (rules .image-length) in
       let same = rules .certificate-length in
       let fits : length certificate ≤ 4096 = omega arith in
-      all-pass image certificate (4096 - length certificate) certificate (λ i h. mark-passes (4096 - length certificate + i) (getD certificate i 0) (mark-is certificate i fits h))
+      all-pass image certificate (lowest certificate) certificate
+      (λ i h. mark-passes (lowest certificate + i) (getD certificate i 0) (mark-is certificate i fits h))
 
   -- Where the rules hold, the check accepts.
   pub check-complete : checkOf image certificate wired ≡ accepted levels

@@ -29,8 +29,8 @@ pub skip : (q : Question) {qs : List Question} {f : Found} → (q .Applies → �
 skip q {qs} {f} not-so d = record { decided = skip-it q qs f not-so (d .decided) }
 
 -- a test that answers a question, before others, which may take for granted that it passed
-pub ask : (q : Question) {qs : List Question} (t : Bool) (f : Found) → (t ≡ true → q .Applies → ⊥) → (t ≡ false → q .Applies) → (t ≡ true → Decides qs f)
-    → Decides (q ∷ qs) (unless t (q .refusal) f)
+pub ask : (q : Question) {qs : List Question} (t : Bool) (f : Found) → (t ≡ true → q .Applies → ⊥) → (t ≡ false → q .Applies)
+    → (t ≡ true → Decides qs f) → Decides (q ∷ qs) (unless t (q .refusal) f)
 ask q true f not-so is-so more = skip q (not-so refl) (more refl)
 ask q false f not-so is-so more = record { decided = inl (is-so refl, refl) }
 

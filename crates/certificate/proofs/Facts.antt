@@ -1,35 +1,32 @@
--- Facts that several proofs cite: marks, bounds of needs, an image's length.
+-- Facts that several proofs cite: marks, tests, an image's length.
 -- Assumes nothing.
-use Prim.Native.Nat.{ℕ, zero, suc, _+_, _-_, _≤_, _<_, _/_, _%_, max}
-use native.Mathlib.Nat.{max-le}
+use Prim.Native.Nat.{ℕ, zero, suc, _+_, _-_, _≤_, _<_, _/_, _%_}
 use native.Mathlib.Omega.{arith}
 use mathlib.Core.Bool.{Bool, true, false, cond, _&&_, _||_, false≢true}
-use mathlib.Core.Logic.{_⊎_, inl, inr}
+use mathlib.Core.Logic.{_⊎_, inl, inr, _≢_}
 use borrow.Author.Tests.{leb-true, le-leb, lt-ltb, eqb-true}
 use mathlib.Core.Path.{_≡_, refl}
 use mathlib.Core.List.{List}
 use lib.Dec.{ltb, leb, eqb}
 use lib.ListN.{length, getD}
 use Rattle.isa.specs.Decode.{isImage, romAt, decodeAt}
-use Rattle.isa.specs.Refusals.{located}
-use Rattle.certificate.specs.Marks.{markAt, WellFormed, kindOf, needAt}
-use Rattle.certificate.specs.Check.{unless, decodedFound, markFound}
+use Rattle.isa.specs.Refusals.{Numbered, located}
+use Rattle.certificate.specs.Marks.{markAt, WellFormed, kindOf, lowest}
+use Rattle.certificate.specs.Check.{passes, fault, unless, decodedFound, markFound}
 
-pub marked : (image certificate : List ℕ) (a mark : ℕ) → (mark ≡ 0 → ⊥)
+-- a marked address: 14, then what decoding answers
+pub marked : (image certificate : List ℕ) (a mark : ℕ) → mark ≢ 0
     → markFound image certificate a mark ≡ unless (ltb 0 (kindOf mark)) (located 14 a) (decodedFound certificate a mark (decodeAt image a))
 unfolding markFound
 marked image certificate a zero n = absurd (n refl)
 marked image certificate a (suc m) n = refl
 
-pub positive : {k : ℕ} → (k ≡ 0 → ⊥) → 0 < k
+-- a finding does not both pass and fail
+pub not-both : {r : Numbered} → fault r ≡ passes → ⊥
+not-both e = let z : _≡_ {A = ℕ} 0 1 = cc in omega arith
+
+pub positive : {k : ℕ} → k ≢ 0 → 0 < k
 positive n = omega arith
-
-pub needed : (certificate : List ℕ) (a : ℕ) {r : ℕ} → r ≡ needAt certificate a → r < 16
-unfolding needAt
-needed certificate a e = omega arith
-
-pub max-most : {a b r k : ℕ} → r ≡ max a b → a ≤ k → b ≤ k → r ≤ k
-max-most e h l = rw e (max-le h l)
 
 -- a mark has a kind exactly when it is well formed, and that is its high digit
 pub well-formed : (mark : ℕ) → 1 ≤ kindOf mark → WellFormed mark
@@ -44,12 +41,13 @@ pub kind-of : (mark : ℕ) → WellFormed mark → kindOf mark ≡ mark / 16
 kind-of mark w = rw (le-leb _ _ (w .kind-most), le-leb _ _ (w .need-most))
 
 -- the mark of the i-th ROM byte
-pub mark-is : (certificate : List ℕ) (i : ℕ) → length certificate ≤ 4096 → i < length certificate → markAt certificate (4096 - length certificate + i) ≡ getD certificate i 0
+pub mark-is : (certificate : List ℕ) (i : ℕ) → length certificate ≤ 4096 → i < length certificate
+    → markAt certificate (lowest certificate + i) ≡ getD certificate i 0
 unfolding markAt romAt
 mark-is certificate i fits h =
-    let below : 4096 - length certificate + i < 4096 = omega arith in
-    let above : 4096 ≤ 4096 - length certificate + i + length certificate = omega arith in
-    let back : 4096 - length certificate + i + length certificate - 4096 ≡ i = omega arith in
+    let below : lowest certificate + i < 4096 = omega arith in
+    let above : 4096 ≤ lowest certificate + i + length certificate = omega arith in
+    let back : lowest certificate + i + length certificate - 4096 ≡ i = omega arith in
     rw (lt-ltb _ _ below, le-leb _ _ above, back)
 
 -- both tests pass

@@ -21,13 +21,13 @@ use Rattle.isa.specs.declared.Flow.the-variants as flow
 use Rattle.isa.specs.declared.Source.{Source}
 use Rattle.isa.specs.declared.Source.the-variants.{Nmi, First, Second, Third, Fourth}
 use Rattle.certificate.specs.declared.Successor.{Successor}
-use Rattle.certificate.specs.Marks.{markAt, Marked, kindOf, kindAt, needAt}
+use Rattle.certificate.specs.Marks.{markAt, Marked, kindOf, kindAt, needAt, lowest}
 use Rattle.certificate.specs.Successors.{placed, successorsOf, every, hasKind, allHaveKind, covers, coversAll}
 use Rattle.certificate.specs.Levels.{levelsOf}
 use Rattle.certificate.specs.Check.{passes, unless, flowFound, decodedFound, markFound, marksFound, vectorFound, sourceFound, vectorsFound, levelsFound, checkOf}
 use Rattle.certificate.specs.Refusals.{Some, Misplaced, WrongKind, TooSmall, malformed, outsideRom, undefinedOpcode, misplacedReturn, successorKind, needTooSmall, atInstruction, atMark, atMarks, startUp, atSource, atVectors, imageLength, certificateLength, unknownSource, tooManyLevels, AnswersFirst}
 use Rattle.certificate.proofs.Facts.{well-formed, kind-of, mark-is, both-true, image-length, at-most-4096}
-use Rattle.certificate.proofs.Decoding.{AtAddress, at-address}
+use Rattle.certificate.proofs.Decoding.{AtAddress, at-address, defined}
 use Rattle.certificate.proofs.Deciding.{Decides, nothing, skip, ask, decides-then, describes}
 
 -- 15
@@ -87,13 +87,19 @@ module _ (certificate : List ℕ) where
   kinds-wrong = every-wrong (hasKind certificate) (WrongKind certificate) (λ s e. eqb-false _ (s .kind) e)
 
   -- 17
-  needs-right : (need : ℕ) (successors : List Successor) → coversAll certificate need successors ≡ true → Some (TooSmall certificate need) successors → ⊥
+  needs-right : (need : ℕ) (successors : List Successor) → coversAll certificate need successors ≡ true
+      → Some (TooSmall certificate need) successors → ⊥
   unfolding coversAll
-  needs-right need = every-right (covers certificate need) (TooSmall certificate need) (λ s e w. let h = leb-true (needAt certificate (s .address) + s .levels) need e in omega arith)
+  needs-right need =
+      every-right (covers certificate need) (TooSmall certificate need)
+      (λ s e w. let h = leb-true (needAt certificate (s .address) + s .levels) need e in omega arith)
 
-  needs-wrong : (need : ℕ) (successors : List Successor) → coversAll certificate need successors ≡ false → Some (TooSmall certificate need) successors
+  needs-wrong : (need : ℕ) (successors : List Successor) → coversAll certificate need successors ≡ false
+      → Some (TooSmall certificate need) successors
   unfolding coversAll
-  needs-wrong need = every-wrong (covers certificate need) (TooSmall certificate need) (λ s e. leb-false (needAt certificate (s .address) + s .levels) need e)
+  needs-wrong need =
+      every-wrong (covers certificate need) (TooSmall certificate need)
+      (λ s e. leb-false (needAt certificate (s .address) + s .levels) need e)
 
   -- 4, 5, 15, 16, 17 at a marked address, by what decoding answers
   decoded-decides : (a : ℕ) (d : Answer) → AtAddress a d → Marked certificate a
@@ -107,11 +113,15 @@ module _ (certificate : List ℕ) where
       let kind = kindAt certificate a in
       let need = needAt certificate a in
       let successors = successorsOf (kindAt certificate a) (flowOf i a) (forwardOf a bytes) in
-      skip (outsideRom certificate d a) (λ p. let q = p .1 in let z : _≡_ {A = ℕ} 0 1 = cc in omega arith)
-      (skip (undefinedOpcode certificate d a) (λ p. let q = p .1 in let z : _≡_ {A = ℕ} 0 1 = cc in omega arith)
-      (ask (misplacedReturn certificate d a) (placed kind (flowOf i a)) _ (λ t p. placed-right kind (flowOf i a) t (p .1)) (λ t. (n, placed-wrong kind (flowOf i a) t))
-      (λ _. ask (successorKind certificate d a) (allHaveKind certificate successors) _ (λ t p. kinds-right successors t (p .1)) (λ t. (n, kinds-wrong successors t))
-      (λ _. ask (needTooSmall certificate d a) (coversAll certificate need successors) passes (λ t p. needs-right need successors t (p .1)) (λ t. (n, needs-wrong need successors t)) (λ _. nothing)))))
+      skip (outsideRom certificate d a) (λ p. defined (p .1))
+      (skip (undefinedOpcode certificate d a) (λ p. defined (p .1))
+      (ask (misplacedReturn certificate d a) (placed kind (flowOf i a)) _
+      (λ t p. placed-right kind (flowOf i a) t (p .1)) (λ t. (n, placed-wrong kind (flowOf i a) t))
+      (λ _. ask (successorKind certificate d a) (allHaveKind certificate successors) _
+      (λ t p. kinds-right successors t (p .1)) (λ t. (n, kinds-wrong successors t))
+      (λ _. ask (needTooSmall certificate d a) (coversAll certificate need successors) passes
+      (λ t p. needs-right need successors t (p .1)) (λ t. (n, needs-wrong need successors t))
+      (λ _. nothing)))))
 
   -- the questions of an unmarked address: none applies
   unmarked-decides : (a : ℕ) (d : Answer) → markAt certificate a ≡ 0 → Decides (atMark certificate d a) passes
@@ -139,7 +149,9 @@ module _ (certificate : List ℕ) where
   marks-decide image a (m ∷ marks) same at-address =
       decides-then (markFound image certificate a m) (marksFound image certificate (suc a) marks)
       (mark-decides image a m (rw add-zero at (same 0 (omega arith))) (rw add-zero at (at-address 0 (omega arith))))
-      (marks-decide image (suc a) marks (λ i h. rw (← shift i) (same (suc i) (omega arith))) (λ i h. rw (← shift i) (at-address (suc i) (omega arith))))
+      (marks-decide image (suc a) marks
+      (λ i h. rw (← shift i) (same (suc i) (omega arith)))
+      (λ i h. rw (← shift i) (at-address (suc i) (omega arith))))
     where
       shift : (i : ℕ) → a + suc i ≡ suc a + i
       shift i = omega arith
@@ -157,7 +169,8 @@ module _ (certificate : List ℕ) where
       go : (w : Bool) → names wired s ≡ w
           → Decides (atSource certificate wired s ∷ []) (cond w (unless (eqb (kindAt certificate (vectorOf s)) 3) (located 18 (vectorOf s)) passes) passes)
       go true w =
-          ask (atSource certificate wired s) (eqb (kindAt certificate (vectorOf s)) 3) passes (λ t p. p .1 (eqb-true _ 3 t)) (λ t. (w, eqb-false _ 3 t)) (λ _. nothing)
+          ask (atSource certificate wired s) (eqb (kindAt certificate (vectorOf s)) 3) passes
+          (λ t p. p .1 (eqb-true _ 3 t)) (λ t. (w, eqb-false _ 3 t)) (λ _. nothing)
       go false w = skip (atSource certificate wired s) (λ p. false≢true (sym w ∙ p .0)) nothing
 
   vectors-decide : (wired : ℕ) → Decides (atVectors certificate wired) (vectorsFound certificate wired)
@@ -177,12 +190,12 @@ module _ (certificate : List ℕ) where
 
   -- the marks of a certificate of the image's length
   all-marks-decide : (image : List ℕ) → isImage (length image) ≡ true → length certificate ≡ length image
-      → Decides (atMarks certificate image (length certificate) (4096 - length certificate)) (marksFound image certificate (4096 - length certificate) certificate)
+      → Decides (atMarks certificate image (length certificate) (lowest certificate)) (marksFound image certificate (lowest certificate) certificate)
   all-marks-decide image e same =
       let fits = at-most-4096 (image-length (length image) e) in
-      marks-decide image (4096 - length certificate) certificate
+      marks-decide image (lowest certificate) certificate
       (λ i h. mark-is certificate i (omega arith) h)
-      (λ i h. at-address image (4096 - length certificate + i) e (omega arith))
+      (λ i h. at-address image (lowest certificate + i) e (omega arith))
 
 neither : (n : ℕ) (s t : Bool) → eqb n 2048 ≡ s → eqb n 4096 ≡ t → (s || t) ≡ false → (n ≢ 2048) × (n ≢ 4096)
 neither n true t p q e = absurd (true≢false e)
@@ -197,7 +210,8 @@ answers-first image certificate wired =
     (ask (imageLength image) (isImage (length image)) _
     (λ t p. ⊎-elim (p .0) (p .1) (image-length (length image) t))
     (λ t. neither (length image) (eqb (length image) 2048) (eqb (length image) 4096) refl refl t)
-    (λ is-image. ask (certificateLength certificate image) (eqb (length certificate) (length image)) _ (λ t p. p (eqb-true _ _ t)) (λ t. eqb-false _ _ t)
+    (λ is-image. ask (certificateLength certificate image) (eqb (length certificate) (length image)) _
+    (λ t p. p (eqb-true _ _ t)) (λ t. eqb-false _ _ t)
     (λ same. ask (unknownSource wired) (namesOnlySources wired) _ (λ t p. true≢false (sym t ∙ p)) (λ t. t)
     (λ _. decides-then _ _
     (decides-then _ _ (all-marks-decide certificate image is-image (eqb-true (length certificate) (length image) same)) (vectors-decide certificate wired))

@@ -21,21 +21,22 @@ use Rattle.isa.specs.declared.Flow.the-variants as flow
 use Rattle.isa.specs.declared.Source.{Source}
 use Rattle.isa.specs.declared.Source.the-variants.{Nmi, First, Second, Third, Fourth}
 use Rattle.isa.specs.declared.rom.RomByte.the-variants.{Byte, Outside}
-use Rattle.certificate.specs.Marks.{markIn, markAt, Marked, WellFormed, kindOf, kindAt, needAt}
+use Rattle.certificate.specs.Marks.{markIn, markAt, Marked, WellFormed, kindOf, kindAt, needAt, lowest}
 use Rattle.certificate.specs.Successors.{placed, successorsOf, allHaveKind, coversAll}
 use Rattle.certificate.specs.Levels.{levelsOf}
 use Rattle.certificate.specs.Check.{accepted, refused, Found, passes, fault, unless, andThen, flowFound, decodedFound, markFound, marksFound, vectorFound, sourceFound, vectorsFound, rulesFound, verdict, checkOf}
-use Rattle.certificate.proofs.Facts.{marked, well-formed, both-true, image-length, at-most-4096}
+use Rattle.certificate.proofs.Facts.{marked, not-both, well-formed, both-true, image-length, at-most-4096}
 use Rattle.certificate.specs.Rules.{Continues, EndsStartUp, FlowRule, Lawful, Rules}
 
--- tests that pass
+-- a test that passes
 unless-passes : (t : Bool) (r : Numbered) (more : Found) → unless t r more ≡ passes → (t ≡ true) × (more ≡ passes)
 unless-passes true r more e = (refl, e)
-unless-passes false r more e = absurd (let z : _≡_ {A = ℕ} 0 1 = cc in omega arith)
+unless-passes false r more e = absurd (not-both e)
 
+-- two parts that pass
 both-pass : (f g : Found) → andThen f g ≡ passes → (f ≡ passes) × (g ≡ passes)
 both-pass passes g e = (refl, e)
-both-pass (fault r) g e = absurd (let z : _≡_ {A = ℕ} 0 1 = cc in omega arith)
+both-pass (fault r) g e = absurd (not-both e)
 
 -- each mark of a part that passes
 each-passes : (image certificate : List ℕ) (a : ℕ) (marks : List ℕ) → marksFound image certificate a marks ≡ passes
@@ -65,14 +66,14 @@ marked-in-rom certificate a n = go (ltb a 4096) (leb 4096 (a + length certificat
     go true false p q n = absurd (n refl)
     go false t p q n = absurd (n refl)
 
-mark-passes : (image certificate : List ℕ) → length certificate ≤ 4096 → marksFound image certificate (4096 - length certificate) certificate ≡ passes
+mark-passes : (image certificate : List ℕ) → length certificate ≤ 4096 → marksFound image certificate (lowest certificate) certificate ≡ passes
     → (a : ℕ) → Marked certificate a → markFound image certificate a (markAt certificate a) ≡ passes
 mark-passes image certificate l e a n =
     let r = marked-in-rom certificate a n in
     let most = r .most in
     let least = r .least in
-    let back : 4096 - length certificate + (a + length certificate - 4096) ≡ a = omega arith in
-    let p = each-passes image certificate (4096 - length certificate) certificate e (a + length certificate - 4096) (omega arith) in
+    let back : lowest certificate + (a + length certificate - 4096) ≡ a = omega arith in
+    let p = each-passes image certificate (lowest certificate) certificate e (a + length certificate - 4096) (omega arith) in
     rw (r .mark) (rw back at p)
 
 -- successors that pass
@@ -103,6 +104,7 @@ reti-rule certificate a n true s p k l =
       next-need = omega arith;
     })
 
+-- tests that pass make the rule: 15, 16, 17
 rule-of : (certificate : List ℕ) (a : ℕ) (f : Flow) (n : ℕ) → placed (kindAt certificate a) f ≡ true
     → allHaveKind certificate (successorsOf (kindAt certificate a) f n) ≡ true
     → coversAll certificate (needAt certificate a) (successorsOf (kindAt certificate a) f n) ≡ true → FlowRule certificate a f n
@@ -134,16 +136,19 @@ flow-rule certificate a f n e =
     rule-of certificate a f n (p .0) (k .0) (l .0)
 
 -- a marked address that passes
-pub lawful : (image certificate : List ℕ) (a : ℕ) → Marked certificate a → markFound image certificate a (markAt certificate a) ≡ passes → Lawful image certificate a
+pub lawful : (image certificate : List ℕ) (a : ℕ) → Marked certificate a → markFound image certificate a (markAt certificate a) ≡ passes
+    → Lawful image certificate a
 unfolding decodedFound
 lawful image certificate a n e =
-    let s = unless-passes (ltb 0 (kindOf (markAt certificate a))) (located 14 a) (decodedFound certificate a (markAt certificate a) (decodeAt image a)) (sym (marked image certificate a (markAt certificate a) n) ∙ e) in
+    let s = unless-passes (ltb 0 (kindOf (markAt certificate a))) (located 14 a) _ (sym (marked image certificate a (markAt certificate a) n) ∙ e) in
     go (well-formed (markAt certificate a) (ltb-true 0 (kindOf (markAt certificate a)) (s .0))) (decodeAt image a) refl (s .1)
   where
-    go : WellFormed (markAt certificate a) → (d : Answer) → decodeAt image a ≡ d → decodedFound certificate a (markAt certificate a) d ≡ passes → Lawful image certificate a
+    go : WellFormed (markAt certificate a) → (d : Answer) → decodeAt image a ≡ d → decodedFound certificate a (markAt certificate a) d ≡ passes
+        → Lawful image certificate a
     go w (decode.instruction i bytes cycles) d e =
-        record { mark = w; runs = record { instruction = i; bytes = bytes; cycles = cycles; decodes = d; rule = flow-rule certificate a (flowOf i a) (forwardOf a bytes) e } }
-    go w (decode.refused r) d e = absurd (let z : _≡_ {A = ℕ} 0 1 = cc in omega arith)
+        let rule = flow-rule certificate a (flowOf i a) (forwardOf a bytes) e in
+        record { mark = w; runs = record { instruction = i; bytes = bytes; cycles = cycles; decodes = d; rule = rule } }
+    go w (decode.refused r) d e = absurd (not-both e)
 
 -- the vectors
 vector-kind : (certificate : List ℕ) (vector kind : ℕ) → vectorFound certificate vector kind ≡ passes → kindAt certificate vector ≡ kind
@@ -151,10 +156,12 @@ unfolding vectorFound
 vector-kind certificate vector kind e =
     eqb-true _ kind (unless-passes (eqb (kindAt certificate vector) kind) (located 18 vector) passes e .0)
 
-source-kind : (certificate : List ℕ) (wired : ℕ) (s : Source) → sourceFound certificate wired s ≡ passes → names wired s ≡ true → kindAt certificate (vectorOf s) ≡ 3
+source-kind : (certificate : List ℕ) (wired : ℕ) (s : Source) → sourceFound certificate wired s ≡ passes → names wired s ≡ true
+    → kindAt certificate (vectorOf s) ≡ 3
 unfolding sourceFound
 source-kind certificate wired s e w = vector-kind certificate (vectorOf s) 3 (rw w at e)
 
+-- what holds of each source
 by-source : (P : Source → Type 0) → P Nmi → P First → P Second → P Third → P Fourth → (s : Source) → P s
 by-source P n a b c d Nmi = n
 by-source P n a b c d First = a
@@ -173,20 +180,23 @@ vectors-pass certificate wired e =
     let c = both-pass (sourceFound certificate wired Third) _ (b .1) in
     (r .0, by-source (λ s. sourceFound certificate wired s ≡ passes) (n .0) (a .0) (b .0) (c .0) (c .1))
 
+-- `accepted` is the answer of what passes
 verdict-accepted : (f : Found) (levels n : ℕ) → verdict levels f ≡ accepted n → (f ≡ passes) × (n ≡ levels)
 verdict-accepted passes levels n e = (refl, cc)
 verdict-accepted (fault r) levels n e = absurd (let z : _≡_ {A = ℕ} 0 1 = cc in omega arith)
 
 -- Where the check accepts, the rules hold.
-pub check-sound : (image certificate : List ℕ) (wired levels : ℕ) → checkOf image certificate wired ≡ accepted levels → Rules image certificate wired levels
+pub check-sound : (image certificate : List ℕ) (wired levels : ℕ) → checkOf image certificate wired ≡ accepted levels
+    → Rules image certificate wired levels
 unfolding checkOf
 check-sound image certificate wired levels e =
     let v = verdict-accepted _ (levelsOf certificate wired) levels e in
     let c₁ = unless-passes (isImage (length image)) (plain 1) _ (v .0) in
     let c₂ = unless-passes (eqb (length certificate) (length image)) (plain 13) _ (c₁ .1) in
     let c₃ = unless-passes (namesOnlySources wired) (plain 11) (rulesFound image certificate wired) (c₂ .1) in
-    let all = both-pass (andThen (marksFound image certificate (4096 - length certificate) certificate) (vectorsFound certificate wired)) _ (c₃ .1) in
-    let found = both-pass (marksFound image certificate (4096 - length certificate) certificate) (vectorsFound certificate wired) (all .0) in
+    let marks = marksFound image certificate (lowest certificate) certificate in
+    let all = both-pass (andThen marks (vectorsFound certificate wired)) _ (c₃ .1) in
+    let found = both-pass marks (vectorsFound certificate wired) (all .0) in
     let six = leb-true (levelsOf certificate wired) 6 (unless-passes (leb (levelsOf certificate wired) 6) (plain 19) passes (all .1) .0) in
     let length-is = image-length (length image) (c₁ .0) in
     let same = eqb-true (length certificate) (length image) (c₂ .0) in

@@ -18,7 +18,7 @@ use Rattle.certificate.specs.declared.Finding.{Finding}
 use Rattle.certificate.specs.declared.Finding.the-variants.{Passes, Fault}
 use Rattle.certificate.specs.declared.Checked.{Checked}
 use Rattle.certificate.specs.declared.Checked.the-variants.{Accepted, Refused}
-use Rattle.certificate.specs.Marks.{kindOf, needOf, kindAt}
+use Rattle.certificate.specs.Marks.{kindOf, needOf, kindAt, lowest}
 use Rattle.certificate.specs.Successors.{placed, successorsOf, allHaveKind, coversAll}
 use Rattle.certificate.specs.Levels.{levelsOf}
 
@@ -96,10 +96,10 @@ vectorsFound certificate wired =
 abbrev pub levelsFound : List ℕ → (wired : ℕ) → Found
 levelsFound certificate wired = unless (leb (levelsOf certificate wired) 6) (plain 19) passes
 
--- "Then marked addresses upward .. Then 18 ..; 19 ..". The first mark is that of the image's lowest address
+-- "Then marked addresses upward .. Then 18 ..; 19 .."
 abbrev pub rulesFound : (image certificate : List ℕ) → (wired : ℕ) → Found
 rulesFound image certificate wired =
-    andThen (andThen (marksFound image certificate (4096 - length certificate) certificate) (vectorsFound certificate wired))
+    andThen (andThen (marksFound image certificate (lowest certificate) certificate) (vectorsFound certificate wired))
     (levelsFound certificate wired)
 
 -- "Accepted means that nothing under Check below applies; the number is Levels."

@@ -1,10 +1,11 @@
 -- The certificate's marks (document 01, "The certificate").
 -- Assumes nothing.
-use Prim.Native.Nat.{ℕ, _/_, _%_, _≤_}
+use Prim.Native.Nat.{ℕ, _-_, _/_, _%_, _≤_}
 use mathlib.Core.Bool.{cond, _&&_}
 use mathlib.Core.Logic.{_≢_}
 use mathlib.Core.List.{List}
 use lib.Dec.{leb}
+use lib.ListN.{length}
 use Rattle.isa.specs.Decode.{romAt}
 use Rattle.isa.specs.declared.rom.RomByte.{RomByte}
 use Rattle.isa.specs.declared.rom.RomByte.the-variants.{Byte, Outside}
@@ -17,6 +18,10 @@ markIn Outside = 0x00
 -- "One mark for each ROM byte, lowest address first.": an address has its mark where the image has its byte
 unfoldable pub markAt : (certificate : List ℕ) → (address : ℕ) → ℕ
 markAt certificate a = markIn (romAt certificate a)
+
+-- "lowest address first": that of the first mark, 800h or 000h
+abbrev pub lowest : (certificate : List ℕ) → ℕ
+lowest certificate = 4096 - length certificate
 
 -- "An address is marked when its mark isn't 00h."
 abbrev pub Marked : (certificate : List ℕ) → (address : ℕ) → Type 0

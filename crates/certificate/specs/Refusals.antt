@@ -17,7 +17,7 @@ use Rattle.isa.specs.declared.Flow.the-variants as flow
 use Rattle.isa.specs.declared.Source.{Source}
 use Rattle.isa.specs.declared.Source.the-variants.{Nmi, First, Second, Third, Fourth}
 use Rattle.certificate.specs.declared.Successor.{Successor}
-use Rattle.certificate.specs.Marks.{markAt, Marked, WellFormed, kindAt, needAt}
+use Rattle.certificate.specs.Marks.{markAt, Marked, WellFormed, kindAt, needAt, lowest}
 use Rattle.certificate.specs.Successors.{successorsOf}
 use Rattle.certificate.specs.Levels.{levelsOf}
 use Rattle.certificate.specs.Check.{Verdict, accepted, refused, checkOf}
@@ -141,7 +141,7 @@ unknownSource wired = asks (plain 11) (namesOnlySources wired ≡ false)
 abbrev pub questions : (image certificate : List ℕ) → (wired : ℕ) → List Question
 questions image certificate wired =
     imageLength image ∷ certificateLength certificate image ∷ unknownSource wired ∷
-    ((atMarks certificate image (length certificate) (4096 - length certificate) ++ atVectors certificate wired) ++ (tooManyLevels certificate wired ∷ []))
+    ((atMarks certificate image (length certificate) (lowest certificate) ++ atVectors certificate wired) ++ (tooManyLevels certificate wired ∷ []))
 
 -- "Accepted means that nothing under Check below applies; the number is Levels."; refused: the first that applies
 abbrev pub Described : List Question → (levels : ℕ) → Verdict → Type 0

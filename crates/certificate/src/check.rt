@@ -20,9 +20,10 @@ use isa::sources::names_only_sources;
 use isa::successor::flow_of;
 use isa::table::timings;
 ghost use mathlib.Core.Path.{_≡_};
-ghost use Prim.Native.Nat.{_-_, _≤_};
+ghost use Prim.Native.Nat.{_≤_};
 ghost use lib.ListN.{length};
 ghost use Rattle.isa.specs.Map.{Timings};
+ghost use Rattle.certificate.specs.Marks.{lowest};
 ghost use Rattle.certificate.specs.Check.{found, answered, flowFound, markFound, marksFound, rulesFound, verdict, checkOf};
 ghost use Rattle.certificate.specs.Levels.{levelsOf};
 
@@ -77,7 +78,7 @@ fn check_mark(
 // The first fault among the marks, upward: one pass.
 fn check_marks(table: &[u8; 256], image: &[u8], certificate: &[u8]) -> Finding
     requires { ⌜ Timings (now table) × (length (now certificate) ≤ 4096) ⌝ }
-    ensures { λ r. ⌜ found r ≡ marksFound (now (image .entry)) (now (certificate .entry)) (4096 - length (now (certificate .entry))) (now (certificate .entry)) ⌝ }
+    ensures { λ r. ⌜ found r ≡ marksFound (now (image .entry)) (now (certificate .entry)) (lowest (now (certificate .entry))) (now (certificate .entry)) ⌝ }
 {
     let start = 4096 - certificate.len();
     let mut i = 0;

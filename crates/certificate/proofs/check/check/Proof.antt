@@ -43,7 +43,8 @@ returns-3 c =
 check-rules-requires : tie.Need-check-rules-requires
 check-rules-requires c κs =
     let image = c .before .before .before .before .before .before .before .args .image .now in
-    let is-image = sym (c .before .before .before .before .is-image-length .ensures) ∙ not-false (c .before .before .before .before .is-image-length .result) (c .before .before .before .if1 .left) in
+    let asked = c .before .before .before .before .is-image-length in
+    let is-image = sym (asked .ensures) ∙ not-false (asked .result) (c .before .before .before .if1 .left) in
     omega (arith, at-most-4096 (image-length (length image) is-image), c .before .before .if2 .left)
 
 returns-4 : tie.Need-returns-4

@@ -9,20 +9,21 @@ use mathlib.Core.List.{List}
 use borrow.Author.Needs.{needs}
 use lib.ListN.{length, getD, drop}
 use lib.Seq.{drop-cons, drop-length}
+use Rattle.certificate.specs.Marks.{lowest}
 use Rattle.certificate.specs.Check.{Found, passes, andThen, markFound, marksFound}
 use Rattle.certificate.proofs.check.check_marks.Statement.{statement}
 use Rattle.certificate.proofs.check.check_marks.Tie as tie
 
 -- what the marks from index i on find
 abbrev From : (image certificate : List ℕ) → (i : ℕ) → Found
-From image certificate i = marksFound image certificate (4096 - length certificate + i) (drop i certificate)
+From image certificate i = marksFound image certificate (lowest certificate + i) (drop i certificate)
 
 -- the mark at i, then the others
 first : (image certificate : List ℕ) (i : ℕ) → i < length certificate
-    → From image certificate i ≡ andThen (markFound image certificate (4096 - length certificate + i) (getD certificate i 0)) (From image certificate (i + 1))
+    → From image certificate i ≡ andThen (markFound image certificate (lowest certificate + i) (getD certificate i 0)) (From image certificate (i + 1))
 unfolding marksFound
 first image certificate i h =
-    let next : suc (4096 - length certificate + i) ≡ 4096 - length certificate + (i + 1) = omega arith in
+    let next : suc (lowest certificate + i) ≡ lowest certificate + (i + 1) = omega arith in
     rw (drop-cons certificate i 0 h, next, add-one)
 
 none : (image certificate : List ℕ) (i : ℕ) → i ≡ length certificate → From image certificate i ≡ passes
@@ -31,7 +32,7 @@ none image certificate i e = rw (e, drop-length certificate)
 
 abbrev Inv-loop : tie.InvT-loop
 Inv-loop table image certificate start i₀ i =
-    (i ≤ length certificate) × (marksFound image certificate (4096 - length certificate) certificate ≡ From image certificate i)
+    (i ≤ length certificate) × (marksFound image certificate (lowest certificate) certificate ≡ From image certificate i)
 
 abbrev μ-loop : tie.MeasureT-loop
 μ-loop table image certificate start i₀ i = length certificate - i
@@ -59,8 +60,12 @@ enum-told c = search needs
 
 returns : tie.Need-returns Inv-loop μ-loop
 returns c =
-    let h : c .before .before .before .before .before .loop .i < length (c .before .before .before .before .before .before .before .before .args .certificate .now) = omega arith in
-    rw (c .before .before .before .before .before .loop .inv .1, first _ _ _ h, ← c .before .before .check-mark .ensures, c .enum-told .given .1)
+    rw (
+      c .before .before .before .before .before .loop .inv .1,
+      first _ _ _ (c .before .before .before .before .loop-test .taken),
+      ← c .before .before .check-mark .ensures,
+      c .enum-told .given .1,
+    )
 
 enum-told-2 : tie.Need-enum-told-2 Inv-loop μ-loop
 enum-told-2 c = search needs
@@ -72,9 +77,12 @@ loop-less : tie.Need-loop-less Inv-loop μ-loop
 loop-less c = search needs
 
 loop-again : tie.Need-loop-again Inv-loop μ-loop
-loop-again c =
-    let h : c .before .before .before .before .before .loop .i < length (c .before .before .before .before .before .before .before .before .args .certificate .now) = omega arith in
-    (search needs, c .before .before .before .before .before .loop .inv .1 ∙ first _ _ _ h ∙ rw (← c .before .before .check-mark .ensures, c .enum-told2 .given .1))
+loop-again c = (
+  search needs,
+  c .before .before .before .before .before .loop .inv .1
+      ∙ first _ _ _ (c .before .before .before .before .loop-test .taken)
+      ∙ rw (← c .before .before .check-mark .ensures, c .enum-told2 .given .1),
+)
 
 returns-2 : tie.Need-returns-2 Inv-loop μ-loop
 returns-2 c = sym (c .before .loop .inv .1 ∙ none _ _ _ (omega arith))

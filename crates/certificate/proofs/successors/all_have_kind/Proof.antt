@@ -34,7 +34,14 @@ returns-2 c = rw (c .before .before .onward .given .1, and-true) (c .has-kind .e
 
 returns-3 : tie.Need-returns-3
 unfolding allHaveKind
-returns-3 c = rw (c .before .before .before .before .onward2 .given .1, ← c .before .before .has-kind2 .ensures, c .before .if1 .taken, and-true) (c .has-kind3 .ensures)
+returns-3 c =
+    rw (
+      c .before .before .before .before .onward2 .given .1,
+      ← c .before .before .has-kind2 .ensures,
+      c .before .if1 .taken,
+      and-true,
+    )
+    (c .has-kind3 .ensures)
 
 returns-4 : tie.Need-returns-4
 unfolding allHaveKind

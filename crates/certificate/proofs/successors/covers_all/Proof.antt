@@ -34,7 +34,14 @@ returns-2 c = rw (c .before .before .onward .given .1, and-true) (c .covers .ens
 
 returns-3 : tie.Need-returns-3
 unfolding coversAll
-returns-3 c = rw (c .before .before .before .before .onward2 .given .1, ← c .before .before .covers2 .ensures, c .before .if1 .taken, and-true) (c .covers3 .ensures)
+returns-3 c =
+    rw (
+      c .before .before .before .before .onward2 .given .1,
+      ← c .before .before .covers2 .ensures,
+      c .before .if1 .taken,
+      and-true,
+    )
+    (c .covers3 .ensures)
 
 returns-4 : tie.Need-returns-4
 unfolding coversAll

@@ -2,7 +2,7 @@
 -- Assumes nothing.
 use native.Mathlib.Omega.{arith}
 use Rattle.certificate.specs.Levels.{levelsFor}
-use Rattle.certificate.proofs.Facts.{needed}
+use Rattle.certificate.proofs.Services.{need-most}
 use borrow.Author.Needs.{needs}
 use Rattle.certificate.proofs.vectors.levels_for.Statement.{statement}
 use Rattle.certificate.proofs.vectors.levels_for.Tie as tie
@@ -17,16 +17,21 @@ need-at-requires : tie.Need-need-at-requires
 need-at-requires c κs = search needs
 
 add-result : tie.Need-add-result
-add-result c = omega (arith, needed _ _ (c .need-at .ensures))
+add-result c = omega (arith, need-most _ _ (c .need-at .ensures))
 
 returns : tie.Need-returns
 unfolding levelsFor
 returns c =
-    (rw (← c .before .before .before .names .ensures, c .before .before .if1 .taken, ← c .before .vector-of .ensures, ← c .need-at .ensures), omega (arith, needed _ _ (c .need-at .ensures)))
+    rw (
+      ← c .before .before .before .names .ensures,
+      c .before .before .if1 .taken,
+      ← c .before .vector-of .ensures,
+      ← c .need-at .ensures,
+    )
 
 returns-2 : tie.Need-returns-2
 unfolding levelsFor
-returns-2 c = (rw (← c .before .names .ensures, c .if1 .left), search needs)
+returns-2 c = rw (← c .before .names .ensures, c .if1 .left)
 
 pub levels-for-spec : {M : Type 1} → statement M
 levels-for-spec =

@@ -2,74 +2,43 @@
 -- Assumes nothing.
 use native.Mathlib.Omega.{arith}
 use Rattle.certificate.specs.Levels.{levelsOf}
-use Rattle.certificate.proofs.Facts.{needed, max-most}
-use Rattle.certificate.proofs.Services.{source-levels}
+use Rattle.certificate.proofs.Services.{need-most, levels-most, sources-most}
 use borrow.Author.Needs.{needs}
 use Rattle.certificate.proofs.vectors.levels_of.Statement.{statement}
 use Rattle.certificate.proofs.vectors.levels_of.Tie as tie
 
-levels-for-requires : tie.Need-levels-for-requires
-levels-for-requires c κs = search needs
-
-levels-for-requires-2 : tie.Need-levels-for-requires-2
-levels-for-requires-2 c κs = search needs
-
-levels-for-requires-3 : tie.Need-levels-for-requires-3
-levels-for-requires-3 c κs = search needs
-
-levels-for-requires-4 : tie.Need-levels-for-requires-4
-levels-for-requires-4 c κs = search needs
-
-greater-requires : tie.Need-greater-requires
-greater-requires c κs = search needs
-
-greater-requires-2 : tie.Need-greater-requires-2
-greater-requires-2 c κs = search needs
-
-greater-requires-3 : tie.Need-greater-requires-3
-greater-requires-3 c κs = search needs
-
 need-at-requires : tie.Need-need-at-requires
 need-at-requires c κs = search needs
 
-add-result : tie.Need-add-result
-add-result c = omega (arith, needed _ _ (c .need-at .ensures), max-most (c .before .greater3 .ensures) (c .before .before .before .before .before .before .before .levels-for .ensures .1) (max-most (c .before .before .greater2 .ensures) (c .before .before .before .before .before .before .levels-for2 .ensures .1) (max-most (c .before .before .before .greater .ensures) (c .before .before .before .before .before .levels-for3 .ensures .1) (c .before .before .before .before .levels-for4 .ensures .1))))
+source-levels-requires : tie.Need-source-levels-requires
+source-levels-requires c κs = search needs
 
-levels-for-requires-5 : tie.Need-levels-for-requires-5
-levels-for-requires-5 c κs = search needs
+add-result : tie.Need-add-result
+add-result c = omega (arith, need-most _ _ (c .before .need-at .ensures), sources-most _ _ (c .source-levels .ensures))
+
+levels-for-requires : tie.Need-levels-for-requires
+levels-for-requires c κs = search needs
 
 add-result-2 : tie.Need-add-result-2
-add-result-2 c = omega (arith, needed _ _ (c .before .need-at .ensures), max-most (c .before .before .greater3 .ensures) (c .before .before .before .before .before .before .before .before .levels-for .ensures .1) (max-most (c .before .before .before .greater2 .ensures) (c .before .before .before .before .before .before .before .levels-for2 .ensures .1) (max-most (c .before .before .before .before .greater .ensures) (c .before .before .before .before .before .before .levels-for3 .ensures .1) (c .before .before .before .before .before .levels-for4 .ensures .1))), c .levels-for5 .ensures .1)
+add-result-2 c =
+    omega (
+      arith,
+      need-most _ _ (c .before .before .need-at .ensures),
+      sources-most _ _ (c .before .source-levels .ensures),
+      levels-most _ _ _ (c .levels-for .ensures),
+    )
 
 returns : tie.Need-returns
 unfolding levelsOf
-returns c =
-    rw (
-      source-levels,
-      c .before .need-at .ensures,
-      c .before .before .greater3 .ensures,
-      c .before .before .before .greater2 .ensures,
-      c .before .before .before .before .greater .ensures,
-      c .before .before .before .before .before .before .before .before .levels-for .ensures .0,
-      c .before .before .before .before .before .before .before .levels-for2 .ensures .0,
-      c .before .before .before .before .before .before .levels-for3 .ensures .0,
-      c .before .before .before .before .before .levels-for4 .ensures .0,
-      c .levels-for5 .ensures .0,
-    )
+returns c = rw (c .before .before .need-at .ensures, c .before .source-levels .ensures, c .levels-for .ensures)
 
 pub levels-of-spec : {M : Type 1} → statement M
 levels-of-spec =
     tie.close
     (tie.spec
-    levels-for-requires
-    levels-for-requires-2
-    levels-for-requires-3
-    levels-for-requires-4
-    greater-requires
-    greater-requires-2
-    greater-requires-3
     need-at-requires
+    source-levels-requires
     add-result
-    levels-for-requires-5
+    levels-for-requires
     add-result-2
     returns)
