@@ -73,7 +73,9 @@ markFound image certificate a (suc m) =
 -- "Then marked addresses upward": the marks of a part of the certificate, of which the first stands at address a
 unfoldable pub marksFound : (image certificate : List ℕ) → (a : ℕ) → List ℕ → Found
 marksFound image certificate a [] = passes
-marksFound image certificate a (mark ∷ marks) = let more = marksFound image certificate (suc a) marks in andThen (markFound image certificate a mark) more
+marksFound image certificate a (mark ∷ marks) =
+    let more = marksFound image certificate (suc a) marks in
+    andThen (markFound image certificate a mark) more
 
 -- "18 vector kind": a vector that must have a kind
 unfoldable pub vectorFound : List ℕ → (vector kind : ℕ) → Found

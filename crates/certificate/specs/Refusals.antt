@@ -94,7 +94,8 @@ module _ (certificate : List ℕ) where
   -- "17 need too small"
   abbrev pub needTooSmall : Answer → (a : ℕ) → Question
   needTooSmall d a =
-      asks (located 17 a) (Marked certificate a × Decodes d a (λ f next. Some (TooSmall (needAt certificate a)) (successorsOf (kindAt certificate a) f next)))
+      asks (located 17 a)
+      (Marked certificate a × Decodes d a (λ f next. Some (TooSmall (needAt certificate a)) (successorsOf (kindAt certificate a) f next)))
 
   -- "4, 5, 4; 15 ..; 16 ..; 17 .."
   abbrev pub atInstruction : Answer → (a : ℕ) → List Question
@@ -119,7 +120,8 @@ module _ (certificate : List ℕ) where
 
   -- "Then 18 vector kind, FFEh first, then sources upward"
   abbrev pub atVectors : (wired : ℕ) → List Question
-  atVectors wired = startUp ∷ atSource wired Nmi ∷ atSource wired First ∷ atSource wired Second ∷ atSource wired Third ∷ atSource wired Fourth ∷ []
+  atVectors wired =
+      startUp ∷ atSource wired Nmi ∷ atSource wired First ∷ atSource wired Second ∷ atSource wired Third ∷ atSource wired Fourth ∷ []
 
   -- "13 (certificate not the image's length)"
   abbrev pub certificateLength : (image : List ℕ) → Question
@@ -148,7 +150,7 @@ abbrev pub Described : List Question → (levels : ℕ) → Verdict → Type 0
 Described qs levels (accepted number) = None qs × (number ≡ levels)
 Described qs levels (refused r) = FirstApplies qs r
 
--- whatever the check is given
+-- every refusal that the check gives applies, and none before it in the order does; it accepts where none applies
 abbrev pub AnswersFirst : Type 0
 AnswersFirst =
     (image certificate : List ℕ) (wired : ℕ)

@@ -54,18 +54,26 @@ pub record Runs (image certificate : List ℕ) (a : ℕ) : Type 0 where
   pub decodes : decodeAt image a ≡ decode.instruction instruction bytes cycles
   pub rule : FlowRule certificate a (flowOf instruction a) (forwardOf a bytes)
 
--- what holds at a marked address
+-- at a marked address: a kind from 1 to 4, a need from 0 to 6, and an instruction that runs
 pub record Lawful (image certificate : List ℕ) (a : ℕ) : Type 0 where
   pub mark : WellFormed (markAt certificate a)
   pub runs : Runs image certificate a
 
--- "FFEh has kind 1. Each wired source's vector has kind 3.", "Levels = ..", "At most 6."; before them what 1, 13 and 11 ask
+-- all of them, with a number of levels
 pub record Rules (image certificate : List ℕ) (wired levels : ℕ) : Type 0 where
+  -- "An image is 2048 bytes (800h to FFFh) or 4096 bytes (000h to FFFh)."
   pub image-length : (length image ≡ 2048) ⊎ (length image ≡ 4096)
+  -- "One mark for each ROM byte"
   pub certificate-length : length certificate ≡ length image
+  -- "11 (wired byte)": bits 5, 6 and 7 are not set
   pub sources : namesOnlySources wired ≡ true
+  -- "Every marked address .."
   pub marked : (a : ℕ) → Marked certificate a → Lawful image certificate a
+  -- "FFEh has kind 1."
   pub start-up : kindAt certificate 0xFFE ≡ 1
+  -- "Each wired source's vector has kind 3."
   pub vectors : (s : Source) → names wired s ≡ true → kindAt certificate (vectorOf s) ≡ 3
+  -- "Levels = .."
   pub counted : levels ≡ levelsOf certificate wired
+  -- "At most 6."
   pub at-most-six : levels ≤ 6
