@@ -1,0 +1,25 @@
+-- Document 01's bench cases of the check, computed.
+-- Assumes nothing.
+use mathlib.Core.Path.{refl}
+use Rattle.isa.specs.Map
+use Rattle.isa.specs.Decode
+use Rattle.isa.specs.Flow
+use Rattle.certificate.specs.Marks
+use Rattle.certificate.specs.Successors
+use Rattle.certificate.specs.Levels
+use Rattle.certificate.specs.Check.{checkOf, marksFound, markFound, decodedFound, flowFound, vectorsFound, sourceFound, vectorFound}
+use Rattle.certificate.specs.Cases.{CheckCases}
+
+pub check-cases : CheckCases
+unfolding checkOf marksFound markFound decodedFound flowFound vectorsFound sourceFound vectorFound Marks.markAt Marks.kindAt Marks.needAt Successors.placed Successors.successorsOf Successors.allHaveKind Successors.coversAll Levels.sourceLevels Levels.levelsFor Levels.levelsOf Map.entryOf Map.bytesOf Map.cyclesOf Map.formAs Map.formOf Decode.romAt Decode.operandAt Decode.decodeAt Flow.flowOf
+check-cases =
+    record {
+      p11 = refl;
+      p12 = refl;
+      need-six = refl;
+      need-four = refl;
+      need-five = refl;
+      bytes-2047 = refl;
+      bytes-2049 = refl;
+      cut = refl;
+    }

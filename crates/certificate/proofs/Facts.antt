@@ -1,0 +1,69 @@
+-- Facts that several proofs cite: marks, tests, an image's length.
+-- Assumes nothing.
+use Prim.Native.Nat.{ℕ, zero, suc, _+_, _-_, _≤_, _<_, _/_, _%_}
+use native.Mathlib.Omega.{arith}
+use mathlib.Core.Bool.{Bool, true, false, cond, _&&_, _||_, false≢true}
+use mathlib.Core.Logic.{_⊎_, inl, inr, _≢_}
+use borrow.Author.Tests.{leb-true, le-leb, lt-ltb, eqb-true}
+use mathlib.Core.Path.{_≡_, refl}
+use mathlib.Core.List.{List}
+use lib.Dec.{ltb, leb, eqb}
+use lib.ListN.{length, getD}
+use Rattle.isa.specs.Decode.{isImage, romAt, decodeAt}
+use Rattle.isa.specs.Refusals.{Numbered, located}
+use Rattle.certificate.specs.Marks.{markAt, WellFormed, kindOf, lowest}
+use Rattle.certificate.specs.Check.{passes, fault, unless, decodedFound, markFound}
+
+-- a marked address: 14, then what decoding answers
+pub marked : (image certificate : List ℕ) (a mark : ℕ) → mark ≢ 0
+    → markFound image certificate a mark ≡ unless (ltb 0 (kindOf mark)) (located 14 a) (decodedFound certificate a mark (decodeAt image a))
+unfolding markFound
+marked image certificate a zero n = absurd (n refl)
+marked image certificate a (suc m) n = refl
+
+-- a finding does not both pass and fail
+pub not-both : {r : Numbered} → fault r ≡ passes → ⊥
+not-both e = let z : _≡_ {A = ℕ} 0 1 = cc in omega arith
+
+pub positive : {k : ℕ} → k ≢ 0 → 0 < k
+positive n = omega arith
+
+-- a mark has a kind exactly when it is well formed, and that is its high digit
+pub well-formed : (mark : ℕ) → 1 ≤ kindOf mark → WellFormed mark
+well-formed mark h = go (leb (mark / 16) 4) (leb (mark % 16) 6) refl refl h
+  where
+    go : (s t : Bool) → leb (mark / 16) 4 ≡ s → leb (mark % 16) 6 ≡ t → 1 ≤ cond (s && t) (mark / 16) 0 → WellFormed mark
+    go true true p q h = record { kind-least = h; kind-most = leb-true _ _ p; need-most = leb-true _ _ q }
+    go true false p q h = absurd (omega arith)
+    go false t p q h = absurd (omega arith)
+
+pub kind-of : (mark : ℕ) → WellFormed mark → kindOf mark ≡ mark / 16
+kind-of mark w = rw (le-leb _ _ (w .kind-most), le-leb _ _ (w .need-most))
+
+-- the mark of the i-th ROM byte
+pub mark-is : (certificate : List ℕ) (i : ℕ) → length certificate ≤ 4096 → i < length certificate
+    → markAt certificate (lowest certificate + i) ≡ getD certificate i 0
+unfolding markAt romAt
+mark-is certificate i fits h =
+    let below : lowest certificate + i < 4096 = omega arith in
+    let above : 4096 ≤ lowest certificate + i + length certificate = omega arith in
+    let back : lowest certificate + i + length certificate - 4096 ≡ i = omega arith in
+    rw (lt-ltb _ _ below, le-leb _ _ above, back)
+
+-- both tests pass
+pub both-true : (a b : Bool) → (a && b) ≡ true → (a ≡ true) × (b ≡ true)
+both-true true b e = (refl, e)
+both-true false b e = absurd (false≢true e)
+
+-- an image's length
+pub image-length : (n : ℕ) → isImage n ≡ true → (n ≡ 2048) ⊎ (n ≡ 4096)
+image-length n e = go (eqb n 2048) (eqb n 4096) refl refl e
+  where
+    go : (s t : Bool) → eqb n 2048 ≡ s → eqb n 4096 ≡ t → (s || t) ≡ true → (n ≡ 2048) ⊎ (n ≡ 4096)
+    go true t p q e = inl (eqb-true n 2048 p)
+    go false true p q e = inr (eqb-true n 4096 q)
+    go false false p q e = absurd (false≢true e)
+
+pub at-most-4096 : {n : ℕ} → (n ≡ 2048) ⊎ (n ≡ 4096) → n ≤ 4096
+at-most-4096 (inl e) = omega arith
+at-most-4096 (inr e) = omega arith

@@ -1,0 +1,214 @@
+-- Where the check accepts, the rules hold.
+-- Assumes nothing.
+use Prim.Native.Nat.{ℕ, zero, suc, _+_, _-_, _≤_, _<_}
+use native.Mathlib.Nat.{add-zero}
+use native.Mathlib.Omega.{arith}
+use mathlib.Core.Path.{_≡_, refl, sym, _∙_}
+use mathlib.Core.Logic.{_⊎_, inl, inr, _≢_}
+use mathlib.Core.Bool.{Bool, true, false, cond, _&&_, _||_}
+use mathlib.Core.List.{List, [], _∷_}
+use lib.Dec.{leb, ltb, eqb}
+use lib.ListN.{length, getD}
+use borrow.Author.Tests.{leb-true, ltb-true, eqb-true}
+use Rattle.isa.specs.Decode as decode
+use Rattle.isa.specs.Decode.{Answer, isImage, romAt, decodeAt}
+use Rattle.isa.specs.Refusals.{Numbered, plain, located}
+use Rattle.isa.specs.Sources.{names, namesOnlySources, vectorOf}
+use Rattle.isa.specs.Displacement.{forwardOf}
+use Rattle.isa.specs.Flow.{flowOf}
+use Rattle.isa.specs.declared.Flow.{Flow}
+use Rattle.isa.specs.declared.Flow.the-variants as flow
+use Rattle.isa.specs.declared.Source.{Source}
+use Rattle.isa.specs.declared.Source.the-variants.{Nmi, First, Second, Third, Fourth}
+use Rattle.isa.specs.declared.rom.RomByte.the-variants.{Byte, Outside}
+use Rattle.certificate.specs.Marks.{markIn, markAt, Marked, WellFormed, kindOf, kindAt, needAt, lowest}
+use Rattle.certificate.specs.Successors.{placed, successorsOf, allHaveKind, coversAll}
+use Rattle.certificate.specs.Levels.{levelsOf}
+use Rattle.certificate.specs.Check.{accepted, refused, Found, passes, fault, unless, andThen, flowFound, decodedFound, markFound, marksFound, vectorFound, sourceFound, vectorsFound, rulesFound, verdict, checkOf}
+use Rattle.certificate.proofs.Facts.{marked, not-both, well-formed, both-true, image-length, at-most-4096}
+use Rattle.certificate.specs.Rules.{Continues, EndsStartUp, FlowRule, Lawful, Rules}
+
+-- a test that passes
+unless-passes : (t : Bool) (r : Numbered) (more : Found) → unless t r more ≡ passes → (t ≡ true) × (more ≡ passes)
+unless-passes true r more e = (refl, e)
+unless-passes false r more e = absurd (not-both e)
+
+-- two parts that pass
+both-pass : (f g : Found) → andThen f g ≡ passes → (f ≡ passes) × (g ≡ passes)
+both-pass passes g e = (refl, e)
+both-pass (fault r) g e = absurd (not-both e)
+
+-- each mark of a part that passes
+each-passes : (image certificate : List ℕ) (a : ℕ) (marks : List ℕ) → marksFound image certificate a marks ≡ passes
+    → (i : ℕ) → i < length marks → markFound image certificate (a + i) (getD marks i 0) ≡ passes
+unfolding marksFound
+each-passes image certificate a [] e i h = absurd (omega arith)
+each-passes image certificate a (m ∷ marks) e zero h =
+    rw add-zero (both-pass (markFound image certificate a m) (marksFound image certificate (suc a) marks) e .0)
+each-passes image certificate a (m ∷ marks) e (suc i) h =
+    let shift : a + suc i ≡ suc a + i = omega arith in
+    let p = both-pass (markFound image certificate a m) (marksFound image certificate (suc a) marks) e in
+    rw shift (each-passes image certificate (suc a) marks (p .1) i (omega arith))
+
+-- a marked address lies in ROM, and its mark is the certificate's there
+pub record InRom (certificate : List ℕ) (a : ℕ) : Type 0 where
+  pub most : a < 4096
+  pub least : 4096 ≤ a + length certificate
+  pub mark : markAt certificate a ≡ getD certificate (a + length certificate - 4096) 0
+
+pub marked-in-rom : (certificate : List ℕ) (a : ℕ) → Marked certificate a → InRom certificate a
+unfolding markAt romAt
+marked-in-rom certificate a n = go (ltb a 4096) (leb 4096 (a + length certificate)) refl refl n
+  where
+    go : (s t : Bool) → ltb a 4096 ≡ s → leb 4096 (a + length certificate) ≡ t
+        → markIn (cond s (cond t (Byte (getD certificate (a + length certificate - 4096) 0)) Outside) Outside) ≢ 0 → InRom certificate a
+    go true true p q n = record { most = ltb-true _ _ p; least = leb-true _ _ q; mark = rw (p, q) }
+    go true false p q n = absurd (n refl)
+    go false t p q n = absurd (n refl)
+
+mark-passes : (image certificate : List ℕ) → length certificate ≤ 4096 → marksFound image certificate (lowest certificate) certificate ≡ passes
+    → (a : ℕ) → Marked certificate a → markFound image certificate a (markAt certificate a) ≡ passes
+mark-passes image certificate l e a n =
+    let r = marked-in-rom certificate a n in
+    let most = r .most in
+    let least = r .least in
+    let back : lowest certificate + (a + length certificate - 4096) ≡ a = omega arith in
+    let p = each-passes image certificate (lowest certificate) certificate e (a + length certificate - 4096) (omega arith) in
+    rw (r .mark) (rw back at p)
+
+-- successors that pass
+continues : (certificate : List ℕ) (a n : ℕ) → eqb (kindAt certificate n) (kindAt certificate a) ≡ true
+    → leb (needAt certificate n + 0) (needAt certificate a) ≡ true → Continues certificate a n
+continues certificate a n k l =
+    let need = leb-true (needAt certificate n + 0) (needAt certificate a) l in
+    record { kind = eqb-true _ _ k; need = omega arith }
+
+single : (certificate : List ℕ) (a n : ℕ) → (eqb (kindAt certificate n) (kindAt certificate a) && true) ≡ true
+    → (leb (needAt certificate n + 0) (needAt certificate a) && true) ≡ true → Continues certificate a n
+single certificate a n k l = continues certificate a n (both-true _ true k .0) (both-true _ true l .0)
+
+-- RETI: of a service, or of start-up code
+reti-rule : (certificate : List ℕ) (a n : ℕ) (start : Bool) → eqb (kindAt certificate a) 1 ≡ start → (start || eqb (kindAt certificate a) 3) ≡ true
+    → allHaveKind certificate (successorsOf (kindAt certificate a) flow.ReturnFromInterrupt n) ≡ true
+    → coversAll certificate (needAt certificate a) (successorsOf (kindAt certificate a) flow.ReturnFromInterrupt n) ≡ true
+    → (kindAt certificate a ≡ 3) ⊎ EndsStartUp certificate a n
+unfolding successorsOf allHaveKind coversAll
+reti-rule certificate a n false s p k l = inl (eqb-true _ 3 p)
+reti-rule certificate a n true s p k l =
+    let k′ = rw s at k in
+    let l′ = rw s at l in
+    let need = leb-true (needAt certificate n + 0) (needAt certificate a) (both-true _ true l′ .0) in
+    inr (record {
+      kind = eqb-true _ 1 s;
+      next-kind = eqb-true _ 2 (both-true _ true k′ .0);
+      next-need = omega arith;
+    })
+
+-- tests that pass make the rule: 15, 16, 17
+rule-of : (certificate : List ℕ) (a : ℕ) (f : Flow) (n : ℕ) → placed (kindAt certificate a) f ≡ true
+    → allHaveKind certificate (successorsOf (kindAt certificate a) f n) ≡ true
+    → coversAll certificate (needAt certificate a) (successorsOf (kindAt certificate a) f n) ≡ true → FlowRule certificate a f n
+unfolding placed successorsOf allHaveKind coversAll
+rule-of certificate a flow.Next n p k l = single certificate a n k l
+rule-of certificate a (flow.Jump t) n p k l = single certificate a t k l
+rule-of certificate a (flow.Branch b t) n p k l =
+    let k₂ = both-true _ _ k in
+    let l₂ = both-true _ _ l in
+    (continues certificate a t (k₂ .0) (l₂ .0), single certificate a n (k₂ .1) (l₂ .1))
+rule-of certificate a (flow.Call t) n p k l =
+    let k₂ = both-true _ _ k in
+    let l₂ = both-true _ _ l in
+    record {
+      target-kind = eqb-true _ 4 (k₂ .0);
+      target-need = leb-true _ _ (l₂ .0);
+      back = single certificate a n (k₂ .1) (l₂ .1);
+    }
+rule-of certificate a flow.Return n p k l = eqb-true _ 4 p
+rule-of certificate a flow.ReturnFromInterrupt n p k l = reti-rule certificate a n (eqb (kindAt certificate a) 1) refl p k l
+rule-of certificate a flow.Sleep n p k l = single certificate a n k l
+
+flow-rule : (certificate : List ℕ) (a : ℕ) (f : Flow) (n : ℕ) → flowFound certificate a (markAt certificate a) f n ≡ passes → FlowRule certificate a f n
+unfolding flowFound kindAt needAt
+flow-rule certificate a f n e =
+    let p = unless-passes (placed (kindAt certificate a) f) (located 15 a) _ e in
+    let k = unless-passes (allHaveKind certificate (successorsOf (kindAt certificate a) f n)) (located 16 a) _ (p .1) in
+    let l = unless-passes (coversAll certificate (needAt certificate a) (successorsOf (kindAt certificate a) f n)) (located 17 a) _ (k .1) in
+    rule-of certificate a f n (p .0) (k .0) (l .0)
+
+-- a marked address that passes
+pub lawful : (image certificate : List ℕ) (a : ℕ) → Marked certificate a → markFound image certificate a (markAt certificate a) ≡ passes
+    → Lawful image certificate a
+unfolding decodedFound
+lawful image certificate a n e =
+    let s = unless-passes (ltb 0 (kindOf (markAt certificate a))) (located 14 a) _ (sym (marked image certificate a (markAt certificate a) n) ∙ e) in
+    go (well-formed (markAt certificate a) (ltb-true 0 (kindOf (markAt certificate a)) (s .0))) (decodeAt image a) refl (s .1)
+  where
+    go : WellFormed (markAt certificate a) → (d : Answer) → decodeAt image a ≡ d → decodedFound certificate a (markAt certificate a) d ≡ passes
+        → Lawful image certificate a
+    go w (decode.instruction i bytes cycles) d e =
+        let rule = flow-rule certificate a (flowOf i a) (forwardOf a bytes) e in
+        record { mark = w; runs = record { instruction = i; bytes = bytes; cycles = cycles; decodes = d; rule = rule } }
+    go w (decode.refused r) d e = absurd (not-both e)
+
+-- the vectors
+vector-kind : (certificate : List ℕ) (vector kind : ℕ) → vectorFound certificate vector kind ≡ passes → kindAt certificate vector ≡ kind
+unfolding vectorFound
+vector-kind certificate vector kind e =
+    eqb-true _ kind (unless-passes (eqb (kindAt certificate vector) kind) (located 18 vector) passes e .0)
+
+source-kind : (certificate : List ℕ) (wired : ℕ) (s : Source) → sourceFound certificate wired s ≡ passes → names wired s ≡ true
+    → kindAt certificate (vectorOf s) ≡ 3
+unfolding sourceFound
+source-kind certificate wired s e w = vector-kind certificate (vectorOf s) 3 (rw w at e)
+
+-- what holds of each source
+by-source : (P : Source → Type 0) → P Nmi → P First → P Second → P Third → P Fourth → (s : Source) → P s
+by-source P n a b c d Nmi = n
+by-source P n a b c d First = a
+by-source P n a b c d Second = b
+by-source P n a b c d Third = c
+by-source P n a b c d Fourth = d
+
+vectors-pass : (certificate : List ℕ) (wired : ℕ) → vectorsFound certificate wired ≡ passes
+    → (vectorFound certificate 0xFFE 1 ≡ passes) × ((s : Source) → sourceFound certificate wired s ≡ passes)
+unfolding vectorsFound
+vectors-pass certificate wired e =
+    let r = both-pass (vectorFound certificate 0xFFE 1) _ e in
+    let n = both-pass (sourceFound certificate wired Nmi) _ (r .1) in
+    let a = both-pass (sourceFound certificate wired First) _ (n .1) in
+    let b = both-pass (sourceFound certificate wired Second) _ (a .1) in
+    let c = both-pass (sourceFound certificate wired Third) _ (b .1) in
+    (r .0, by-source (λ s. sourceFound certificate wired s ≡ passes) (n .0) (a .0) (b .0) (c .0) (c .1))
+
+-- `accepted` is the answer of what passes
+verdict-accepted : (f : Found) (levels n : ℕ) → verdict levels f ≡ accepted n → (f ≡ passes) × (n ≡ levels)
+verdict-accepted passes levels n e = (refl, cc)
+verdict-accepted (fault r) levels n e = absurd (let z : _≡_ {A = ℕ} 0 1 = cc in omega arith)
+
+-- Where the check accepts, the rules hold.
+pub check-sound : (image certificate : List ℕ) (wired levels : ℕ) → checkOf image certificate wired ≡ accepted levels
+    → Rules image certificate wired levels
+unfolding checkOf
+check-sound image certificate wired levels e =
+    let v = verdict-accepted _ (levelsOf certificate wired) levels e in
+    let c₁ = unless-passes (isImage (length image)) (plain 1) _ (v .0) in
+    let c₂ = unless-passes (eqb (length certificate) (length image)) (plain 13) _ (c₁ .1) in
+    let c₃ = unless-passes (namesOnlySources wired) (plain 11) (rulesFound image certificate wired) (c₂ .1) in
+    let marks = marksFound image certificate (lowest certificate) certificate in
+    let all = both-pass (andThen marks (vectorsFound certificate wired)) _ (c₃ .1) in
+    let found = both-pass marks (vectorsFound certificate wired) (all .0) in
+    let six = leb-true (levelsOf certificate wired) 6 (unless-passes (leb (levelsOf certificate wired) 6) (plain 19) passes (all .1) .0) in
+    let length-is = image-length (length image) (c₁ .0) in
+    let same = eqb-true (length certificate) (length image) (c₂ .0) in
+    let fits : length certificate ≤ 4096 = omega (arith, at-most-4096 length-is) in
+    let vectors = vectors-pass certificate wired (found .1) in
+    record {
+      image-length = length-is;
+      certificate-length = same;
+      sources = c₃ .0;
+      marked = λ a n. lawful image certificate a n (mark-passes image certificate fits (found .0) a n);
+      start-up = vector-kind certificate 0xFFE 1 (vectors .0);
+      vectors = λ s w. source-kind certificate wired s (vectors .1 s) w;
+      counted = v .1;
+      at-most-six = omega (arith, v .1);
+    }

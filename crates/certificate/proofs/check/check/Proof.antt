@@ -1,0 +1,72 @@
+-- `check::check` meets its contract: 1, 13 and 11, then the rules.
+-- Assumes nothing.
+use native.Mathlib.Omega.{arith}
+use mathlib.Core.Path.{sym, _∙_}
+use lib.ListN.{length}
+use borrow.Author.Tests.{eq-eqb, ne-eqb, not-true, not-false}
+use Rattle.certificate.specs.Check.{checkOf}
+use Rattle.certificate.proofs.Facts.{image-length, at-most-4096}
+use borrow.Author.Needs.{needs}
+use Rattle.certificate.proofs.check.check.Statement.{statement}
+use Rattle.certificate.proofs.check.check.Tie as tie
+
+is-image-length-requires : tie.Need-is-image-length-requires
+is-image-length-requires c κs = search needs
+
+returns : tie.Need-returns
+unfolding checkOf
+returns c = rw (← c .before .is-image-length .ensures, not-true (c .before .is-image-length .result) (c .if1 .taken))
+
+returns-2 : tie.Need-returns-2
+unfolding checkOf
+returns-2 c =
+    rw (
+      ← c .before .before .is-image-length .ensures,
+      not-false (c .before .before .is-image-length .result) (c .before .if1 .left),
+      ne-eqb _ _ (c .if2 .taken),
+    )
+
+names-only-sources-requires : tie.Need-names-only-sources-requires
+names-only-sources-requires c κs = search needs
+
+returns-3 : tie.Need-returns-3
+unfolding checkOf
+returns-3 c =
+    rw (
+      ← c .before .before .before .before .is-image-length .ensures,
+      not-false (c .before .before .before .before .is-image-length .result) (c .before .before .before .if1 .left),
+      eq-eqb _ _ (c .before .before .if2 .left),
+      ← c .before .names-only-sources .ensures,
+      not-true (c .before .names-only-sources .result) (c .if3 .taken),
+    )
+
+check-rules-requires : tie.Need-check-rules-requires
+check-rules-requires c κs =
+    let image = c .before .before .before .before .before .before .before .args .image .now in
+    let asked = c .before .before .before .before .is-image-length in
+    let is-image = sym (asked .ensures) ∙ not-false (asked .result) (c .before .before .before .if1 .left) in
+    omega (arith, at-most-4096 (image-length (length image) is-image), c .before .before .if2 .left)
+
+returns-4 : tie.Need-returns-4
+unfolding checkOf
+returns-4 c =
+    rw (
+      ← c .before .before .before .before .before .is-image-length .ensures,
+      not-false (c .before .before .before .before .before .is-image-length .result) (c .before .before .before .before .if1 .left),
+      eq-eqb _ _ (c .before .before .before .if2 .left),
+      ← c .before .before .names-only-sources .ensures,
+      not-false (c .before .before .names-only-sources .result) (c .before .if3 .left),
+    )
+    (c .check-rules .ensures)
+
+pub check-spec : {M : Type 1} → statement M
+check-spec =
+    tie.close
+    (tie.spec
+    is-image-length-requires
+    returns
+    returns-2
+    names-only-sources-requires
+    returns-3
+    check-rules-requires
+    returns-4)

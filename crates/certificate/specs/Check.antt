@@ -1,0 +1,118 @@
+-- What the certificate check answers (document 01, "Check"): the first refusal that applies, or the number of levels.
+-- Assumes nothing.
+use Prim.Native.Nat.{ℕ, zero, suc, _-_}
+use mathlib.Core.Bool.{Bool, true, false, cond}
+use mathlib.Core.List.{List, [], _∷_}
+use lib.Dec.{leb, ltb, eqb}
+use lib.ListN.{length}
+use Rattle.isa.specs.Decode as decode
+use Rattle.isa.specs.Decode.{Answer, isImage, decodeAt}
+use Rattle.isa.specs.Displacement.{forwardOf}
+use Rattle.isa.specs.Flow.{flowOf}
+use Rattle.isa.specs.Refusals.{Numbered, plain, located, numbered}
+use Rattle.isa.specs.Sources.{names, namesOnlySources, vectorOf}
+use Rattle.isa.specs.declared.Flow.{Flow}
+use Rattle.isa.specs.declared.Source.{Source}
+use Rattle.isa.specs.declared.Source.the-variants.{Nmi, First, Second, Third, Fourth}
+use Rattle.certificate.specs.declared.Finding.{Finding}
+use Rattle.certificate.specs.declared.Finding.the-variants.{Passes, Fault}
+use Rattle.certificate.specs.declared.Checked.{Checked}
+use Rattle.certificate.specs.declared.Checked.the-variants.{Accepted, Refused}
+use Rattle.certificate.specs.Marks.{kindOf, needOf, kindAt, lowest}
+use Rattle.certificate.specs.Successors.{placed, successorsOf, allHaveKind, coversAll}
+use Rattle.certificate.specs.Levels.{levelsOf}
+
+-- the check's answer: "the number is Levels", or "A refusal is a number"
+pub data Verdict : Type 0 where
+  accepted : (levels : ℕ) → Verdict
+  refused : Numbered → Verdict
+
+-- the program's answer by document 01's numbers
+abbrev pub answered : Checked → Verdict
+answered (Accepted levels) = accepted levels
+answered (Refused refusal) = refused (numbered refusal)
+
+-- what a part of the check finds
+pub data Found : Type 0 where
+  passes : Found
+  fault : Numbered → Found
+
+-- the program's finding by document 01's numbers
+abbrev pub found : Finding → Found
+found Passes = passes
+found (Fault refusal) = fault (numbered refusal)
+
+-- "The first that applies is given": the refusal where a test fails, and where it passes what the rest finds
+abbrev pub unless : Bool → Numbered → Found → Found
+unless true refusal more = more
+unless false refusal more = fault refusal
+
+-- .. and the first of two parts
+abbrev pub andThen : Found → Found → Found
+andThen passes more = more
+andThen (fault refusal) more = fault refusal
+
+-- "15 misplaced RET or RETI; 16 successor or CALL target outside ROM, unmarked or of wrong kind, malformed marks counting so; 17 need too small"
+unfoldable pub flowFound : List ℕ → (a mark : ℕ) → Flow → (next : ℕ) → Found
+flowFound certificate a mark flow next =
+    unless (placed (kindOf mark) flow) (located 15 a)
+    (unless (allHaveKind certificate (successorsOf (kindOf mark) flow next)) (located 16 a)
+    (unless (coversAll certificate (needOf mark) (successorsOf (kindOf mark) flow next)) (located 17 a) passes))
+
+-- "4, 5, 4": what decoding refuses
+unfoldable pub decodedFound : List ℕ → (a mark : ℕ) → Answer → Found
+decodedFound certificate a mark (decode.instruction i bytes cycles) = flowFound certificate a mark (flowOf i a) (forwardOf a bytes)
+decodedFound certificate a mark (decode.refused refusal) = fault refusal
+
+-- "marked addresses .., at each: 14 malformed mark"
+unfoldable pub markFound : (image certificate : List ℕ) → (a mark : ℕ) → Found
+markFound image certificate a zero = passes
+markFound image certificate a (suc m) =
+    unless (ltb 0 (kindOf (suc m))) (located 14 a) (decodedFound certificate a (suc m) (decodeAt image a))
+
+-- "Then marked addresses upward": the marks of a part of the certificate, of which the first stands at address a
+unfoldable pub marksFound : (image certificate : List ℕ) → (a : ℕ) → List ℕ → Found
+marksFound image certificate a [] = passes
+marksFound image certificate a (mark ∷ marks) =
+    let more = marksFound image certificate (suc a) marks in
+    andThen (markFound image certificate a mark) more
+
+-- "18 vector kind": a vector that must have a kind
+unfoldable pub vectorFound : List ℕ → (vector kind : ℕ) → Found
+vectorFound certificate vector kind = unless (eqb (kindAt certificate vector) kind) (located 18 vector) passes
+
+-- "Each wired source's vector has kind 3."
+unfoldable pub sourceFound : List ℕ → (wired : ℕ) → Source → Found
+sourceFound certificate wired s = cond (names wired s) (vectorFound certificate (vectorOf s) 3) passes
+
+-- "Then 18 vector kind, FFEh first, then sources upward"
+unfoldable pub vectorsFound : List ℕ → (wired : ℕ) → Found
+vectorsFound certificate wired =
+    andThen (vectorFound certificate 0xFFE 1)
+    (andThen (sourceFound certificate wired Nmi)
+    (andThen (sourceFound certificate wired First)
+    (andThen (sourceFound certificate wired Second)
+    (andThen (sourceFound certificate wired Third) (sourceFound certificate wired Fourth)))))
+
+-- "19 more than six levels"
+abbrev pub levelsFound : List ℕ → (wired : ℕ) → Found
+levelsFound certificate wired = unless (leb (levelsOf certificate wired) 6) (plain 19) passes
+
+-- "Then marked addresses upward .. Then 18 ..; 19 .."
+abbrev pub rulesFound : (image certificate : List ℕ) → (wired : ℕ) → Found
+rulesFound image certificate wired =
+    andThen (andThen (marksFound image certificate (lowest certificate) certificate) (vectorsFound certificate wired))
+    (levelsFound certificate wired)
+
+-- "Accepted means that nothing under Check below applies; the number is Levels."
+abbrev pub verdict : (levels : ℕ) → Found → Verdict
+verdict levels passes = accepted levels
+verdict levels (fault refusal) = refused refusal
+
+-- "Check: 1, 13 (certificate not the image's length), 11 (wired byte). Then .."
+unfoldable pub checkOf : (image certificate : List ℕ) → (wired : ℕ) → Verdict
+checkOf image certificate wired =
+    verdict (levelsOf certificate wired)
+    (unless (isImage (length image)) (plain 1)
+    (unless (eqb (length certificate) (length image)) (plain 13)
+    (unless (namesOnlySources wired) (plain 11) (rulesFound image certificate wired))))
