@@ -1,6 +1,8 @@
 -- Refusals by document 01's numbers ("What each operation turns down").
 -- Assumes nothing.
 use Prim.Native.Nat.{ℕ}
+use Rattle.isa.specs.declared.Number.{Number}
+use Rattle.isa.specs.declared.Number.the-variants.{Plain, Located}
 use Rattle.isa.specs.declared.Refusal.{Refusal}
 use Rattle.isa.specs.declared.Refusal.the-variants as R
 
@@ -33,3 +35,8 @@ numbered R.TooManyLevels = plain 19
 numbered R.JobTooShort = plain 20
 numbered R.JobVersion = plain 21
 numbered R.JobLength = plain 22
+
+-- the program's number of a refusal
+abbrev pub asNumbered : Number → Numbered
+asNumbered (Plain n) = plain n
+asNumbered (Located n a) = located n a

@@ -5,6 +5,7 @@ pub mod decoding;
 pub mod displacement;
 pub mod encoding;
 pub mod lengths;
+pub mod refusals;
 pub mod rom;
 pub mod sources;
 pub mod successor;
@@ -90,6 +91,12 @@ pub enum Refusal {
     JobTooShort,
     JobVersion,
     JobLength,
+}
+
+// A refusal's number, alone or with an address.
+pub enum Number {
+    Plain(u8),
+    Located(u8, u16),
 }
 
 // What stands at a program address.

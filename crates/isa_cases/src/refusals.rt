@@ -5,52 +5,24 @@ use crate::text::put_address;
 use crate::text::put_number;
 use isa::Decoded;
 use isa::Instruction;
+use isa::Number;
 use isa::Operand;
 use isa::Refusal;
 use isa::Written;
 use isa::decode::decode;
+use isa::refusals::number_of;
 use isa::write::write;
 
-fn number_of(refusal: Refusal) -> u32 {
-    match refusal {
-        Refusal::ImageLength => 1,
-        Refusal::IllFormedMachine => 2,
-        Refusal::AddressRange => 3,
-        Refusal::OutsideRom(_) => 4,
-        Refusal::UndefinedOpcode(_) => 5,
-        Refusal::StackFull(_) => 6,
-        Refusal::StackEmpty(_) => 7,
-        Refusal::OperandRange => 8,
-        Refusal::BufferLength => 9,
-        Refusal::WindowAddress => 10,
-        Refusal::UnknownSource => 11,
-        Refusal::StepCount => 12,
-        Refusal::CertificateLength => 13,
-        Refusal::MalformedMark(_) => 14,
-        Refusal::MisplacedReturn(_) => 15,
-        Refusal::SuccessorKind(_) => 16,
-        Refusal::NeedTooSmall(_) => 17,
-        Refusal::VectorKind(_) => 18,
-        Refusal::TooManyLevels => 19,
-        Refusal::JobTooShort => 20,
-        Refusal::JobVersion => 21,
-        Refusal::JobLength => 22,
-    }
-}
-
-fn put_at(address: u16) {
-    put(b" ");
-    put_address(address);
-}
-
-// The number, and the address where decoding gives one.
+// The number, and the address where there is one.
 pub fn put_refusal(refusal: Refusal) {
     put(b"refused ");
-    put_number(number_of(refusal));
-    match refusal {
-        Refusal::OutsideRom(address) => put_at(address),
-        Refusal::UndefinedOpcode(address) => put_at(address),
-        _ => {}
+    match number_of(refusal) {
+        Number::Plain(number) => put_number(number as u32),
+        Number::Located(number, address) => {
+            put_number(number as u32);
+            put(b" ");
+            put_address(address);
+        }
     }
 }
 
