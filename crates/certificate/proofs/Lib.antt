@@ -1,6 +1,5 @@
 pub mod Facts
 pub mod Services
-pub mod Decoding
 pub mod Sound
 pub mod Complete
 pub mod Agreement

@@ -27,7 +27,7 @@ use Rattle.certificate.specs.Levels.{levelsOf}
 use Rattle.certificate.specs.Check.{passes, unless, flowFound, decodedFound, markFound, marksFound, vectorFound, sourceFound, vectorsFound, levelsFound, checkOf}
 use Rattle.certificate.specs.Refusals.{Some, Misplaced, WrongKind, TooSmall, malformed, outsideRom, undefinedOpcode, misplacedReturn, successorKind, needTooSmall, atInstruction, atMark, atMarks, startUp, atSource, atVectors, imageLength, certificateLength, unknownSource, tooManyLevels, AnswersFirst}
 use Rattle.certificate.proofs.Facts.{well-formed, kind-of, mark-is, both-true, image-length, at-most-4096}
-use Rattle.certificate.proofs.Decoding.{AtAddress, at-address, defined}
+use Rattle.isa.proofs.AtAddress.{AtAddress, at-address, defined}
 use Rattle.certificate.proofs.Deciding.{Decides, nothing, skip, ask, decides-then, describes}
 
 -- 15

@@ -3,6 +3,7 @@ pub mod Column
 pub mod Prefix
 pub mod GoesOn
 pub mod Reading
+pub mod AtAddress
 pub mod DecodedLength
 pub mod Targets
 pub mod RoundTrip

@@ -1,80 +1,110 @@
--- A machine that is well formed stays so, step by step.
+-- A machine that is well formed stays so under every operation.
 -- Assumes nothing.
-use Prim.Native.Nat.{ℕ, _<_}
+use Prim.Native.Nat.{ℕ, zero, suc, _<_}
 use mathlib.Core.Path.{_≡_, refl}
-use mathlib.Core.Bool.{Bool, true, false, cond}
+use mathlib.Core.Bool.{Bool, true, false, not}
 use mathlib.Core.List.{List}
 use native.Mathlib.Omega.{arith}
+use lib.Dec.{leb}
+use lib.ListN.{length, getD, replicate}
 use Rattle.isa.specs.Displacement.{forwardOf}
 use Rattle.isa.specs.RoundTrip.{Bytes}
 use Rattle.isa.specs.Flow.{flowOf}
-use Rattle.isa.specs.Decode.{decodeAt}
-use Rattle.isa.specs.Decode as decode
-use Rattle.isa.specs.declared.Instruction.{Instruction}
-use Rattle.isa.specs.declared.Source.{Source}
+use Rattle.isa.specs.Refusals.{plain}
+use Rattle.isa.specs.Decode.{isImage}
 use Rattle.isa.proofs.Targets.{targets-in-range}
-use Rattle.control.specs.declared.Control.{Control}
-use Rattle.control.specs.declared.Stop.{Stop}
-use Rattle.control.specs.declared.Stop.the-variants as stop
-use Rattle.control.specs.declared.Requested.{Requested}
-use Rattle.control.specs.declared.Requested.the-variants.{Nothing, Taken}
-use Rattle.control.specs.Stack.{Transferred}
-use Rattle.control.specs.Moving.{advanceOf}
-use Rattle.control.specs.Requests.{requestedOf, takeOf}
-use Rattle.control.specs.Forming.{wellFormed, Formed}
+use Rattle.control.specs.Forming.{Formed}
+use Rattle.control.specs.Requests.{takeOf}
 use Rattle.control.proofs.StaysFormed.{formed-exactly, stays-formed}
 use Rattle.machine.specs.declared.Machine.{Machine}
-use Rattle.machine.specs.Execute.{Execution, jumpsOf, executeOf}
-use Rattle.machine.specs.State.{viewOf, isWellFormed}
-use Rattle.machine.specs.Step.{Step, doneOf, refusedOf, stoppedOf, takenBy, takenOf, completedOf, executedOf, decodedOf, unrequestedOf, respondOf, enabledOf, advancedOf}
+use Rattle.machine.specs.Execute.{jumpsOf, executeOf}
+use Rattle.machine.specs.State.{unless, viewOf, isWellFormed, inWindow, withByte, hostStored, hostStoreOf, resetControl, resetOf, Ended, done, refused}
+use Rattle.machine.specs.Step.{Step, Answer, advancedOf, stepOf}
+use Rattle.machine.specs.Step as step
+use Rattle.machine.specs.Run.{Run, joinedBy, continuedBy, stepsOf, requestsFit, refusedRun, runOf}
+use Rattle.machine.specs.Laws.{executionAt, Does, stops, takes, idles, executes, StaysWellFormed}
+use Rattle.machine.proofs.StepDoes.{step-does, Tested, refuses, passes, step-tested}
 
 -- the machine after a step is well formed
 abbrev pub FormedStep : Step → Type 0
 FormedStep s = isWellFormed (s .machine) ≡ true
 
-module _ (image : List ℕ) (all : Bytes image) (m : Machine) (formed : isWellFormed m ≡ true) where
+module _ (image : List ℕ) (all : Bytes image) (m : Machine) (formed : isWellFormed m ≡ true) (request : ℕ) where
   facts : Formed (m .stack) (m .control)
   facts = formed-exactly .facts (m .stack) (m .control) formed
 
-  stopped : (s : Stop) (more : Step) → FormedStep more → FormedStep (stoppedOf m s more)
-  stopped stop.None more f = f
-  stopped stop.Full more f = formed
-  stopped stop.Empty more f = formed
+  by-case : (s : Step) → Does image m request s → FormedStep s
+  unfolding executeOf
+  by-case _ (stops r is) = formed
+  by-case _ (takes source e none) =
+      formed-exactly .test _ _ (stays-formed .by-request (m .stack) (m .control) facts source)
+  by-case _ (idles none asleep) = formed
+  by-case _ (executes i bytes cycles none awake at goes) =
+      formed-exactly .test _ _
+      (stays-formed .by-flow (m .stack) (m .control) facts (flowOf i (m .control .pc)) (targets-in-range image all (m .control .pc) i bytes cycles at)
+      (jumpsOf image (viewOf m) (flowOf i (m .control .pc))) (forwardOf (m .control .pc) bytes) (omega arith))
 
-  taken : (s : Source) → FormedStep (takenOf m s)
-  unfolding takenOf takenBy
-  taken s =
-      let t : Transferred = takeOf (m .stack) (m .control) s in
-      stopped (t .stop) _ (formed-exactly .test (t .stack) (t .control) (stays-formed .by-request (m .stack) (m .control) facts s))
+  advance-formed : isImage (length image) ≡ true → FormedStep (advancedOf image m request)
+  advance-formed size = by-case _ (step-does image m request size formed)
 
-  executed : (i : Instruction) (n cycles : ℕ) → decodeAt image (m .control .pc) ≡ decode.instruction i n cycles → FormedStep (executedOf image m i n cycles)
-  unfolding executedOf completedOf executeOf
-  executed i n cycles e =
-      let pc : ℕ = m .control .pc in
-      let next : ℕ = forwardOf pc n in
-      let t : Transferred = advanceOf (m .stack) (m .control) (flowOf i pc) (jumpsOf image (viewOf m) (flowOf i pc)) next in
-      stopped (t .stop) _
-      (formed-exactly .test (t .stack) (t .control)
-      (stays-formed .by-flow (m .stack) (m .control) facts (flowOf i pc) (targets-in-range image all pc i n cycles e) _ next (omega arith)))
+  -- of what the program was handed
+  pub formed-step : isImage (length image) ≡ true → (s : Step) → s ≡ advancedOf image m request → FormedStep s
+  formed-step size s e = rw e (advance-formed size)
 
-  decoded : (a : decode.Answer) → decodeAt image (m .control .pc) ≡ a → FormedStep (decodedOf image m a)
-  unfolding decodedOf
-  decoded (decode.instruction i n cycles) e = executed i n cycles e
-  decoded (decode.refused r) e = formed
+  -- a step, refused or not
+  by-test : (s : Step) → Tested image m request s → FormedStep s
+  by-test _ (refuses r) = formed
+  by-test _ (passes size w) = advance-formed size
 
-  unrequested : (asleep : Bool) → FormedStep (cond asleep (doneOf m 0) (decodedOf image m (decodeAt image (m .control .pc))))
-  unrequested true = formed
-  unrequested false = decoded (decodeAt image (m .control .pc)) refl
+  by-step : FormedStep (stepOf image m request)
+  by-step = by-test _ (step-tested image m request)
 
-  responded : (r : Requested) → FormedStep (respondOf image m r)
-  unfolding respondOf unrequestedOf
-  responded (Taken s) = taken s
-  responded Nothing = unrequested (m .control .asleep)
+-- a run, step by step
+module _ (image : List ℕ) (all : Bytes image) (requests : List ℕ) (m : Machine) (formed : isWellFormed m ≡ true) where
+  joined : (r : Run) (n : Machine) (a : Answer) → isWellFormed n ≡ true → isWellFormed (joinedBy r n a .machine) ≡ true
+  joined r n (step.done cycles) f = f
+  joined r n (step.refused reason) f = f
 
-  pub advance-formed : (request : ℕ) → FormedStep (advancedOf image m request)
-  unfolding advancedOf
-  advance-formed request = responded (requestedOf (m .control .mode) (enabledOf (m .bytes)) request)
+  continued : (r : Run) (request : ℕ) (ending : Ended) → isWellFormed (r .machine) ≡ true → isWellFormed (continuedBy image r request ending .machine) ≡ true
+  continued r request done f = joined r (stepOf image (r .machine) request .machine) (stepOf image (r .machine) request .answer) (by-step image all (r .machine) f request)
+  continued r request (refused reason) f = f
 
-  -- the same of what the program was handed
-  pub formed-step : (request : ℕ) (s : Step) → s ≡ advancedOf image m request → FormedStep s
-  formed-step request s e = rw e (advance-formed request)
+  by-steps : (n : ℕ) → isWellFormed (stepsOf image requests m n .machine) ≡ true
+  unfolding stepsOf
+  by-steps zero = formed
+  by-steps (suc n) = continued (stepsOf image requests m n) (getD requests n 0) (stepsOf image requests m n .report .ending) (by-steps n)
+
+  by-run : (n : ℕ) → isWellFormed (runOf image m requests n .machine) ≡ true
+  unfolding runOf
+  by-run n = by-tests (isImage (length image)) (isWellFormed m) (leb n 65535) (requestsFit requests n)
+    where
+      by-tests : (a b c d : Bool) → isWellFormed (unless a (refusedRun m (plain 1)) (unless b (refusedRun m (plain 2)) (unless c (refusedRun m (plain 12)) (unless d (refusedRun m (plain 11)) (stepsOf image requests m n)))) .machine) ≡ true
+      by-tests false b c d = formed
+      by-tests true false c d = formed
+      by-tests true true false d = formed
+      by-tests true true true false = formed
+      by-tests true true true true = by-steps n
+
+by-store : (m : Machine) → isWellFormed m ≡ true → (a value : ℕ) → isWellFormed (hostStoreOf m a value .machine) ≡ true
+unfolding hostStoreOf
+by-store m formed a value = by-tests (isWellFormed m) (not (inWindow a))
+  where
+    by-tests : (b c : Bool) → isWellFormed (unless b (hostStored m (refused (plain 2))) (unless c (hostStored m (refused (plain 10))) (hostStored (withByte m a value) done)) .machine) ≡ true
+    by-tests false c = formed
+    by-tests true false = formed
+    by-tests true true = formed
+
+by-reset : (m : Machine) → isWellFormed (resetOf m) ≡ true
+unfolding resetOf
+by-reset m =
+    formed-exactly .test (replicate 6 0) resetControl
+    (record { pc = omega arith; levels = omega arith; addresses = λ k h. absurd (omega arith) })
+
+pub stays-well-formed : StaysWellFormed
+stays-well-formed = record {
+  by-step = λ image all m formed request. by-step image all m formed request;
+  by-steps = by-steps;
+  by-run = λ image all m formed requests n. by-run image all requests m formed n;
+  by-store = by-store;
+  by-reset = by-reset;
+}

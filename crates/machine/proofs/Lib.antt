@@ -1,3 +1,5 @@
 pub mod Stops
+pub mod StepDoes
 pub mod Formed
 pub mod Steps
+pub mod Laws

@@ -54,7 +54,7 @@ ended-stays : (image : List ℕ) (r : Run) (request : ℕ) (n : Numbered) → r 
 ended-stays image r request n e = rw e
 
 module _ (image requests : List ℕ) (m : Machine) where
-  next-step : (i : ℕ) → stepsOf image requests m (suc i) ≡ continuedOf image (stepsOf image requests m i) (getD requests i 0)
+  pub next-step : (i : ℕ) → stepsOf image requests m (suc i) ≡ continuedOf image (stepsOf image requests m i) (getD requests i 0)
   unfolding stepsOf
   next-step i = refl
 

@@ -3,3 +3,4 @@ pub mod Execute
 pub mod State
 pub mod Step
 pub mod Run
+pub mod Laws

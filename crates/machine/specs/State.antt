@@ -71,6 +71,9 @@ pub record HostStore : Type 0 where
 abbrev pub storedOf : Stored → HostStore
 storedOf r = record { machine = r .machine; ending = endedOf (r .ending) }
 
+abbrev pub hostStored : Machine → Ended → HostStore
+hostStored m ending = record { machine = m; ending = ending }
+
 abbrev pub withByte : Machine → (a value : ℕ) → Machine
 withByte m a value = machineOf (m .control) (m .stack) (m .flags) (storeOf (m .bytes) a value)
 
@@ -81,6 +84,6 @@ inWindow a = leb 0x40 a && ltb a 0x80
 -- "Host store: 2 ill-formed machine [..]; 10 address in 40h–7Fh"
 unfoldable pub hostStoreOf : Machine → (a value : ℕ) → HostStore
 hostStoreOf m a value =
-    unless (isWellFormed m) (record { machine = m; ending = refused (plain 2) })
-    (unless (not (inWindow a)) (record { machine = m; ending = refused (plain 10) })
-    (record { machine = withByte m a value; ending = done }))
+    unless (isWellFormed m) (hostStored m (refused (plain 2)))
+    (unless (not (inWindow a)) (hostStored m (refused (plain 10)))
+    (hostStored (withByte m a value) done))

@@ -11,7 +11,7 @@ use isa::Refusal;
 use isa::sources::RESET_VECTOR;
 ghost use mathlib.Core.Path.{_≡_};
 ghost use Rattle.isa.specs.Refusals.{numbered};
-ghost use Rattle.machine.specs.State.{withByte, storedOf, resetOf, freshOf, HostStore, hostStoreOf, done, refused};
+ghost use Rattle.machine.specs.State.{withByte, storedOf, resetOf, freshOf, hostStored, hostStoreOf, done, refused};
 
 // Reset keeps all data but 0C8h and 0C9h. The slots of the stack are cleared too, so that a fresh machine is one value.
 pub fn reset(m: Machine) -> Machine
@@ -42,7 +42,7 @@ pub fn reset(m: Machine) -> Machine
 }
 
 fn stored(m: Machine, address: u8, value: u8) -> Stored
-    ensures { λ r. ⌜ storedOf r ≡ record { machine = withByte m address value; ending = done } ⌝ }
+    ensures { λ r. ⌜ storedOf r ≡ hostStored (withByte m address value) done ⌝ }
 {
     let control = m.control;
     let flags = m.flags;
@@ -61,7 +61,7 @@ fn stored(m: Machine, address: u8, value: u8) -> Stored
 }
 
 fn unstored(m: Machine, refusal: Refusal) -> Stored
-    ensures { λ r. ⌜ storedOf r ≡ record { machine = m; ending = refused (numbered refusal) } ⌝ }
+    ensures { λ r. ⌜ storedOf r ≡ hostStored m (refused (numbered refusal)) ⌝ }
 {
     Stored {
         machine: m,

@@ -71,7 +71,7 @@ loop-again c =
     let step = stepped _ _ _ _ _ _ _ (start .pre .2) (loop .inv .2) (start .pre .4) (c .before .before .before .before .before .before .before .before .before .loop-test .taken) (request .ensures) (moved .ensures) in (
       omega (arith, c .before .before .before .before .before .before .before .before .before .loop-test .taken),
       omega (arith, loop .inv .1),
-      formed-step _ (λ j. c .before .before .before .before .before .before .before .before .before .before .before .before .shared-slice-known .given j .fits) _ (loop .inv .2) _ _ (moved .ensures),
+      formed-step _ (λ j. c .before .before .before .before .before .before .before .before .before .before .before .before .shared-slice-known .given j .fits) _ (loop .inv .2) _ (start .pre .2) _ (moved .ensures),
       one-more _ _ _ _ _ _ _ _ (loop .inv .3) (rw (c .before .answer .given .1) at step),
     )
 
