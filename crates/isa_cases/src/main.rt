@@ -2,7 +2,6 @@
 // manual's notation; then the map's counts, and some refusals.
 mod notation;
 mod refusals;
-mod text;
 
 use isa::Decoded;
 use isa::Instruction;
@@ -10,12 +9,12 @@ use isa::Written;
 use isa::decode::decode;
 use isa::write::write;
 use notation::put_instruction;
-use refusals::put_refusal;
 use refusals::put_refusals;
 use std::num::wrapping_add_u32;
 use text::put;
 use text::put_byte;
 use text::put_number;
+use text::put_refusal;
 
 // What a buffer holds before an instruction is written.
 const FILL: u8 = 0xEE;

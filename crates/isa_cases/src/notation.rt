@@ -1,12 +1,12 @@
 // Instructions in the manual's notation, with targets as addresses.
-use crate::text::put;
-use crate::text::put_address;
-use crate::text::put_data;
-use crate::text::put_number;
 use isa::Flow;
 use isa::Instruction;
 use isa::Operand;
 use isa::successor::flow_of;
+use text::put;
+use text::put_address;
+use text::put_data;
+use text::put_number;
 
 fn put_register(register: u8) {
     match register {

@@ -1,30 +1,15 @@
 // Refusals by document 01's numbers, and some that decoding and writing give.
 use crate::notation::put_instruction;
-use crate::text::put;
-use crate::text::put_address;
-use crate::text::put_number;
 use isa::Decoded;
 use isa::Instruction;
-use isa::Number;
 use isa::Operand;
 use isa::Refusal;
 use isa::Written;
 use isa::decode::decode;
-use isa::refusals::number_of;
 use isa::write::write;
-
-// The number, and the address where there is one.
-pub fn put_refusal(refusal: Refusal) {
-    put(b"refused ");
-    match number_of(refusal) {
-        Number::Plain(number) => put_number(number as u32),
-        Number::Located(number, address) => {
-            put_number(number as u32);
-            put(b" ");
-            put_address(address);
-        }
-    }
-}
+use text::put;
+use text::put_number;
+use text::put_refusal;
 
 // What decoding answers at an address of an image.
 fn put_decoded(what: &[u8], image: &[u8], address: u16) {

@@ -1,4 +1,7 @@
-// Numbers and words on standard output, as the manual writes them.
+// Numbers, addresses and refusals on standard output, as the papers write them: for the programs that print what they ran.
+use isa::Number;
+use isa::Refusal;
+use isa::refusals::number_of;
 use libc::STDOUT_FILENO;
 
 pub fn put(text: &[u8]) {
@@ -35,4 +38,17 @@ pub fn put_data(n: u8) {
 pub fn put_address(n: u16) {
     let text = [digit(n / 256), digit(n / 16), digit(n)];
     put(&text);
+}
+
+// A refusal's number, and the address where there is one.
+pub fn put_refusal(refusal: Refusal) {
+    put(b"refused ");
+    match number_of(refusal) {
+        Number::Plain(number) => put_number(number as u32),
+        Number::Located(number, address) => {
+            put_number(number as u32);
+            put(b" ");
+            put_address(address);
+        }
+    }
 }

@@ -1,0 +1,70 @@
+// A machine's state in one line.
+use alu::Flags;
+use control::Mode;
+use machine::FlagPairs;
+use machine::Machine;
+use text::put;
+use text::put_address;
+use text::put_byte;
+use text::put_number;
+
+fn put_mode(mode: Mode) {
+    match mode {
+        Mode::Reset => put(b" reset"),
+        Mode::Normal => put(b" normal"),
+        Mode::Interrupt => put(b" interrupt"),
+        Mode::NmiOverNormal => put(b" NMI over normal"),
+        Mode::NmiOverInterrupt => put(b" NMI over interrupt"),
+    }
+}
+
+fn put_flag(name: &[u8], is: bool) {
+    if is {
+        put(name);
+    } else {
+        put(b"-");
+    }
+}
+
+// Z and C of a pair, a dash where one is 0.
+fn put_pair(flags: Flags) {
+    put(b"  ");
+    put_flag(b"Z", flags.zero);
+    put_flag(b"C", flags.carry);
+}
+
+fn put_pairs(pairs: FlagPairs) {
+    let normal = pairs.normal;
+    let interrupt = pairs.interrupt;
+    let nmi = pairs.nmi;
+    put_pair(normal);
+    put_pair(interrupt);
+    put_pair(nmi);
+}
+
+fn put_named(name: &[u8], value: u8) {
+    put(name);
+    put_byte(value);
+}
+
+// PC, mode, levels, sleep, the three flag pairs (normal, interrupt, NMI), and some bytes.
+pub fn put_state(m: Machine) {
+    let c = m.control;
+    let mode = c.mode;
+    let bytes = m.bytes;
+    let pairs = m.flags;
+    put_address(c.pc);
+    put_mode(mode);
+    put(b", levels ");
+    put_number(c.levels as u32);
+    if c.asleep {
+        put(b", asleep");
+    }
+    put_pairs(pairs);
+    put_named(b"  A ", bytes[0xFF]);
+    put_named(b" X ", bytes[0x80]);
+    put_named(b" Y ", bytes[0x81]);
+    put_named(b" 22h ", bytes[0x22]);
+    put_named(b" 23h ", bytes[0x23]);
+    put(b"\n");
+}
