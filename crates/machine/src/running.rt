@@ -96,9 +96,7 @@ fn all_steps(
         flags = after.flags;
         let answer = after.answer;
         match answer {
-            StepAnswer::Done(more) => {
-                cycles += more as u32;
-            }
+            StepAnswer::Done(more) => cycles += more as u32,
             StepAnswer::Refused(reason) => {
                 return progress(c, flags, i, cycles, Ending::Refused(reason));
             }
