@@ -1,0 +1,9 @@
+pub mod Stack
+pub mod Marks
+pub mod Frames
+pub mod Moves
+pub mod Requests
+pub mod Walk
+pub mod Steps
+pub mod Session
+pub mod Cases

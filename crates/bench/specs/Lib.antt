@@ -1,0 +1,4 @@
+pub mod Session
+pub mod Deeds
+pub mod Balance
+pub mod Cases
