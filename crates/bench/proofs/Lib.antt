@@ -6,4 +6,5 @@ pub mod Requests
 pub mod Walk
 pub mod Steps
 pub mod Session
+pub mod Balance
 pub mod Cases
