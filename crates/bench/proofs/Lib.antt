@@ -3,6 +3,7 @@ pub mod Marks
 pub mod Frames
 pub mod Moves
 pub mod Requests
+pub mod Framed
 pub mod Walk
 pub mod Steps
 pub mod Session

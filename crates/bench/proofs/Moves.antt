@@ -1,11 +1,10 @@
 -- A step under an accepted certificate as a move of mode, PC and return addresses; every move keeps the frames.
 -- Later theorems about steps go by these moves, and not by the step.
 -- Assumes nothing.
-use Prim.Native.Nat.{ℕ, _+_, _≤_, max}
+use Prim.Native.Nat.{ℕ, _+_, _≤_}
 use native.Mathlib.Omega.{arith}
 use mathlib.Core.Path.{_≡_, _∙_}
 use mathlib.Core.List.{List, [], _∷_}
-use lib.ListN.{length}
 use Rattle.isa.specs.Sources.{vectorOf}
 use Rattle.isa.specs.declared.Source.{Source}
 use Rattle.isa.specs.declared.Source.the-variants.{Nmi, First, Second, Third, Fourth}
@@ -46,17 +45,20 @@ pub data Moves (certificate : List ℕ) (wired : ℕ) : Deed → Mode → ℕ �
       → Moves certificate wired (took source) m p s (serviceMode source m) (vectorOf source) (p ∷ s)
 
 -- each of the sources 1 to 4 takes at most what all of them take
-first-most : (certificate : List ℕ) (wired : ℕ) → levelsFor certificate wired First ≤ sourceLevels certificate wired
-first-most certificate wired = rw source-levels (omega arith)
+pub record EachWithin (certificate : List ℕ) (wired : ℕ) : Type 0 where
+  pub one : levelsFor certificate wired First ≤ sourceLevels certificate wired
+  pub two : levelsFor certificate wired Second ≤ sourceLevels certificate wired
+  pub three : levelsFor certificate wired Third ≤ sourceLevels certificate wired
+  pub four : levelsFor certificate wired Fourth ≤ sourceLevels certificate wired
 
-second-most : (certificate : List ℕ) (wired : ℕ) → levelsFor certificate wired Second ≤ sourceLevels certificate wired
-second-most certificate wired = rw source-levels (omega arith)
-
-third-most : (certificate : List ℕ) (wired : ℕ) → levelsFor certificate wired Third ≤ sourceLevels certificate wired
-third-most certificate wired = rw source-levels (omega arith)
-
-fourth-most : (certificate : List ℕ) (wired : ℕ) → levelsFor certificate wired Fourth ≤ sourceLevels certificate wired
-fourth-most certificate wired = rw source-levels (omega arith)
+each-within : (certificate : List ℕ) (wired : ℕ) → EachWithin certificate wired
+each-within certificate wired =
+    record {
+      one = rw source-levels (omega arith);
+      two = rw source-levels (omega arith);
+      three = rw source-levels (omega arith);
+      four = rw source-levels (omega arith);
+    }
 
 module _ {certificate : List ℕ} {wired : ℕ} where
   continue : {m : Mode} {p n : ℕ} {s : List ℕ} → Frames certificate wired m p s → Continues certificate p n → Frames certificate wired m n s
@@ -89,10 +91,10 @@ module _ {certificate : List ℕ} {wired : ℕ} where
       → Frames certificate wired m p s → Frames certificate wired (serviceMode source m) (vectorOf source) (p ∷ s)
   unfolding bound
   take nmi w f = let h = within f in service nmi-normal f (w .kind) (omega arith)
-  take first w f = let h = within f in service source-normal f (w .kind) (omega (arith, first-most certificate wired))
-  take second w f = let h = within f in service source-normal f (w .kind) (omega (arith, second-most certificate wired))
-  take third w f = let h = within f in service source-normal f (w .kind) (omega (arith, third-most certificate wired))
-  take fourth w f = let h = within f in service source-normal f (w .kind) (omega (arith, fourth-most certificate wired))
+  take first w f = let h = within f in service source-normal f (w .kind) (omega (arith, each-within certificate wired .one))
+  take second w f = let h = within f in service source-normal f (w .kind) (omega (arith, each-within certificate wired .two))
+  take third w f = let h = within f in service source-normal f (w .kind) (omega (arith, each-within certificate wired .three))
+  take fourth w f = let h = within f in service source-normal f (w .kind) (omega (arith, each-within certificate wired .four))
   take nested w f = let h = within f in service nmi-interrupt f (w .kind) (omega arith)
 
   -- every move keeps the frames

@@ -1,9 +1,8 @@
 -- The request that a step takes: its byte asks for it, and the mode takes it.
 -- Assumes nothing.
 use Prim.Native.Nat.{ℕ, _+_}
-use native.Mathlib.Omega.{arith}
 use mathlib.Core.Path.{_≡_, refl}
-use mathlib.Core.Bool.{Bool, true, false, cond, _&&_, false≢true}
+use mathlib.Core.Bool.{Bool, true, false, cond, false≢true}
 use mathlib.Core.List.{List}
 use Rattle.isa.specs.Sources.{names, vectorOf}
 use Rattle.isa.specs.declared.Source.{Source}
@@ -17,7 +16,7 @@ use Rattle.certificate.specs.Marks.{needAt}
 use Rattle.certificate.specs.Levels.{levelsFor}
 use Rattle.certificate.specs.Rules.{Rules}
 use Rattle.certificate.proofs.Facts.{both-true}
-use Rattle.bench.specs.Session.{AsksOnly}
+use Rattle.bench.specs.Calls.{AsksOnly}
 use Rattle.bench.proofs.Moves.{Takes, nmi, first, second, third, fourth, nested, Wired}
 
 -- the request that is taken, if any, has a property

@@ -1,88 +1,106 @@
 -- Demand 3: every list of calls on a machine just reset keeps what an accepted certificate promises.
 -- Assumes nothing.
-use Prim.Native.Nat.{ℕ, _≤_, _<_}
+use Prim.Native.Nat.{ℕ, _≤_}
 use native.Mathlib.Omega.{arith}
 use mathlib.Core.Path.{_≡_, refl}
 use mathlib.Core.Logic.{_⊎_, inl, inr}
-use mathlib.Core.Bool.{Bool, true, false, not}
+use mathlib.Core.Bool.{Bool, true, false, not, false≢true}
 use mathlib.Core.List.{List, [], _∷_}
 use lib.Dec.{leb}
 use lib.ListN.{getD}
 use Rattle.isa.specs.Refusals.{plain}
 use Rattle.isa.specs.Sources.{namesOnlySources}
+use Rattle.isa.specs.declared.Source.the-variants.{Nmi, First, Second, Third, Fourth}
 use Rattle.machine.specs.declared.Machine.{Machine}
 use Rattle.machine.specs.State as state
 use Rattle.machine.specs.State.{unless, HostStore, withByte, inWindow, hostStoreOf, resetOf}
-use Rattle.machine.specs.Step.{stepOf}
+use Rattle.machine.specs.Step.{Step, stepOf}
 use Rattle.machine.specs.Run.{Run, refusedRun, stepsOf, requestsFit, runOf}
 use Rattle.machine.proofs.Steps.{fits-at}
 use Rattle.certificate.specs.Rules.{Rules}
 use Rattle.certificate.proofs.Agreement.{agreement}
-use Rattle.bench.specs.Session.{Call, step, run, store, reset, leaves, AsksOnly, FirstAskOnly, CallAsksOnly, AllAskOnly, StepRefused, RunRefused, RunDone, StoreRefused, StoreDone, StepsWithin, Keeps, AllKeep, Promised, NeverStops}
-use Rattle.bench.proofs.Walk.{GoodMachine, good-after}
-use Rattle.bench.proofs.Steps.{levels-within, well-formed, reset-good, step-goes, step-refused, run-is, AllGo, steps-go}
+use Rattle.bench.specs.Calls.{Call, step, run, store, reset, leaves, AsksOnly, FirstAskOnly, CallAsksOnly, AllAskOnly, NoneAsks}
+use Rattle.bench.specs.Session.{StepRefused, StepDone, RunRefused, RunDone, StoreRefused, StoreDone, Keeps, AllKeep, Promised, NeverStops}
+use Rattle.bench.proofs.Framed.{FramedMachine, reset-framed, levels-within, well-formed}
+use Rattle.bench.proofs.Walk.{framed-after}
+use Rattle.bench.proofs.Steps.{step-goes, step-refused, run-is, AllGo, steps-go}
+
+pub none-asks : NoneAsks
+none-asks wired Nmi e = absurd (false≢true e)
+none-asks wired First e = absurd (false≢true e)
+none-asks wired Second e = absurd (false≢true e)
+none-asks wired Third e = absurd (false≢true e)
+none-asks wired Fourth e = absurd (false≢true e)
 
 module _ (image certificate : List ℕ) (wired number : ℕ) (ok : Rules image certificate wired number) where
-  -- a call keeps the promise, and leaves frames again
-  abbrev pub Kept : Call → Machine → Type 0
-  Kept c m = Keeps image number c m × GoodMachine certificate wired (leaves image c m)
+  -- what a call answers keeps the promise, and the machine that it leaves has frames
+  module _ (m : Machine) (g : FramedMachine certificate wired m) where
+    abbrev StepKept : Step → Type 0
+    StepKept s = (StepRefused m 11 s ⊎ StepDone s) × FramedMachine certificate wired (s .machine)
 
-  step-kept : (m : Machine) (request : ℕ) → AsksOnly wired request → GoodMachine certificate wired m → Kept (step request) m
+    step-kept : (request : ℕ) → AsksOnly wired request → StepKept (stepOf image m request)
+    step-kept request asks = by-test (namesOnlySources request) refl
+      where
+        by-test : (known : Bool) → namesOnlySources request ≡ known → StepKept (stepOf image m request)
+        by-test true e =
+            let a = step-goes image certificate wired number ok m g request e asks in
+            (inr (a .done), framed-after certificate wired a g)
+        by-test false e = rw (step-refused image certificate wired number ok m g request e) (inl (record { refusal = refl; same = refl }), g)
+
+    -- a host store leaves control and stack as they are
+    abbrev StoreKept : HostStore → Type 0
+    StoreKept s = (StoreRefused m 10 s ⊎ StoreDone s) × FramedMachine certificate wired (s .machine)
+
+    store-kept : (address value : ℕ) → StoreKept (hostStoreOf m address value)
+    unfolding hostStoreOf
+    store-kept address value = rw (well-formed image certificate wired number ok m g) (by-test (not (inWindow address)))
+      where
+        by-test : (outside : Bool)
+            → StoreKept (unless outside (record { machine = m; ending = state.refused (plain 10) }) (record { machine = withByte m address value; ending = state.done }))
+        by-test true = (inr (record { ending = refl }), g)
+        by-test false = (inl (record { refusal = refl; same = refl }), g)
+
+    module _ (requests : List ℕ) (n : ℕ) (asks : FirstAskOnly wired requests n) where
+      abbrev RunKept : Run → Type 0
+      RunKept r =
+          ((RunRefused m 12 r ⊎ RunRefused m 11 r) ⊎ RunDone image number requests m n r) × FramedMachine certificate wired (r .machine)
+
+      run-done : requestsFit requests n ≡ true → RunKept (stepsOf image requests m n)
+      run-done fit = (inr done, first n (omega arith) .framed)
+        where
+          first : (j : ℕ) → j ≤ n → AllGo certificate wired j (stepsOf image requests m j)
+          first j h = steps-go image certificate wired number ok m g requests j (λ i l. fits-at requests n fit i (omega arith)) (λ i l. asks i (omega arith))
+
+          done : RunDone image number requests m n (stepsOf image requests m n)
+          done =
+              record {
+                ending = first n (omega arith) .ending;
+                steps = refl;
+                all = first n (omega arith) .all;
+                each = λ j h.
+                    step-goes image certificate wired number ok (stepsOf image requests m j .machine) (first j (omega arith) .framed)
+                    (getD requests j 0) (fits-at requests n fit j h) (asks j h) .done;
+                within = λ j h. levels-within image certificate wired number ok (stepsOf image requests m j .machine) (first j h .framed);
+              }
+
+      run-kept : RunKept (runOf image m requests n)
+      run-kept = rw (run-is image certificate wired number ok m g requests n) (by-tests (leb n 65535) (requestsFit requests n) refl)
+        where
+          by-tests : (short fit : Bool) → requestsFit requests n ≡ fit
+              → RunKept (unless short (refusedRun m (plain 12)) (unless fit (refusedRun m (plain 11)) (stepsOf image requests m n)))
+          by-tests false fit e = (inl (inl (record { refusal = refl; no-steps = refl; no-cycles = refl; same = refl })), g)
+          by-tests true false e = (inl (inr (record { refusal = refl; no-steps = refl; no-cycles = refl; same = refl })), g)
+          by-tests true true e = run-done e
+
+  pub call-kept : (c : Call) (m : Machine) → CallAsksOnly wired c → FramedMachine certificate wired m
+      → Keeps image number c m × FramedMachine certificate wired (leaves image c m)
   unfolding leaves
-  step-kept m request asks g = by-test (namesOnlySources request) refl
-    where
-      by-test : (b : Bool) → namesOnlySources request ≡ b → Keeps image number (step request) m × GoodMachine certificate wired (stepOf image m request .machine)
-      by-test true e =
-          let a = step-goes image certificate wired number ok m request e asks g in
-          (inr (a .done), good-after certificate wired a g)
-      by-test false e = rw (step-refused image certificate wired number ok m request e g) (inl (record { refusal = refl; same = refl }), g)
+  call-kept (step request) m asks g = step-kept m g request asks
+  call-kept (run requests n) m asks g = run-kept m g requests n asks
+  call-kept (store address value) m asks g = store-kept m g address value
+  call-kept reset m asks g = (tt, reset-framed image certificate wired number ok m)
 
-  -- a host store leaves control and stack as they are
-  StoreKept : Machine → HostStore → Type 0
-  StoreKept m s = (StoreRefused m 10 s ⊎ StoreDone s) × GoodMachine certificate wired (s .machine)
-
-  store-kept : (m : Machine) (address value : ℕ) → GoodMachine certificate wired m → StoreKept m (hostStoreOf m address value)
-  unfolding hostStoreOf StoreKept
-  store-kept m address value g = rw (well-formed image certificate wired number ok m g) (by-test (not (inWindow address)))
-    where
-      by-test : (b : Bool) → StoreKept m (unless b (record { machine = m; ending = state.refused (plain 10) }) (record { machine = withByte m address value; ending = state.done }))
-      by-test true = (inr (record { ending = refl }), record { six = g .six; frames = g .frames })
-      by-test false = (inl (record { refusal = refl; same = refl }), g)
-
-  -- a run
-  RunKept : Machine → (requests : List ℕ) → (n : ℕ) → Run → Type 0
-  RunKept m requests n r =
-      ((RunRefused m 12 r ⊎ RunRefused m 11 r) ⊎ (RunDone n r × StepsWithin image number requests m n)) × GoodMachine certificate wired (r .machine)
-
-  run-goes : (m : Machine) (requests : List ℕ) (n : ℕ) → requestsFit requests n ≡ true → FirstAskOnly wired requests n → GoodMachine certificate wired m
-      → RunKept m requests n (stepsOf image requests m n)
-  unfolding RunKept
-  run-goes m requests n fit asks g = (inr (first n (omega arith) .done, steps-within), first n (omega arith) .good)
-    where
-      first : (j : ℕ) → j ≤ n → AllGo certificate wired j (stepsOf image requests m j)
-      first j h = steps-go image certificate wired number ok requests j (λ i l. fits-at requests n fit i (omega arith)) (λ i l. asks i (omega arith)) m g
-
-      steps-within : StepsWithin image number requests m n
-      steps-within j h = levels-within image certificate wired number ok (stepsOf image requests m j .machine) (first j h .good)
-
-  run-kept : (m : Machine) (requests : List ℕ) (n : ℕ) → FirstAskOnly wired requests n → GoodMachine certificate wired m → RunKept m requests n (runOf image m requests n)
-  unfolding RunKept
-  run-kept m requests n asks g = rw (run-is image certificate wired number ok m requests n g) (by-tests (leb n 65535) (requestsFit requests n) refl)
-    where
-      by-tests : (short fit : Bool) → requestsFit requests n ≡ fit
-          → RunKept m requests n (unless short (refusedRun m (plain 12)) (unless fit (refusedRun m (plain 11)) (stepsOf image requests m n)))
-      by-tests false fit e = (inl (inl (record { refusal = refl; no-steps = refl; no-cycles = refl; same = refl })), g)
-      by-tests true false e = (inl (inr (record { refusal = refl; no-steps = refl; no-cycles = refl; same = refl })), g)
-      by-tests true true e = run-goes m requests n e asks g
-
-  pub call-kept : (c : Call) (m : Machine) → CallAsksOnly wired c → GoodMachine certificate wired m → Kept c m
-  unfolding leaves StoreKept RunKept
-  call-kept (step request) m asks g = step-kept m request asks g
-  call-kept (run requests n) m asks g = run-kept m requests n asks g
-  call-kept (store address value) m asks g = store-kept m address value g
-  call-kept reset m asks g = (tt, reset-good image certificate wired number ok m)
-
-  all-keep : (calls : List Call) (m : Machine) → AllAskOnly wired calls → GoodMachine certificate wired m → AllKeep image number calls m
+  all-keep : (calls : List Call) (m : Machine) → AllAskOnly wired calls → FramedMachine certificate wired m → AllKeep image number calls m
   all-keep [] m asks g = levels-within image certificate wired number ok m g
   all-keep (c ∷ calls) m asks g =
       let k = call-kept c m (asks .0) g in
@@ -91,7 +109,7 @@ module _ (image certificate : List ℕ) (wired number : ℕ) (ok : Rules image c
 -- the certificate's rules suffice
 pub rules-suffice : (image certificate : List ℕ) (wired number : ℕ) → Rules image certificate wired number → Promised image wired number
 rules-suffice image certificate wired number ok =
-    (ok .at-most-six, λ m calls asks. all-keep image certificate wired number ok calls (resetOf m) asks (reset-good image certificate wired number ok m))
+    (ok .at-most-six, λ m calls asks. all-keep image certificate wired number ok calls (resetOf m) asks (reset-framed image certificate wired number ok m))
 
 -- DEMAND 3
 pub never-stops : NeverStops

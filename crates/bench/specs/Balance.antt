@@ -11,7 +11,8 @@ use Rattle.machine.specs.declared.Machine.{Machine}
 use Rattle.machine.specs.State.{resetOf}
 use Rattle.machine.specs.Run.{stepsOf, requestsFit}
 use Rattle.certificate.specs.Check.{checkOf, accepted}
-use Rattle.bench.specs.Session.{Call, step, run, store, reset, leaves, leavesAll, AllAskOnly, levelsInUse}
+use Rattle.bench.specs.Calls.{Call, step, run, store, reset, leaves, leavesAll, AllAskOnly}
+use Rattle.bench.specs.Session.{levelsInUse}
 use Rattle.bench.specs.Deeds.{Deed, took, called, returned, left, began, other, deedOf}
 
 -- "the pushes since the last reset", and "the pops"
@@ -69,3 +70,7 @@ Balanced =
     (image certificate : List ℕ) (wired number : ℕ) → checkOf image certificate wired ≡ accepted number
     → (m : Machine) (calls : List Call) → AllAskOnly wired calls
     → Balances (levelsInUse (leavesAll image calls (resetOf m))) (allCounted image calls (resetOf m) cleared)
+
+-- the machine's own count is the number of return addresses
+abbrev pub LevelsCounted : Type 0
+LevelsCounted = (m : Machine) → levelsInUse m ≡ m .control .levels

@@ -1,3 +1,4 @@
+pub mod Calls
 pub mod Session
 pub mod Deeds
 pub mod Balance

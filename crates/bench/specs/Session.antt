@@ -1,14 +1,12 @@
--- Demand 3: what holds of every list of calls on one machine, once a certificate is accepted (document 01, "The certificate", last paragraph).
+-- DEMAND 3: what holds of every list of calls on one machine, once a certificate is accepted (the customer's demand 3; document 01, "The
+-- certificate", last paragraph). The claim is `NeverStops`, at the end.
 -- Assumes nothing.
 use Prim.Native.Nat.{ℕ, _≤_, _<_}
 use mathlib.Core.Path.{_≡_}
 use mathlib.Core.Logic.{_⊎_}
-use mathlib.Core.Bool.{true}
 use mathlib.Core.List.{List, [], _∷_}
 use lib.ListN.{length, getD}
 use Rattle.isa.specs.Refusals.{plain}
-use Rattle.isa.specs.Sources.{names}
-use Rattle.isa.specs.declared.Source.{Source}
 use Rattle.control.specs.Stack.{inUse}
 use Rattle.machine.specs.declared.Machine.{Machine}
 use Rattle.machine.specs.State as state
@@ -17,45 +15,7 @@ use Rattle.machine.specs.Step as stepping
 use Rattle.machine.specs.Step.{Step, stepOf}
 use Rattle.machine.specs.Run.{Run, stepsOf, runOf}
 use Rattle.certificate.specs.Check.{checkOf, accepted}
-
--- "any list, in any order, of steps and runs of that image, host stores of any byte at any address, and resets"
-pub data Call : Type 0 where
-  step : (request : ℕ) → Call
-  run : (requests : List ℕ) (n : ℕ) → Call
-  store : (address value : ℕ) → Call
-  reset : Call
-
--- "each call gets the machine as the one before left it": the machine as a call leaves it
-unfoldable pub leaves : (image : List ℕ) → Call → Machine → Machine
-leaves image (step request) m = stepOf image m request .machine
-leaves image (run requests n) m = runOf image m requests n .machine
-leaves image (store address value) m = hostStoreOf m address value .machine
-leaves image reset m = resetOf m
-
--- the machine as a list of calls leaves it
-abbrev pub leavesAll : (image : List ℕ) → List Call → Machine → Machine
-leavesAll image [] m = m
-leavesAll image (c ∷ calls) m = leavesAll image calls (leaves image c m)
-
--- "sets none of bits 0 to 4 but those of wired sources"; bits 5 to 7 are free, and the call is then refused
-abbrev pub AsksOnly : (wired request : ℕ) → Type 0
-AsksOnly wired request = (s : Source) → names request s ≡ true → names wired s ≡ true
-
--- each of the first n request bytes of a run; past the list's end the byte is 0
-abbrev pub FirstAskOnly : (wired : ℕ) → (requests : List ℕ) → (n : ℕ) → Type 0
-FirstAskOnly wired requests n = (i : ℕ) → i < n → AsksOnly wired (getD requests i 0)
-
--- "A step's request byte, and each of the first n of a run of n steps"
-abbrev pub CallAsksOnly : (wired : ℕ) → Call → Type 0
-CallAsksOnly wired (step request) = AsksOnly wired request
-CallAsksOnly wired (run requests n) = FirstAskOnly wired requests n
-CallAsksOnly wired (store address value) = Unit {0}
-CallAsksOnly wired reset = Unit {0}
-
--- "at any step any wired sources may ask, and no others"
-abbrev pub AllAskOnly : (wired : ℕ) → List Call → Type 0
-AllAskOnly wired [] = Unit {0}
-AllAskOnly wired (c ∷ calls) = CallAsksOnly wired c × AllAskOnly wired calls
+use Rattle.bench.specs.Calls.{Call, step, run, store, reset, leaves, AllAskOnly}
 
 -- "the return addresses on the stack", the top first
 abbrev pub returnAddresses : Machine → List ℕ
@@ -82,10 +42,17 @@ pub record RunRefused (m : Machine) (number : ℕ) (r : Run) : Type 0 where
   pub no-cycles : r .report .cycles ≡ 0
   pub same : r .machine ≡ m
 
--- "every run not refused completes all the steps it was asked for"; "a run not refused reports n steps"
-pub record RunDone (n : ℕ) (r : Run) : Type 0 where
+-- a run that is not refused
+pub record RunDone (image : List ℕ) (number : ℕ) (requests : List ℕ) (m : Machine) (n : ℕ) (r : Run) : Type 0 where
+  -- it does not end early, and is its n single steps
   pub ending : r .report .ending ≡ state.done
+  pub steps : r ≡ stepsOf image requests m n
+  -- "every run not refused completes all the steps it was asked for"; "a run not refused reports n steps"
   pub all : r .report .steps ≡ n
+  -- "no step ever stops, alone or in a run"
+  pub each : (j : ℕ) → j < n → StepDone (stepOf image (stepsOf image requests m j .machine) (getD requests j 0))
+  -- "after every step of a run, the levels in use are at most that number"
+  pub within : (j : ℕ) → j ≤ n → levelsInUse (stepsOf image requests m j .machine) ≤ number
 
 -- a host store is refused with a number, and leaves the machine as it was
 pub record StoreRefused (m : Machine) (number : ℕ) (s : HostStore) : Type 0 where
@@ -96,16 +63,12 @@ pub record StoreRefused (m : Machine) (number : ℕ) (s : HostStore) : Type 0 wh
 pub record StoreDone (s : HostStore) : Type 0 where
   pub ending : s .ending ≡ state.done
 
--- "after every step of a run, the levels in use are at most that number"
-abbrev pub StepsWithin : (image : List ℕ) → (number : ℕ) → (requests : List ℕ) → Machine → (n : ℕ) → Type 0
-StepsWithin image number requests m n = (j : ℕ) → j ≤ n → levelsInUse (stepsOf image requests m j .machine) ≤ number
-
 -- "a step is refused only with 11, a run only with 12 or 11, a host store only with 10, and reset never"; else each is done
 abbrev pub Keeps : (image : List ℕ) → (number : ℕ) → Call → Machine → Type 0
 Keeps image number (step request) m = StepRefused m 11 (stepOf image m request) ⊎ StepDone (stepOf image m request)
 Keeps image number (run requests n) m =
     (RunRefused m 12 (runOf image m requests n) ⊎ RunRefused m 11 (runOf image m requests n))
-    ⊎ (RunDone n (runOf image m requests n) × StepsWithin image number requests m n)
+    ⊎ RunDone image number requests m n (runOf image m requests n)
 Keeps image number (store address value) m =
     StoreRefused m 10 (hostStoreOf m address value) ⊎ StoreDone (hostStoreOf m address value)
 Keeps image number reset m = Unit {0}
