@@ -27,7 +27,7 @@ leaves image (run requests n) m = runOf image m requests n .machine
 leaves image (store address value) m = hostStoreOf m address value .machine
 leaves image reset m = resetOf m
 
--- the machine as a list of calls leaves it
+-- "each call gets the machine as the one before left it, nobody else writes it": the machine as a list of calls leaves it
 abbrev pub leavesAll : (image : List ℕ) → List Call → Machine → Machine
 leavesAll image [] m = m
 leavesAll image (c ∷ calls) m = leavesAll image calls (leaves image c m)
@@ -36,7 +36,7 @@ leavesAll image (c ∷ calls) m = leavesAll image calls (leaves image c m)
 abbrev pub AsksOnly : (wired request : ℕ) → Type 0
 AsksOnly wired request = (s : Source) → names request s ≡ true → names wired s ≡ true
 
--- each of the first n request bytes of a run; past the list's end the byte is 0
+-- "each of the first n of a run of n steps": "request byte i at step i and none past the lent list's end", where it is 0
 abbrev pub FirstAskOnly : (wired : ℕ) → (requests : List ℕ) → (n : ℕ) → Type 0
 FirstAskOnly wired requests n = (i : ℕ) → i < n → AsksOnly wired (getD requests i 0)
 
@@ -52,6 +52,6 @@ abbrev pub AllAskOnly : (wired : ℕ) → List Call → Type 0
 AllAskOnly wired [] = Unit {0}
 AllAskOnly wired (c ∷ calls) = CallAsksOnly wired c × AllAskOnly wired calls
 
--- a step past the end of a run's list, "none past the lent list's end", is not constrained: its byte, 0, names no source
+-- "none past the lent list's end": nothing is asked of a run there, since the byte 0 names no source
 abbrev pub NoneAsks : Type 0
 NoneAsks = (wired : ℕ) → AsksOnly wired 0

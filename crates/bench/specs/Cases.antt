@@ -1,10 +1,13 @@
 -- Demand 3 of an image and a certificate of document 01's bench cases, so that it is no claim about nothing.
 -- Assumes nothing.
 use Prim.Native.Nat.{ℕ, _-_}
+use mathlib.Core.Path.{_≡_}
 use mathlib.Core.List.{List, [], _∷_}
 use lib.ListN.{replicate}
 use lib.Seq.{sets}
-use Rattle.bench.specs.Session.{Promised}
+use Rattle.machine.specs.State.{freshOf}
+use Rattle.bench.specs.Calls.{run, leaves}
+use Rattle.bench.specs.Session.{levelsInUse, Promised}
 
 -- bytes put at a program address of a 2K image
 abbrev put : (address : ℕ) → List ℕ → List ℕ → List ℕ
@@ -21,3 +24,7 @@ image11 =
 -- "wired 01h: [..] `accepted 2`": no step of it ever stops, and it never uses more than two levels
 abbrev pub P11NeverStops : Type 0
 P11NeverStops = Promised image11 0x01 2
+
+-- and two levels it does use: a fresh machine ends start-up, calls 890h, and takes NMI's request there
+abbrev pub P11UsesTwo : Type 0
+P11UsesTwo = levelsInUse (leaves image11 (run (0x00 ∷ 0x00 ∷ 0x00 ∷ 0x01 ∷ []) 4) freshOf) ≡ 2

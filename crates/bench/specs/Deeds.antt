@@ -17,16 +17,22 @@ use Rattle.control.specs.Requests.{requestedOf}
 use Rattle.machine.specs.declared.Machine.{Machine}
 use Rattle.machine.specs.Step.{enabledOf}
 
--- "Taking one pushes PC", "CALL pushes its address plus 2", RET pops, "RETI pops PC"; "in reset mode with an empty stack it pops nothing"
+-- what a step does, of all that pushes and pops (document 01, "Modes, stack, sleep")
 pub data Deed : Type 0 where
+  -- "Taking one pushes PC"
   took : (source : Source) → Deed
+  -- "CALL pushes its address plus 2."
   called : Deed
+  -- RET, which pops: "7 pop on an empty stack, save as said for RETI"
   returned : Deed
+  -- "RETI pops PC and returns to the mode beneath"
   left : Deed
+  -- RETI too: "in reset mode with an empty stack it pops nothing and goes on at the next address"
   began : Deed
+  -- any other instruction; "a sleeping step with nothing to take is idle"
   other : Deed
 
--- of an instruction, by its flow
+-- of an instruction, by where it continues
 unfoldable pub flowDeed : Control → Flow → Deed
 flowDeed c flow.Next = other
 flowDeed c (flow.Jump to) = other
@@ -36,7 +42,7 @@ flowDeed c flow.Return = returned
 flowDeed c flow.ReturnFromInterrupt = cond (endsStartUp c) began left
 flowDeed c flow.Sleep = other
 
--- of what decoding answers at PC
+-- "4 and 5 as in decoding": of what stands at PC
 unfoldable pub decodedDeed : Control → decode.Answer → Deed
 decodedDeed c (decode.instruction i bytes cycles) = flowDeed c (flowOf i (c .pc))
 decodedDeed c (decode.refused r) = other
@@ -50,6 +56,6 @@ unfoldable pub respondDeed : (image : List ℕ) → Control → Requested → De
 respondDeed image c (Taken source) = took source
 respondDeed image c Nothing = unrequestedDeed image c
 
--- of a step that is not refused and does not stop
+-- of a step, where it is not refused and does not stop
 unfoldable pub deedOf : (image : List ℕ) → Machine → (request : ℕ) → Deed
 deedOf image m request = respondDeed image (m .control) (requestedOf (m .control .mode) (enabledOf (m .bytes)) request)
