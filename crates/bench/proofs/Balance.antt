@@ -1,0 +1,130 @@
+-- Levels in use are the pushes since the last reset less the pops.
+-- Assumes nothing.
+use Prim.Native.Nat.{ℕ, zero, suc}
+use native.Mathlib.Omega.{arith}
+use mathlib.Core.Path.{_≡_, refl}
+use mathlib.Core.Bool.{Bool, true, false, cond, not, _&&_}
+use mathlib.Core.List.{List, [], _∷_}
+use lib.Dec.{leb}
+use lib.ListN.{length, getD}
+use Rattle.isa.specs.Refusals.{plain}
+use Rattle.isa.specs.Sources.{namesOnlySources}
+use Rattle.control.specs.declared.Mode.{Mode}
+use Rattle.machine.specs.declared.Machine.{Machine}
+use Rattle.machine.specs.State as state
+use Rattle.machine.specs.State.{unless, Ended, HostStore, withByte, inWindow, hostStoreOf, resetOf}
+use Rattle.machine.specs.Step as stepping
+use Rattle.machine.specs.Step.{Answer, stepOf}
+use Rattle.machine.specs.Run.{Run, refusedRun, joinedBy, continuedBy, stepsOf, requestsFit, runOf}
+use Rattle.machine.proofs.Steps.{fits-at}
+use Rattle.certificate.specs.Rules.{Rules}
+use Rattle.certificate.proofs.Agreement.{agreement}
+use Rattle.bench.specs.Calls.{Call, step, run, store, reset, leaves, leavesAll, AsksOnly, FirstAskOnly, CallAsksOnly, AllAskOnly}
+use Rattle.bench.specs.Session.{levelsInUse}
+use Rattle.bench.specs.Deeds.{Deed, deedOf}
+use Rattle.bench.specs.Balance.{Tally, cleared, counted, stepCounted, stepsCounted, callCounted, allCounted, Balances, Balanced, LevelsCounted}
+use Rattle.bench.proofs.Stack.{length-inUse}
+use Rattle.bench.proofs.Moves as moves
+use Rattle.bench.proofs.Moves.{Moves}
+use Rattle.bench.proofs.Framed.{FramedMachine, reset-framed, well-formed}
+use Rattle.bench.proofs.Steps.{FirstKnown, step-goes, step-refused, run-is, steps-go}
+use Rattle.bench.proofs.Session.{call-kept}
+
+pub levels-counted : LevelsCounted
+unfolding levelsInUse
+levels-counted m = length-inUse (m .control .levels) (m .stack)
+
+-- a move has one address more exactly where it pushes, and one less where it pops
+pub move-balances : {certificate : List ℕ} {wired : ℕ} {d : Deed} {m m′ : Mode} {p p′ : ℕ} {s s′ : List ℕ}
+    → Moves certificate wired d m p s m′ p′ s′ → (t : Tally) → Balances (length s) t → Balances (length s′) (counted t d)
+unfolding counted
+move-balances moves.idles t b = b
+move-balances (moves.continues c) t b = b
+move-balances (moves.calls c) t b = omega arith
+move-balances (moves.returns k) t b = omega arith
+move-balances (moves.leaves k) t b = omega arith
+move-balances (moves.begins e) t b = b
+move-balances (moves.takes a w) t b = omega arith
+
+-- the machine after one more step of a run
+joined-machine : (r : Run) (m : Machine) (a : Answer) → joinedBy r m a .machine ≡ m
+joined-machine r m (stepping.done cycles) = refl
+joined-machine r m (stepping.refused n) = refl
+
+continued-machine : (image : List ℕ) (r : Run) (request : ℕ) (e : Ended) → e ≡ state.done
+    → continuedBy image r request e .machine ≡ stepOf image (r .machine) request .machine
+continued-machine image r request e q =
+    rw q (joined-machine r (stepOf image (r .machine) request .machine) (stepOf image (r .machine) request .answer))
+
+-- the levels in use of a machine balance
+abbrev BalancesAt : Machine → Tally → Type 0
+BalancesAt m t = Balances (levelsInUse m) t
+
+just-reset : (m : Machine) → BalancesAt (resetOf m) cleared
+unfolding levelsInUse resetOf
+just-reset m = refl
+
+module _ (image certificate : List ℕ) (wired number : ℕ) (ok : Rules image certificate wired number) where
+  step-balances : (m : Machine) → FramedMachine certificate wired m → (request : ℕ) → AsksOnly wired request → (t : Tally) → BalancesAt m t
+      → BalancesAt (stepOf image m request .machine) (stepCounted image m request t)
+  unfolding stepCounted levelsInUse
+  step-balances m g request asks t b = by-test (namesOnlySources request) refl
+    where
+      by-test : (known : Bool) → namesOnlySources request ≡ known
+          → BalancesAt (stepOf image m request .machine) (cond known (counted t (deedOf image m request)) t)
+      by-test true e = move-balances (step-goes image certificate wired number ok m g request e asks .moves) t b
+      by-test false e = rw (step-refused image certificate wired number ok m g request e) b
+
+  module _ (m : Machine) (g : FramedMachine certificate wired m) (t : Tally) (b : BalancesAt m t) where
+    steps-balance : (requests : List ℕ) (n : ℕ) → FirstKnown requests n → FirstAskOnly wired requests n
+        → BalancesAt (stepsOf image requests m n .machine) (stepsCounted image requests m n t)
+    unfolding stepsOf stepsCounted
+    steps-balance requests zero known asks = b
+    steps-balance requests (suc n) known asks =
+        let before = steps-go image certificate wired number ok m g requests n (λ i h. known i (omega arith)) (λ i h. asks i (omega arith)) in
+        rw (continued-machine image (stepsOf image requests m n) (getD requests n 0) _ (before .ending))
+        (step-balances (stepsOf image requests m n .machine) (before .framed) (getD requests n 0) (asks n (omega arith)) (stepsCounted image requests m n t)
+        (steps-balance requests n (λ i h. known i (omega arith)) (λ i h. asks i (omega arith))))
+
+    run-balances : (requests : List ℕ) (n : ℕ) → FirstAskOnly wired requests n
+        → BalancesAt (runOf image m requests n .machine) (cond (leb n 65535 && requestsFit requests n) (stepsCounted image requests m n t) t)
+    run-balances requests n asks =
+        rw (run-is image certificate wired number ok m g requests n) (by-tests (leb n 65535) (requestsFit requests n) refl)
+      where
+        by-tests : (short fit : Bool) → requestsFit requests n ≡ fit
+            → BalancesAt (unless short (refusedRun m (plain 12)) (unless fit (refusedRun m (plain 11)) (stepsOf image requests m n)) .machine)
+            (cond (short && fit) (stepsCounted image requests m n t) t)
+        by-tests false fit e = b
+        by-tests true false e = b
+        by-tests true true e = steps-balance requests n (fits-at requests n e) asks
+
+    store-balances : (address value : ℕ) → BalancesAt (hostStoreOf m address value .machine) t
+    unfolding hostStoreOf levelsInUse
+    store-balances address value = rw (well-formed image certificate wired number ok m g) (by-test (not (inWindow address)))
+      where
+        stored : (outside : Bool) → HostStore
+        stored outside = unless outside (record { machine = m; ending = state.refused (plain 10) }) (record { machine = withByte m address value; ending = state.done })
+
+        by-test : (outside : Bool) → BalancesAt (stored outside .machine) t
+        by-test true = b
+        by-test false = b
+
+  call-balances : (c : Call) (m : Machine) → CallAsksOnly wired c → FramedMachine certificate wired m → (t : Tally) → BalancesAt m t
+      → BalancesAt (leaves image c m) (callCounted image c m t)
+  unfolding leaves callCounted
+  call-balances (step request) m asks g t b = step-balances m g request asks t b
+  call-balances (run requests n) m asks g t b = run-balances m g t b requests n asks
+  call-balances (store address value) m asks g t b = store-balances m g t b address value
+  call-balances reset m asks g t b = just-reset m
+
+  all-balance : (calls : List Call) (m : Machine) → AllAskOnly wired calls → FramedMachine certificate wired m → (t : Tally) → BalancesAt m t
+      → BalancesAt (leavesAll image calls m) (allCounted image calls m t)
+  all-balance [] m asks g t b = b
+  all-balance (c ∷ calls) m asks g t b =
+      all-balance calls (leaves image c m) (asks .1) (call-kept image certificate wired number ok c m (asks .0) g .1)
+      (callCounted image c m t) (call-balances c m (asks .0) g t b)
+
+pub balanced : Balanced
+balanced image certificate wired number e m calls asks =
+    let ok = agreement image certificate wired number .sound e in
+    all-balance image certificate wired number ok calls (resetOf m) asks (reset-framed image certificate wired number ok m) cleared (just-reset m)

@@ -1,0 +1,27 @@
+-- Demand 3 of P11's image and certificate.
+-- Assumes nothing.
+use mathlib.Core.Path.{refl}
+use Rattle.isa.specs.Map
+use Rattle.isa.specs.Decode
+use Rattle.isa.specs.Flow
+use Rattle.control.specs.Stack
+use Rattle.control.specs.Moving
+use Rattle.control.specs.Requests
+use Rattle.control.specs.Forming
+use Rattle.data.specs.Effect.{effectOf}
+use Rattle.machine.specs.Execute.{executeOf}
+use Rattle.machine.specs.State.{resetOf, freshOf}
+use Rattle.machine.specs.Step
+use Rattle.machine.specs.Run.{stepsOf, requestsFit, runOf}
+use Rattle.certificate.proofs.Cases.{check-cases}
+use Rattle.bench.specs.Calls.{leaves}
+use Rattle.bench.specs.Session.{levelsInUse}
+use Rattle.bench.specs.Cases.{P11NeverStops, P11UsesTwo}
+use Rattle.bench.proofs.Session.{never-stops}
+
+pub p11-never-stops : P11NeverStops
+p11-never-stops = never-stops _ _ 0x01 2 (check-cases .p11)
+
+pub p11-uses-two : P11UsesTwo
+unfolding leaves levelsInUse runOf requestsFit stepsOf resetOf freshOf Step.stepOf Step.advancedOf Step.respondOf Step.unrequestedOf Step.decodedOf Step.executedOf Step.completedOf Step.takenOf Step.takenBy executeOf effectOf Forming.addressesFit Forming.wellFormed Requests.requestedOf Requests.servingOf Requests.takeOf Moving.atOf Moving.inModeOf Moving.callOf Moving.returnFromInterruptOf Moving.advanceOf Stack.pushOf Stack.popOf Map.entryOf Map.bytesOf Map.cyclesOf Map.formAs Map.formOf Decode.romAt Decode.operandAt Decode.decodeAt Flow.flowOf
+p11-uses-two = refl

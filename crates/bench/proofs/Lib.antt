@@ -1,0 +1,11 @@
+pub mod Stack
+pub mod Marks
+pub mod Frames
+pub mod Moves
+pub mod Requests
+pub mod Framed
+pub mod Walk
+pub mod Steps
+pub mod Session
+pub mod Balance
+pub mod Cases

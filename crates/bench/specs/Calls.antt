@@ -1,0 +1,57 @@
+-- Lists of calls on one machine, what they leave, and which sources ask (the customer's demand 3; document 01, "The certificate", last
+-- paragraph).
+-- Assumes nothing.
+use Prim.Native.Nat.{ℕ, _<_}
+use mathlib.Core.Path.{_≡_}
+use mathlib.Core.Bool.{true}
+use mathlib.Core.List.{List, [], _∷_}
+use lib.ListN.{getD}
+use Rattle.isa.specs.Sources.{names}
+use Rattle.isa.specs.declared.Source.{Source}
+use Rattle.machine.specs.declared.Machine.{Machine}
+use Rattle.machine.specs.State.{hostStoreOf, resetOf}
+use Rattle.machine.specs.Step.{stepOf}
+use Rattle.machine.specs.Run.{runOf}
+
+-- "any list, in any order, of steps and runs of that image, host stores of any byte at any address, and resets"
+pub data Call : Type 0 where
+  step : (request : ℕ) → Call
+  run : (requests : List ℕ) (n : ℕ) → Call
+  store : (address value : ℕ) → Call
+  reset : Call
+
+-- "each call gets the machine as the one before left it": the machine as a call leaves it
+unfoldable pub leaves : (image : List ℕ) → Call → Machine → Machine
+leaves image (step request) m = stepOf image m request .machine
+leaves image (run requests n) m = runOf image m requests n .machine
+leaves image (store address value) m = hostStoreOf m address value .machine
+leaves image reset m = resetOf m
+
+-- "each call gets the machine as the one before left it, nobody else writes it": the machine as a list of calls leaves it
+abbrev pub leavesAll : (image : List ℕ) → List Call → Machine → Machine
+leavesAll image [] m = m
+leavesAll image (c ∷ calls) m = leavesAll image calls (leaves image c m)
+
+-- "sets none of bits 0 to 4 but those of wired sources"; bits 5 to 7 are free, and the call is then refused
+abbrev pub AsksOnly : (wired request : ℕ) → Type 0
+AsksOnly wired request = (s : Source) → names request s ≡ true → names wired s ≡ true
+
+-- "each of the first n of a run of n steps": "request byte i at step i and none past the lent list's end", where it is 0
+abbrev pub FirstAskOnly : (wired : ℕ) → (requests : List ℕ) → (n : ℕ) → Type 0
+FirstAskOnly wired requests n = (i : ℕ) → i < n → AsksOnly wired (getD requests i 0)
+
+-- "A step's request byte, and each of the first n of a run of n steps"
+abbrev pub CallAsksOnly : (wired : ℕ) → Call → Type 0
+CallAsksOnly wired (step request) = AsksOnly wired request
+CallAsksOnly wired (run requests n) = FirstAskOnly wired requests n
+CallAsksOnly wired (store address value) = Unit {0}
+CallAsksOnly wired reset = Unit {0}
+
+-- "at any step any wired sources may ask, and no others"
+abbrev pub AllAskOnly : (wired : ℕ) → List Call → Type 0
+AllAskOnly wired [] = Unit {0}
+AllAskOnly wired (c ∷ calls) = CallAsksOnly wired c × AllAskOnly wired calls
+
+-- "none past the lent list's end": nothing is asked of a run there, since the byte 0 names no source
+abbrev pub NoneAsks : Type 0
+NoneAsks = (wired : ℕ) → AsksOnly wired 0

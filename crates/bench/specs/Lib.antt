@@ -1,0 +1,5 @@
+pub mod Calls
+pub mod Session
+pub mod Deeds
+pub mod Balance
+pub mod Cases
