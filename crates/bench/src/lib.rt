@@ -1,0 +1,2 @@
+// The bench: one machine, lent to each key's operation.
+pub mod keys;
