@@ -4,7 +4,6 @@
 --     Answer S R       what is known of an operation's answer, a struct S of a machine and of a value of R
 --     answering, answers       the statements by which a key ends where its operation answers such a struct, and their walk: the answer's machine is stored, and the rest of the answer is the result
 --     stayed, goes, exits      a key's `Stay`s, their laws, and the end of its walk
---     lent-out, come-back      the lender's side: a machine in a local is lent for a lifetime, and comes back at its last value
 -- Assumes nothing.
 use mathlib.Core.Path.{_≡_, refl}
 use Prim.Native.Nat.{ℕ}
@@ -16,20 +15,19 @@ use mir.Syntax.{Name, Sym, Ty, tyRef, tyStruct, tcons, tnil, named, mut, deref, 
 use mir.Val.{Val, vptr, vstruct, vnil, vcons, WT, hasTy}
 use base.Logic.{SProp, ent, sep, emp, id⊢}
 use base.Stored.{Gv}
-use base.Fml.{GName, Lft, Share, Fml, fsep, fat, froom, flft, fdead, fobs, fauth, fres, fbor, fobor, flent}
+use base.Fml.{GName, Lft, Share, Fml, fsep, fat, froom, flft, fobs, fauth, fbor, fobor}
 use prog.Wp.{Heap, Env, Calls, Loops, spotOf}
 use ghost.Atoms.{Atoms, sem}
 use contract.Monad.{fact}
 use contract.Lifetimes.{Lfts, Shares, Outlives, AllOutlive}
-use types.Kit.{Given, Item, Goal, Soaks, Post, Seq, Step, step, runs, frees, prop, atRet, ‵, raw, mean, ⋆, _⊛_, some, later, _$_, _∵_, !, qed, by, move, drop, use0, use1, use2, use3, split, join, pick, rewrite, feqI, fsplit, fsplit3, fjoin, fjoin3, fpick, fpack, await}
+use types.Kit.{Given, Item, Goal, Soaks, Post, Seq, Step, step, runs, frees, prop, atRet, ‵, raw, mean, ⋆, _⊛_, some, later, _$_, _∵_, !, qed, by, move, drop, use0, use1, use2, split, join, pick, rewrite, feqI, fsplit, fsplit3, fjoin, fjoin3, await}
 use types.Run.{Opds, look, look-raw, init, store-raw, stop, hop, fld, from, load, land, of-opd, assigns, returns}
 use types.Part.{whole, sub, look-in}
 use types.SemTy.{Body as Behind}
 use sound.WpLaws.{FmC}
 use denote.RattleType.{RattleType, Denots, Valss}
 use denote.Laws.{Is, shows}
-use denote.Memory.{mem, cellAt, pointee, partOf}
-use denote.Lend.{lends-ref, ref-back}
+use denote.Memory.{mem, cellAt, pointee}
 use denote.Ref.{MutRef}
 use denote.Signature.{Slot, AllWithin, plain, mutRefTo, meetAt, typesAt}
 use denote.Steps.{opens, closes, owned, peeks, facts, heard}
@@ -130,24 +128,6 @@ module _ {M : Type 1} {𝓤 : URA M} {H : Heap 𝓤} {A : Atoms 𝓤} {K : Type 
       (i ∷ ‵ (cellAt fullShare (T.the-row .mir) (vals m) b o) ∷ ‵ (fobor κ q (Behind (mem T.the-row) b o γ)) ∷ ‵ (fobs γ u) ∷ ‵ (fauth γ v) ∷ Γ) G
   closed t z b o m is = step (λ s. owned t T.the-row (Is T.the-row) (LL.makes T.the-type T′.the-plain 𝓤 H A) m (vals m) is $ move t (2 ∷ 0 ∷ 3 ∷ 4 ∷ 5 ∷ []) $ closes t z T.the-row m (vals m) b o $ s)
 
--- ---- the lender's side: a machine in the local at l is lent for the lifetime ν, and comes back at its last value
-module _ {M : Type 1} {𝓤 : URA M} {H : Heap 𝓤} {A : Atoms 𝓤} {K : Type 0} {W : Given 𝓤 H A} {Γ : List (Item 𝓤)} {G : Goal 𝓤 H} where
-  pub lent-out : K → Soaks G → (h : Machine) → Is T.the-row h (vals h) → (ν l : ℕ)
-      → ((γ : GName) → Seq K W (‵ (MutRef (named 0) (ν ∷ []) T.the-row .own (record { ptr = (l, 0); name = γ; now = h }) (vptr l 0 ∷ [])) ∷ ‵ (flent (ν ∷ []) (Behind (mem T.the-row) l 0 γ)) ∷ Γ) G)
-      → Seq K W (‵ (fat fullShare T′.mir l 0 (val h)) ∷ Γ) G
-  unfolding partOf
-  lent-out t z h is ν l then = use1 W (‵ (cellAt fullShare (T.the-row .mir) (vals h) l 0)) (W .laws .at-raw fullShare T′.mir l 0 (val h)) $ owned t T.the-row (Is T.the-row) (LL.makes T.the-type T′.the-plain 𝓤 H A) h (vals h) is $ move t (1 ∷ 0 ∷ []) $ fjoin t $
-      fpack t (List Val) (λ us. fsep (cellAt fullShare (T.the-row .mir) us l 0) (T.the-row .own h us)) (vals h) $
-      use1 W (later (some (λ (γ : GName). ‵ (MutRef (named 0) (ν ∷ []) T.the-row .own (record { ptr = (l, 0); name = γ; now = h }) (vptr l 0 ∷ [])) ⊛ ‵ (flent (ν ∷ []) (Behind (mem T.the-row) l 0 γ))))) (lends-ref 𝓤 H A W T.the-row (named 0) (ν ∷ []) h l 0) $
-      await t z $ pick t (λ γ. split t $ then γ)
-
-  pub come-back : K → Soaks G → (m : Machine) (ν l : ℕ) {γ : GName} → (Is T.the-row m (vals m) → Seq K W (‵ (fat fullShare T′.mir l 0 (val m)) ∷ Γ) G)
-      → Seq K W (‵ (fdead (ν ∷ [])) ∷ ‵ (flent (ν ∷ []) (Behind (mem T.the-row) l 0 γ)) ∷ ‵ (fres γ (T.the-row .coded .code m)) ∷ Γ) G
-  unfolding partOf
-  come-back t z m ν l {γ} then = use3 W (later (‵ (mem T.the-row .lies m l 0))) (ref-back 𝓤 H A W T.the-row (ν ∷ []) γ m l 0) $ await t z $ fpick t (λ vs. fsplit t $
-      spelt t T.the-row (Is T.the-row) (shows 𝓤 H A T.the-row) vals (LL.tells T.the-type T′.the-laws) fullShare m vs l 0 $ move t (1 ∷ []) $ facts t T.the-row (Is T.the-row) (shows 𝓤 H A T.the-row) m (vals m) (λ is.
-      use1 W (‵ (fat fullShare T′.mir l 0 (val m))) (W .laws .raw-at fullShare T′.mir l 0 (val m)) $ then is))
-
 -- ---- an answer that holds a machine, field 0, and a value of R, field 1: S is its type
 pub record Answer (S R : RattleType) : Type 2 where
   pub ν : Sym
@@ -188,7 +168,7 @@ module _ {n : ℕ} where
   lent ok = mutRefTo (0 ∷ []) ok (plain (λ _. T.the-row))
 
   module _ (ok : AllWithin n (0 ∷ [])) (bs : List (Outlives n)) (ps : List (Slot n)) (res : Slot n) (ks : Kepts ps) where
-    abbrev Key : Ended
+    abbrev pub Key : Ended
     Key = Ends bs (lent ok ∷ ps) res (yes, ks)
 
     abbrev pub stayed : Stays (Key .signature .params) (Key .kept)

@@ -1,3 +1,4 @@
 pub mod Close
 pub mod Lent
+pub mod Held
 pub mod Answers
