@@ -38,7 +38,7 @@ use denote.Triple.Table.{cited}
 use denote.Triple.Walked.{Stays, walkOf, Walks, walked}
 use denote.Exit.{yes}
 use Rattle.machine.specs.State.{resetOf, HostStore, hostStoreOf, endedOf}
-use Rattle.machine.specs.Run.{ranOf, reportOf, runOf}
+use Rattle.machine.specs.Run.{reportOf, runOf}
 use Rattle.machine.specs.declared.Machine.{Machine}
 use Rattle.machine.specs.declared.Report.{Report}
 use Rattle.machine.specs.declared.Ran.{Ran}
