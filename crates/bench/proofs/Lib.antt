@@ -1,3 +1,7 @@
+pub mod Close
+pub mod Lent
+pub mod Held
+pub mod Answers
 pub mod Stack
 pub mod Marks
 pub mod Frames

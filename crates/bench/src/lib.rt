@@ -1,1 +1,3 @@
-// The bench: one machine and its keys, and what holds of every list of calls on it (specs/ and proofs/).
+// The bench: one machine, lent to each key's operation, and what holds of every list of calls on it (specs/Session.antt).
+pub mod keys;
+pub mod pressing;

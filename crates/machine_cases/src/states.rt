@@ -1,22 +1,12 @@
 // A machine's state in one line.
 use alu::Flags;
-use control::Mode;
 use machine::FlagPairs;
 use machine::Machine;
 use text::put;
 use text::put_address;
 use text::put_byte;
+use text::put_mode;
 use text::put_number;
-
-fn put_mode(mode: Mode) {
-    match mode {
-        Mode::Reset => put(b" reset"),
-        Mode::Normal => put(b" normal"),
-        Mode::Interrupt => put(b" interrupt"),
-        Mode::NmiOverNormal => put(b" NMI over normal"),
-        Mode::NmiOverInterrupt => put(b" NMI over interrupt"),
-    }
-}
 
 fn put_flag(name: &[u8], is: bool) {
     if is {
@@ -54,6 +44,7 @@ pub fn put_state(m: Machine) {
     let bytes = m.bytes;
     let pairs = m.flags;
     put_address(c.pc);
+    put(b" ");
     put_mode(mode);
     put(b", levels ");
     put_number(c.levels as u32);

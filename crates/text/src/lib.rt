@@ -1,4 +1,5 @@
-// Numbers, addresses and refusals on standard output, as the papers write them: for the programs that print what they ran.
+// Numbers, addresses, refusals and modes on standard output, as the papers write them: for the programs that print what they ran.
+use control::Mode;
 use isa::Number;
 use isa::Refusal;
 use isa::refusals::number_of;
@@ -50,5 +51,15 @@ pub fn put_refusal(refusal: Refusal) {
             put(b" ");
             put_address(address);
         }
+    }
+}
+
+pub fn put_mode(mode: Mode) {
+    match mode {
+        Mode::Reset => put(b"reset"),
+        Mode::Normal => put(b"normal"),
+        Mode::Interrupt => put(b"interrupt"),
+        Mode::NmiOverNormal => put(b"NMI over normal"),
+        Mode::NmiOverInterrupt => put(b"NMI over interrupt"),
     }
 }
