@@ -4,22 +4,26 @@
 use std::env;
 
 fn main() {
-    println!("cargo:rerun-if-env-changed=ST62_LIB_DIR");
-    println!("cargo:rerun-if-env-changed=ST62_LIBS");
-    println!("cargo:rerun-if-changed=build.rs");
+    println!("cargo::rerun-if-env-changed=ST62_LIB_DIR");
+    println!("cargo::rerun-if-env-changed=ST62_LIBS");
+    println!("cargo::rerun-if-changed=build.rs");
     let proved = env::var_os("CARGO_FEATURE_PROVED").is_some();
     let mock = env::var_os("CARGO_FEATURE_MOCK").is_some();
     if !proved || mock {
         return;
     }
-    let folder = env::var("ST62_LIB_DIR")
-        .expect("the feature `proved` needs ST62_LIB_DIR, the folder of libexports.a");
-    println!("cargo:rerun-if-changed={folder}/libexports.a");
-    println!("cargo:rustc-link-search=native={folder}");
-    println!("cargo:rustc-link-lib=static=exports");
+    let Ok(folder) = env::var("ST62_LIB_DIR") else {
+        println!(
+            "cargo::error=the feature `proved` needs ST62_LIB_DIR, the folder of libexports.a"
+        );
+        return;
+    };
+    println!("cargo::rerun-if-changed={folder}/libexports.a");
+    println!("cargo::rustc-link-search=native={folder}");
+    println!("cargo::rustc-link-lib=static=exports");
     if let Ok(more) = env::var("ST62_LIBS") {
         for library in more.split(',').filter(|l| !l.is_empty()) {
-            println!("cargo:rustc-link-lib={library}");
+            println!("cargo::rustc-link-lib={library}");
         }
     }
 }

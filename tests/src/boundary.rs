@@ -16,6 +16,10 @@ pub const WRITTEN_FIELDS: usize = 7;
 pub const REPORT: usize = 8;
 pub const FORMS: usize = 30;
 
+/// The operand kind of JRR, JRS, RES, SET and LDI rr, whose data address is
+/// a part of the form and no operand.
+const DATA_ADDRESS_KIND: u8 = 0;
+
 pub const FORM_NAMES: [&str; FORMS] = [
     "JRNZ", "JRNC", "JRZ", "JRC", "CALL", "JP", "JRR", "JRS", "RES", "SET", "LD-A", "LD-to",
     "LDI-A", "LDI-rr", "INC", "DEC", "ADD", "ADDI", "SUB", "SUBI", "AND", "ANDI", "CP", "CPI",
@@ -151,9 +155,11 @@ fn fields(instruction: Instruction, opcode: u8) -> [u8; FIELDS] {
         }
         Call(target) | Jp(target) => [low, high] = target.to_le_bytes(),
         Jrr { bit, address, displacement } | Jrs { bit, address, displacement } => {
-            (low, bit_number, by) = (address, bit, displacement);
+            (kind, low, bit_number, by) = (DATA_ADDRESS_KIND, address, bit, displacement);
         }
-        Res { bit, address } | Set { bit, address } => (low, bit_number) = (address, bit),
+        Res { bit, address } | Set { bit, address } => {
+            (kind, low, bit_number) = (DATA_ADDRESS_KIND, address, bit);
+        }
         LdA(operand) | LdTo(operand) | Inc(operand) | Dec(operand) | Add(operand)
         | Sub(operand) | And(operand) | Cp(operand) => {
             (kind, low) = match operand {
@@ -164,7 +170,7 @@ fn fields(instruction: Instruction, opcode: u8) -> [u8; FIELDS] {
             };
         }
         LdiA(value) | Addi(value) | Subi(value) | Andi(value) | Cpi(value) => low = value,
-        Ldi { address, value } => (low, second) = (address, value),
+        Ldi { address, value } => (kind, low, second) = (DATA_ADDRESS_KIND, address, value),
         Com | Rlc | Ret | Reti | Stop | Wait => {}
     }
     let size = SIZES[opcode as usize];
@@ -195,11 +201,12 @@ fn instruction(fields: &[u8]) -> Result<Instruction, Refusal> {
     match form {
         0..=3 => uses([O, O, O, O, O, I])?,
         4 | 5 => uses([O, I, I, O, O, O])?,
-        6 | 7 => uses([O, I, O, O, I, I])?,
-        8 | 9 => uses([O, I, O, O, I, O])?,
+        6..=9 | 13 if kind != DATA_ADDRESS_KIND => return Err(Refusal::Operand),
+        6 | 7 => uses([I, I, O, O, I, I])?,
+        8 | 9 => uses([I, I, O, O, I, O])?,
         10 | 11 | 14 | 15 | 16 | 18 | 20 | 22 => uses([I, kind <= 2, O, O, O, O])?,
         12 | 17 | 19 | 21 | 23 => uses([O, I, O, O, O, O])?,
-        13 => uses([O, I, O, I, O, O])?,
+        13 => uses([I, I, O, I, O, O])?,
         _ => uses([O; 6])?,
     }
     let operand = || match kind {

@@ -3,10 +3,10 @@
 
 use crate::boundary;
 use crate::check::check;
+use crate::chip::Operand;
 use crate::chip::*;
 use crate::job::line;
 use crate::Refusal::{self, *};
-use crate::chip::Operand;
 use Instruction::*;
 use Operand::*;
 
@@ -139,9 +139,9 @@ fn p11() -> (Vec<u8>, Vec<u8>) {
     image[0x7FE..].copy_from_slice(&[0x09, 0x88]);
     image[0x7FC] = 0x4D;
     let mut marks = vec![0; 2048];
-    for (address, mark) in [
-        (0x7FE, 0x11), (0x080, 0x11), (0x081, 0x21), (0x083, 0x21), (0x090, 0x40), (0x7FC, 0x30),
-    ] {
+    for (address, mark) in
+        [(0x7FE, 0x11), (0x080, 0x11), (0x081, 0x21), (0x083, 0x21), (0x090, 0x40), (0x7FC, 0x30)]
+    {
         marks[address] = mark;
     }
     (image, marks)
@@ -318,8 +318,7 @@ fn the_map_counts() {
     assert_eq!(count(&|s| s.length == 0 && s.cycles == 0), 12);
     assert_eq!([1, 2, 3].map(|n| count(&|s| s.length == n)), [166, 61, 17]);
     assert_eq!([2, 4, 5].map(|n| count(&|s| s.cycles == n)), [132, 96, 16]);
-    let undefined =
-        [0x05, 0x25, 0x45, 0x65, 0x85, 0xA5, 0xC5, 0xE5, 0x77, 0x97, 0xF7, 0x8D];
+    let undefined = [0x05, 0x25, 0x45, 0x65, 0x85, 0xA5, 0xC5, 0xE5, 0x77, 0x97, 0xF7, 0x8D];
     for opcode in 0..=255u8 {
         let decoded = decode(&image(0x100, &[opcode, 0x12, 0x34]), 0x100);
         assert_eq!(decoded.is_err(), undefined.contains(&opcode), "{opcode:02X}");
@@ -440,9 +439,9 @@ fn requests() {
 
 #[test]
 fn returns_on_an_empty_stack() {
-    for mode in [
-        Mode::Reset, Mode::Normal, Mode::Interrupt, Mode::NmiOverNormal, Mode::NmiOverInterrupt,
-    ] {
+    for mode in
+        [Mode::Reset, Mode::Normal, Mode::Interrupt, Mode::NmiOverNormal, Mode::NmiOverInterrupt]
+    {
         let fresh = Machine { pc: 0xFFF, mode, ..Machine::default() };
         let mut m = fresh.clone();
         assert_eq!(m.step(&image(0xFFF, &[0xCD]), 0), Err(StackEmpty(0xFFF)));
@@ -635,5 +634,47 @@ fn packed_fields_round_trip() {
         let mut out = [0; 3];
         assert_eq!(boundary::write(&fields[..7], &mut out), answer);
         assert_eq!(out[..length as usize], rom[0x100..0x100 + length as usize]);
+    }
+}
+
+// ---------------------------------------------------------- the generator
+
+#[test]
+fn generated_programs_are_accepted() {
+    use crate::generate::*;
+    let mut rng = Rng::new(7);
+    let mut seen = [0; 8];
+    for _ in 0..2000 {
+        let p = program(&mut rng);
+        match check(&p.image, &p.certificate, p.wired) {
+            Ok(levels) => seen[levels as usize] += 1,
+            Err(TooManyLevels) => seen[7] += 1,
+            Err(other) => panic!("{other:?}"),
+        }
+    }
+    assert!(seen.iter().all(|&count| count > 0), "{seen:?}");
+    for length in [2048, 4096] {
+        for _ in 0..200 {
+            let p = dense(&mut rng, length);
+            assert!(p.certificate.iter().all(|&mark| mark != 0));
+            check(&p.image, &p.certificate, p.wired).unwrap();
+        }
+    }
+}
+
+/// Demand 3, tried out: no stop, and no more levels than the check says.
+#[test]
+fn accepted_programs_never_stop() {
+    use crate::generate::*;
+    let mut rng = Rng::new(8);
+    for _ in 0..300 {
+        let p = program(&mut rng);
+        let Ok(levels) = check(&p.image, &p.certificate, p.wired) else { continue };
+        let mut m = Machine::default();
+        for _ in 0..3000 {
+            let request = rng.byte() & p.wired & if rng.chance(20) { 0xFF } else { 0 };
+            m.step(&p.image, request).unwrap();
+            assert!(m.levels <= levels);
+        }
     }
 }

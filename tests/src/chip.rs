@@ -86,16 +86,33 @@ pub enum Instruction {
     Jrc(i8),
     Call(u16),
     Jp(u16),
-    Jrr { bit: u8, address: u8, displacement: i8 },
-    Jrs { bit: u8, address: u8, displacement: i8 },
-    Res { bit: u8, address: u8 },
-    Set { bit: u8, address: u8 },
+    Jrr {
+        bit: u8,
+        address: u8,
+        displacement: i8,
+    },
+    Jrs {
+        bit: u8,
+        address: u8,
+        displacement: i8,
+    },
+    Res {
+        bit: u8,
+        address: u8,
+    },
+    Set {
+        bit: u8,
+        address: u8,
+    },
     /// LD A,operand
     LdA(Operand),
     /// LD operand,A
     LdTo(Operand),
     LdiA(u8),
-    Ldi { address: u8, value: u8 },
+    Ldi {
+        address: u8,
+        value: u8,
+    },
     Inc(Operand),
     Dec(Operand),
     Add(Operand),

@@ -10,6 +10,8 @@ pub mod job;
 #[cfg(feature = "mock")]
 pub mod mock;
 #[cfg(feature = "proved")]
+pub mod play;
+#[cfg(feature = "proved")]
 pub mod proved;
 
 #[cfg(test)]

@@ -8,22 +8,22 @@ use std::sync::OnceLock;
 
 /// The faults that can be injected.
 pub const FAULTS: [&str; 16] = [
-    "com-carry",        // COM leaves C clear
-    "rlc-low",          // RLC shifts in 0
-    "call-pushes-own",  // CALL pushes its own address
-    "reti-flags",       // RETI copies the flags to the pair beneath
-    "second-nmi",       // an NMI is taken in NMI mode
-    "window-store",     // INC in the ROM window sets no Z
-    "sleep-stop",       // STOP sleeps with PC on itself
-    "run-cycles",       // a long run with requests counts one cycle too many
-    "run-order",        // run looks at the request bytes before n
-    "run-report",       // a refused run writes its report
-    "store-mask",       // the host's store to 0C9h keeps six bits
-    "reset-window",     // reset keeps 0C9h
-    "write-short",      // ADD with a short operand is written
-    "check-need",       // a CALL's need may equal its target's
-    "check-levels",     // seven levels are accepted
-    "job-case",         // addresses in lower case
+    "com-carry",       // COM leaves C clear
+    "rlc-low",         // RLC shifts in 0
+    "call-pushes-own", // CALL pushes its own address
+    "reti-flags",      // RETI copies the flags to the pair beneath
+    "second-nmi",      // an NMI is taken in NMI mode
+    "window-store",    // INC in the ROM window sets no Z
+    "sleep-stop",      // STOP sleeps with PC on itself
+    "run-cycles",      // a long run with requests counts one cycle too many
+    "run-order",       // run looks at the request bytes before n
+    "run-report",      // a refused run writes its report
+    "store-mask",      // the host's store to 0C9h keeps six bits
+    "reset-window",    // reset keeps 0C9h
+    "write-short",     // ADD with a short operand is written
+    "check-need",      // a CALL's need may equal its target's
+    "check-levels",    // seven levels are accepted
+    "job-case",        // addresses in lower case
 ];
 
 fn fault() -> Option<&'static str> {
@@ -143,7 +143,11 @@ fn check(image: &[u8], certificate: &[u8], wired: u32) -> u64 {
 /// As for all below: the pointers and lengths are those of lent slices.
 #[no_mangle]
 pub unsafe extern "C" fn st62_decode(
-    image: *const u8, image_length: usize, address: u32, out: *mut u8, out_length: usize,
+    image: *const u8,
+    image_length: usize,
+    address: u32,
+    out: *mut u8,
+    out_length: usize,
 ) -> u64 {
     boundary::decode(lent(image, image_length), address, lent_mut(out, out_length))
 }
@@ -152,7 +156,10 @@ pub unsafe extern "C" fn st62_decode(
 /// See [`st62_decode`].
 #[no_mangle]
 pub unsafe extern "C" fn st62_write(
-    fields: *const u8, fields_length: usize, out: *mut u8, out_length: usize,
+    fields: *const u8,
+    fields_length: usize,
+    out: *mut u8,
+    out_length: usize,
 ) -> u64 {
     let (fields, out) = (lent(fields, fields_length), lent_mut(out, out_length));
     if faulty("write-short") && fields.len() >= 7 && fields[..2] == [16, 2] && fields[2] < 4 {
@@ -180,7 +187,10 @@ pub unsafe extern "C" fn st62_reset(state: *mut u8, state_length: usize) -> u64 
 /// See [`st62_decode`].
 #[no_mangle]
 pub unsafe extern "C" fn st62_store(
-    state: *mut u8, state_length: usize, address: u32, value: u32,
+    state: *mut u8,
+    state_length: usize,
+    address: u32,
+    value: u32,
 ) -> u64 {
     let state = lent_mut(state, state_length);
     let answer = boundary::store(state, address, value);
@@ -194,7 +204,11 @@ pub unsafe extern "C" fn st62_store(
 /// See [`st62_decode`].
 #[no_mangle]
 pub unsafe extern "C" fn st62_step(
-    image: *const u8, image_length: usize, state: *mut u8, state_length: usize, request: u32,
+    image: *const u8,
+    image_length: usize,
+    state: *mut u8,
+    state_length: usize,
+    request: u32,
 ) -> u64 {
     let (image, state) = (lent(image, image_length), lent_mut(state, state_length));
     if fault().is_none() {
@@ -207,8 +221,15 @@ pub unsafe extern "C" fn st62_step(
 /// See [`st62_decode`].
 #[no_mangle]
 pub unsafe extern "C" fn st62_run(
-    image: *const u8, image_length: usize, state: *mut u8, state_length: usize,
-    requests: *const u8, requests_length: usize, n: u32, report: *mut u8, report_length: usize,
+    image: *const u8,
+    image_length: usize,
+    state: *mut u8,
+    state_length: usize,
+    requests: *const u8,
+    requests_length: usize,
+    n: u32,
+    report: *mut u8,
+    report_length: usize,
 ) -> u64 {
     run(
         lent(image, image_length),
@@ -223,7 +244,10 @@ pub unsafe extern "C" fn st62_run(
 /// See [`st62_decode`].
 #[no_mangle]
 pub unsafe extern "C" fn st62_check(
-    image: *const u8, image_length: usize, certificate: *const u8, certificate_length: usize,
+    image: *const u8,
+    image_length: usize,
+    certificate: *const u8,
+    certificate_length: usize,
     wired: u32,
 ) -> u64 {
     check(lent(image, image_length), lent(certificate, certificate_length), wired)
@@ -233,7 +257,10 @@ pub unsafe extern "C" fn st62_check(
 /// See [`st62_decode`].
 #[no_mangle]
 pub unsafe extern "C" fn st62_job(
-    job: *const u8, job_length: usize, line: *mut u8, line_length: usize,
+    job: *const u8,
+    job_length: usize,
+    line: *mut u8,
+    line_length: usize,
 ) -> u64 {
     let line = lent_mut(line, line_length);
     let answer = boundary::job(lent(job, job_length), line);

@@ -3,28 +3,50 @@
 mod library {
     extern "C" {
         pub fn st62_decode(
-            image: *const u8, image_length: usize, address: u32, out: *mut u8, out_length: usize,
+            image: *const u8,
+            image_length: usize,
+            address: u32,
+            out: *mut u8,
+            out_length: usize,
         ) -> u64;
         pub fn st62_write(
-            fields: *const u8, fields_length: usize, out: *mut u8, out_length: usize,
+            fields: *const u8,
+            fields_length: usize,
+            out: *mut u8,
+            out_length: usize,
         ) -> u64;
         pub fn st62_reset(state: *mut u8, state_length: usize) -> u64;
         pub fn st62_store(state: *mut u8, state_length: usize, address: u32, value: u32) -> u64;
         pub fn st62_step(
-            image: *const u8, image_length: usize, state: *mut u8, state_length: usize,
+            image: *const u8,
+            image_length: usize,
+            state: *mut u8,
+            state_length: usize,
             request: u32,
         ) -> u64;
         pub fn st62_run(
-            image: *const u8, image_length: usize, state: *mut u8, state_length: usize,
-            requests: *const u8, requests_length: usize, n: u32, report: *mut u8,
+            image: *const u8,
+            image_length: usize,
+            state: *mut u8,
+            state_length: usize,
+            requests: *const u8,
+            requests_length: usize,
+            n: u32,
+            report: *mut u8,
             report_length: usize,
         ) -> u64;
         pub fn st62_check(
-            image: *const u8, image_length: usize, certificate: *const u8,
-            certificate_length: usize, wired: u32,
+            image: *const u8,
+            image_length: usize,
+            certificate: *const u8,
+            certificate_length: usize,
+            wired: u32,
         ) -> u64;
         pub fn st62_job(
-            job: *const u8, job_length: usize, line: *mut u8, line_length: usize,
+            job: *const u8,
+            job_length: usize,
+            line: *mut u8,
+            line_length: usize,
         ) -> u64;
     }
 }
@@ -60,8 +82,15 @@ pub fn step(image: &[u8], state: &mut [u8], request: u32) -> u64 {
 pub fn run(image: &[u8], state: &mut [u8], requests: &[u8], n: u32, report: &mut [u8]) -> u64 {
     unsafe {
         library::st62_run(
-            image.as_ptr(), image.len(), state.as_mut_ptr(), state.len(),
-            requests.as_ptr(), requests.len(), n, report.as_mut_ptr(), report.len(),
+            image.as_ptr(),
+            image.len(),
+            state.as_mut_ptr(),
+            state.len(),
+            requests.as_ptr(),
+            requests.len(),
+            n,
+            report.as_mut_ptr(),
+            report.len(),
         )
     }
 }
@@ -69,7 +98,11 @@ pub fn run(image: &[u8], state: &mut [u8], requests: &[u8], n: u32, report: &mut
 pub fn check(image: &[u8], certificate: &[u8], wired: u32) -> u64 {
     unsafe {
         library::st62_check(
-            image.as_ptr(), image.len(), certificate.as_ptr(), certificate.len(), wired,
+            image.as_ptr(),
+            image.len(),
+            certificate.as_ptr(),
+            certificate.len(),
+            wired,
         )
     }
 }
