@@ -195,7 +195,7 @@ pub fn decode(image: &[u8], address: u32) -> Result<Instruction, Refusal> {
 }
 
 /// Decodes at an address of twelve bits.
-#[inline]
+#[inline(always)]
 pub fn decode_at(rom: &Rom, address: u16) -> Result<Instruction, Refusal> {
     use Instruction::*;
     use Operand::*;

@@ -239,54 +239,51 @@ fn steps() {
     print("single steps of the mixed loop", "steps", per_round as f64, &times);
 }
 
-fn one_check(name: &str, program: &Program, per_round: usize) -> Times {
-    let Program { image, certificate, wired } = program;
-    let wired = *wired;
-    let expected = check(image, certificate, wired).expect("it is accepted") as u32;
-    let times = race(
+/// Checks of a 2K and of a 4K program, all in the same rounds.
+fn checks_of(name: &str, small: &Program, large: &Program, per_round: usize) {
+    let levels = [small, large].map(|program| {
+        check(&program.image, &program.certificate, program.wired).expect("it is accepted")
+    });
+    let proved = |program: &Program, levels: u8| {
+        for _ in 0..per_round {
+            let Program { image, certificate, wired } = black_box(program);
+            let answer = proved::check(image, certificate, *wired as u32);
+            assert_eq!(boundary::value(answer), levels as u32);
+        }
+    };
+    let second = |program: &Program, levels: u8| {
+        for _ in 0..per_round {
+            let Program { image, certificate, wired } = black_box(program);
+            assert_eq!(check(image, certificate, *wired), Ok(levels));
+        }
+    };
+    let mut times = race(
         ROUNDS,
         &mut [
-            &mut || {
-                for _ in 0..per_round {
-                    let answer = proved::check(black_box(image), certificate, wired as u32);
-                    assert_eq!(boundary::value(answer), expected);
-                }
-            },
-            &mut || {
-                for _ in 0..per_round {
-                    let answer = check(black_box(image), certificate, wired);
-                    assert_eq!(black_box(answer), Ok(expected as u8));
-                }
-            },
+            &mut || proved(small, levels[0]),
+            &mut || second(small, levels[0]),
+            &mut || proved(large, levels[1]),
+            &mut || second(large, levels[1]),
         ],
     );
-    print(&format!("checks of {name}"), "checks", per_round as f64, &times);
-    times
+    let large_times = times.split_off(2);
+    print(&format!("checks of 2K {name}"), "checks", per_round as f64, &times);
+    print(&format!("checks of 4K {name}"), "checks", per_round as f64, &large_times);
+    println!("how check time grows from 2K to 4K, {name}");
+    for side in 0..2 {
+        let r = ratio(&large_times[side], &times[side]);
+        println!(
+            "  {:15} median {:.2}, min {:.2}, max {:.2}",
+            NAMES[side], r.median, r.least, r.most
+        );
+    }
 }
 
 fn checks() {
     let mut rng = Rng::new(3);
-    let full: Vec<Times> = [2048, 4096]
-        .map(|length| {
-            let program = dense(&mut rng, length);
-            one_check(&format!("{}K marked throughout", length / 1024), &program, 50)
-        })
-        .into();
-    let few: Vec<Times> = [2048, 4096]
-        .map(|length| {
-            one_check(&format!("{}K with six marks", length / 1024), &sparse(length), 2000)
-        })
-        .into();
-    println!("how check time grows from 2K to 4K");
-    for (name, times) in [("marked throughout", full), ("six marks", few)] {
-        for side in 0..2 {
-            let r = ratio(&times[1][side], &times[0][side]);
-            println!(
-                "  {name:17} {:7} median {:.2}, min {:.2}, max {:.2}",
-                NAMES[side], r.median, r.least, r.most
-            );
-        }
-    }
+    let (small, large) = (dense(&mut rng, 2048), dense(&mut rng, 4096));
+    checks_of("marked throughout", &small, &large, 50);
+    checks_of("with six marks", &sparse(2048), &sparse(4096), 2000);
 }
 
 fn decodes() {
