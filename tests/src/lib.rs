@@ -1,0 +1,85 @@
+//! A second implementation of the ST62 bench and its stack check, written
+//! from the papers alone, and the means to compare it with the proved library.
+
+pub mod boundary;
+pub mod check;
+pub mod chip;
+pub mod generate;
+pub mod job;
+
+#[cfg(feature = "mock")]
+pub mod mock;
+#[cfg(feature = "proved")]
+pub mod play;
+#[cfg(feature = "proved")]
+pub mod proved;
+
+#[cfg(test)]
+mod cases;
+
+/// Why an operation was turned down, or where a step stopped. The numbers
+/// are those of document 01, "What each operation turns down".
+#[derive(Clone, Copy, PartialEq, Eq, Debug)]
+pub enum Refusal {
+    ImageLength,
+    IllFormed,
+    AddressRange,
+    OutsideRom(u16),
+    Undefined(u16),
+    StackFull(u16),
+    StackEmpty(u16),
+    Operand,
+    Buffer,
+    RomWindow,
+    Request,
+    TooManySteps,
+    CertificateLength,
+    Mark(u16),
+    Placement(u16),
+    Successor(u16),
+    Need(u16),
+    Vector(u16),
+    TooManyLevels,
+    JobShort,
+    JobVersion,
+    JobLength,
+}
+
+impl Refusal {
+    pub fn number(self) -> u8 {
+        use Refusal::*;
+        match self {
+            ImageLength => 1,
+            IllFormed => 2,
+            AddressRange => 3,
+            OutsideRom(_) => 4,
+            Undefined(_) => 5,
+            StackFull(_) => 6,
+            StackEmpty(_) => 7,
+            Operand => 8,
+            Buffer => 9,
+            RomWindow => 10,
+            Request => 11,
+            TooManySteps => 12,
+            CertificateLength => 13,
+            Mark(_) => 14,
+            Placement(_) => 15,
+            Successor(_) => 16,
+            Need(_) => 17,
+            Vector(_) => 18,
+            TooManyLevels => 19,
+            JobShort => 20,
+            JobVersion => 21,
+            JobLength => 22,
+        }
+    }
+
+    pub fn address(self) -> Option<u16> {
+        use Refusal::*;
+        match self {
+            OutsideRom(a) | Undefined(a) | StackFull(a) | StackEmpty(a) | Mark(a)
+            | Placement(a) | Successor(a) | Need(a) | Vector(a) => Some(a),
+            _ => None,
+        }
+    }
+}
