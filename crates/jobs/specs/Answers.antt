@@ -1,0 +1,26 @@
+-- What answering a job does to the buffer that its line is written to.
+-- Assumes nothing.
+use Prim.Native.Nat.{ℕ}
+use mathlib.Core.Path.{_≡_}
+use mathlib.Core.Bool.{Bool, cond}
+use mathlib.Core.List.{List, _++_}
+use lib.Dec.{leb}
+use lib.ListN.{length, drop}
+use Rattle.isa.specs.Refusals.{plain, numbered}
+use Rattle.isa.specs.Encode.{Outcome, wrote, refused}
+use Rattle.jobs.specs.declared.Answered.{Answered}
+use Rattle.jobs.specs.declared.Answered.the-variants.{Line, Refused}
+
+-- the program's answer by document 01's numbers
+abbrev pub outcomeOf : Answered → Outcome
+outcomeOf (Line n) = wrote n
+outcomeOf (Refused r) = refused (numbered r)
+
+-- "9 buffer shorter than the instruction", here than the line
+abbrev pub fits : (line buffer : List ℕ) → Bool
+fits line buffer = leb (length line) (length buffer)
+
+-- writing a line to a buffer: "It is written from the buffer's first byte; bytes after it stay.", and a refusal "leaves buffers .. untouched"
+pub record Answers (line before after : List ℕ) (r : Answered) : Type 0 where
+  pub answer : outcomeOf r ≡ cond (fits line before) (wrote (length line)) (refused (plain 9))
+  pub buffer : after ≡ cond (fits line before) (line ++ drop (length line) before) before

@@ -1,0 +1,2 @@
+-- Document 01's P11 and P12, printed.
+-- Assumes nothing.

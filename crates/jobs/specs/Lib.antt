@@ -1,0 +1,5 @@
+pub mod Jobs
+pub mod Lines
+pub mod Texts
+pub mod Answers
+pub mod Cases
