@@ -13,11 +13,11 @@ abbrev blank : List ℕ
 blank = replicate 2048 0x00
 
 -- bytes put at a program address of a 2K image or certificate
-abbrev put : (address : ℕ) → List ℕ → List ℕ → List ℕ
+abbrev pub put : (address : ℕ) → List ℕ → List ℕ → List ℕ
 put a bytes l = sets l (a - 0x800) bytes
 
 -- "a 2K image with 4D 01 89 19 88 at 880h, CD at 890h, 09 88 at FFEh, 4D at FFCh, else 00h"
-abbrev image11 : List ℕ
+abbrev pub image11 : List ℕ
 image11 =
     put 0x880 (0x4D ∷ 0x01 ∷ 0x89 ∷ 0x19 ∷ 0x88 ∷ [])
     (put 0x890 (0xCD ∷ [])
@@ -25,7 +25,7 @@ image11 =
     (put 0xFFC (0x4D ∷ []) blank)))
 
 -- "marks 11h at FFEh and 880h, 21h at 881h and 883h, 40h at 890h, 30h at FFCh, else 00h"
-abbrev certificate11 : List ℕ
+abbrev pub certificate11 : List ℕ
 certificate11 =
     put 0xFFE (0x11 ∷ [])
     (put 0x880 (0x11 ∷ [])

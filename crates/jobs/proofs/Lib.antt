@@ -1,3 +1,5 @@
 pub mod Appending
 pub mod Digits
 pub mod Halves
+pub mod Assembled
+pub mod Cases
