@@ -3,3 +3,4 @@ pub mod Digits
 pub mod Halves
 pub mod Assembled
 pub mod Cases
+pub mod Written
