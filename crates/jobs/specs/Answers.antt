@@ -1,6 +1,6 @@
 -- What answering a job does to the buffer that its line is written to.
 -- Assumes nothing.
-use Prim.Native.Nat.{ℕ}
+use Prim.Native.Nat.{ℕ, _≤_}
 use mathlib.Core.Path.{_≡_}
 use mathlib.Core.Bool.{Bool, cond}
 use mathlib.Core.List.{List, _++_}
@@ -20,7 +20,8 @@ outcomeOf (Refused r) = refused (numbered r)
 abbrev pub fits : (line buffer : List ℕ) → Bool
 fits line buffer = leb (length line) (length buffer)
 
--- writing a line to a buffer: "It is written from the buffer's first byte; bytes after it stay.", and a refusal "leaves buffers .. untouched"
+-- writing a line, of at most 16 bytes, to a buffer: "It is written from the buffer's first byte; bytes after it stay.", and a refusal "leaves buffers .. untouched"
 pub record Answers (line before after : List ℕ) (r : Answered) : Type 0 where
+  pub short : length line ≤ 16
   pub answer : outcomeOf r ≡ cond (fits line before) (wrote (length line)) (refused (plain 9))
   pub buffer : after ≡ cond (fits line before) (line ++ drop (length line) before) before

@@ -10,14 +10,19 @@ use Rattle.jobs.specs.declared.Text.{Text}
 abbrev pub textOf : Text → List ℕ
 textOf t = take (t .count) (t .letters)
 
--- a text of the given bytes, within its array
+-- a text within its array of 16 bytes
+pub record Fits (t : Text) : Type 0 where
+  pub room : t .count ≤ 16
+  pub array : length (t .letters) ≡ 16
+
+-- a text of the given bytes
 pub record Begins (bytes : List ℕ) (t : Text) : Type 0 where
   pub text : textOf t ≡ bytes
   pub count : t .count ≡ length bytes
-  pub room : t .count ≤ length (t .letters)
+  pub fits : Fits t
 
--- a text with bytes after those of another, within its array
+-- a text with bytes after those of another
 pub record Appends (bytes : List ℕ) (before after : Text) : Type 0 where
   pub text : textOf after ≡ textOf before ++ bytes
   pub count : after .count ≡ before .count + length bytes
-  pub room : after .count ≤ length (after .letters)
+  pub fits : Fits after

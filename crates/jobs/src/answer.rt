@@ -4,16 +4,14 @@ use crate::Text;
 use crate::job::check_job;
 use crate::line::line_of;
 use isa::Refusal;
-ghost use Prim.Native.Nat.{_≤_};
-ghost use lib.ListN.{length};
 ghost use Rattle.jobs.specs.Answers.{Answers};
 ghost use Rattle.jobs.specs.Jobs.{jobOf};
 ghost use Rattle.jobs.specs.Lines.{lineOf};
-ghost use Rattle.jobs.specs.Texts.{textOf};
+ghost use Rattle.jobs.specs.Texts.{Fits, textOf};
 
 // Writes a text from the buffer's first byte, where it fits.
 fn write_text(text: Text, line: &mut [u8]) -> Answered
-    requires { ⌜ text .count ≤ length (text .letters) ⌝ }
+    requires { ⌜ Fits text ⌝ }
     ensures { λ r. ⌜ Answers (textOf text) (now (line .entry)) (now (line .exit)) r ⌝ }
 {
     let letters = text.letters;
@@ -25,7 +23,7 @@ fn write_text(text: Text, line: &mut [u8]) -> Answered
     Answered::Line(count)
 }
 
-// Answers a job with its line, written from the buffer's first byte. No line is longer than 16 bytes.
+// Answers a job with its line, written from the buffer's first byte; 16 bytes are enough for any.
 pub fn answer(job: &[u8], line: &mut [u8]) -> Answered
     ensures { λ r. ⌜ Answers (lineOf (jobOf (now (job .entry)))) (now (line .entry)) (now (line .exit)) r ⌝ }
 {

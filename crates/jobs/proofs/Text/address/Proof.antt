@@ -34,7 +34,11 @@ letter-requires-3 c κs = search needs
 
 returns : tie.Need-returns
 returns c =
-    rw (← c .before .before .before .before .before .glyph-of .ensures, ← c .before .before .before .before .glyph-of2 .ensures, ← c .before .before .before .glyph-of3 .ensures)
+    rw (
+      ← c .before .before .before .before .before .glyph-of .ensures,
+      ← c .before .before .before .before .glyph-of2 .ensures,
+      ← c .before .before .before .glyph-of3 .ensures,
+    )
     (both (both (c .before .before .letter .ensures) (c .before .letter2 .ensures)) (c .letter3 .ensures))
 
 pub address-spec : {M : Type 1} → statement M

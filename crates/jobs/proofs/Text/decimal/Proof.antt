@@ -34,7 +34,12 @@ returns-2 : tie.Need-returns-2
 returns-2 c =
     let n = c .before .before .before .before .before .before .args .number in
     let same : n / 10 % 10 ≡ n / 10 = omega (arith, c .before .before .if2 .taken) in
-    rw (two-digits n (c .before .before .before .before .if1 .left) (c .before .before .if2 .taken), ← same, ← c .before .before .before .before .before .glyph-of .ensures, ← c .before .before .before .glyph-of2 .ensures)
+    rw (
+      two-digits n (c .before .before .before .before .if1 .left) (c .before .before .if2 .taken),
+      ← same,
+      ← c .before .before .before .before .before .glyph-of .ensures,
+      ← c .before .before .before .glyph-of2 .ensures,
+    )
     (both (c .before .letter2 .ensures) (c .letter3 .ensures))
 
 glyph-of-requires-3 : tie.Need-glyph-of-requires-3

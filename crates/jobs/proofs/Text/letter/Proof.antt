@@ -23,7 +23,7 @@ returns c =
     record {
       text = rw add-one (take-suc-set letters count (c .before .args .letter) within);
       count = search needs;
-      room = rw length-set (omega arith);
+      fits = record { room = search needs; array = rw length-set (search needs) };
     }
 
 pub letter-spec : {M : Type 1} → statement M

@@ -1,8 +1,7 @@
 -- `Text::new` meets its contract.
 -- Assumes nothing.
 use borrow.Author.Needs.{needs}
-use lib.ListN.{replicate}
-use Rattle.jobs.proofs.Appending.{copied, copied-within}
+use Rattle.jobs.proofs.Appending.{begun}
 use Rattle.jobs.proofs.Text.new.Statement.{statement}
 use Rattle.jobs.proofs.Text.new.Tie as tie
 
@@ -13,12 +12,7 @@ copy-requires : tie.Need-copy-requires
 copy-requires c κs = search needs
 
 returns : tie.Need-returns
-returns c =
-    record {
-      text = copied (c .before .before .before .before .args .word .now) (replicate 16 0) _ (c .before .copy .ensures .0) (c .before .copy .ensures .1);
-      count = c .before .copy .ensures .0;
-      room = copied-within (c .before .before .before .before .args .word .now) (replicate 16 0) _ (c .before .copy .ensures .0) (c .before .copy .ensures .1);
-    }
+returns c = begun (c .before .before .before .before .args .word .now) (c .before .before .before .before .pre) (c .before .copy .ensures .0) (c .before .copy .ensures .1)
 
 pub new-spec : {M : Type 1} → statement M
 new-spec = tie.close (tie.spec slice-aggregate-copy copy-requires returns)

@@ -11,13 +11,15 @@ line-of-requires : tie.Need-line-of-requires
 line-of-requires c κs = search needs
 
 write-text-requires : tie.Need-write-text-requires
-write-text-requires c κs = c .before .line-of .ensures .room
+write-text-requires c κs = c .before .line-of .ensures .fits
 
 same-length : tie.Need-same-length
 same-length c = search needs
 
 returns : tie.Need-returns
-returns c = rw (← c .before .before .before .before .before .check-job .ensures, ← c .before .before .before .before .line-of .ensures .text) (c .before .before .write-text .ensures)
+returns c =
+    rw (← c .before .before .before .before .before .check-job .ensures, ← c .before .before .before .before .line-of .ensures .text)
+    (c .before .before .write-text .ensures)
 
 pub answer-spec : {M : Type 1} → statement M
 answer-spec =

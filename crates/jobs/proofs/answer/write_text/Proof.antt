@@ -6,35 +6,43 @@ use borrow.Author.Tests.{le-leb, lt-leb}
 use Prim.Native.Nat.{_<_, _≤_}
 use lib.ListN.{length}
 use Rattle.jobs.specs.Texts.{textOf}
-use lib.Seq.{length-take-le, take-length}
+use lib.Seq.{take-length}
+use Rattle.jobs.proofs.Appending.{text-length}
 use Rattle.jobs.proofs.answer.write_text.Statement.{statement}
 use Rattle.jobs.proofs.answer.write_text.Tie as tie
 
 returns : tie.Need-returns
 returns c =
-    let short : length (c .before .before .before .args .line .now) < length (textOf (c .before .before .before .args .text)) = rw (length-take-le (c .before .before .before .args .text .count) (c .before .before .before .args .text .letters) (c .before .before .before .pre)) (c .if1 .taken) in
-    record { answer = rw (lt-leb _ _ short); buffer = rw (lt-leb _ _ short) }
+    let text = c .before .before .before .args .text in
+    let size = text-length text (c .before .before .before .pre) in
+    let short : length (c .before .before .before .args .line .now) < length (textOf text) = rw size (c .if1 .taken) in
+    record {
+      short = rw size (c .before .before .before .pre .room);
+      answer = rw (lt-leb _ _ short);
+      buffer = rw (lt-leb _ _ short);
+    }
 
 array-share-prefix-letters : tie.Need-array-share-prefix-letters
 array-share-prefix-letters c = search needs
 
 slice-aggregate-copy : tie.Need-slice-aggregate-copy
-slice-aggregate-copy c = sym (length-take-le (c .before .before .before .before .args .text .count) (c .before .before .before .before .args .text .letters) (c .before .before .before .before .pre))
+slice-aggregate-copy c = sym (text-length (c .before .before .before .before .args .text) (c .before .before .before .before .pre))
 
 copy-requires : tie.Need-copy-requires
-copy-requires c κs = rw (length-take-le (c .before .before .before .before .before .args .text .count) (c .before .before .before .before .before .args .text .letters) (c .before .before .before .before .before .pre)) (c .before .before .if1 .left)
+copy-requires c κs = rw (text-length (c .before .before .before .before .before .args .text) (c .before .before .before .before .before .pre)) (c .before .before .if1 .left)
 
 same-length : tie.Need-same-length
 same-length c = search needs
 
 returns-2 : tie.Need-returns-2
 returns-2 c =
-    let text = textOf (c .before .before .before .before .before .before .before .before .args .text) in
-    let size = length-take-le (c .before .before .before .before .before .before .before .before .args .text .count) (c .before .before .before .before .before .before .before .before .args .text .letters) (c .before .before .before .before .before .before .before .before .pre) in
-    let fits : length text ≤ length (c .before .before .before .before .before .before .before .before .args .line .now) = rw size (c .before .before .before .before .before .if1 .left) in
+    let text = c .before .before .before .before .before .before .before .before .args .text in
+    let size = text-length text (c .before .before .before .before .before .before .before .before .pre) in
+    let fits : length (textOf text) ≤ length (c .before .before .before .before .before .before .before .before .args .line .now) = rw size (c .before .before .before .before .before .if1 .left) in
     record {
+      short = rw size (c .before .before .before .before .before .before .before .before .pre .room);
       answer = rw (le-leb _ _ fits, size);
-      buffer = rw (le-leb _ _ fits) (rw (take-length text) at (c .before .before .copy .ensures .1));
+      buffer = rw (le-leb _ _ fits) (rw (take-length (textOf text)) at (c .before .before .copy .ensures .1));
     }
 
 pub write-text-spec : {M : Type 1} → statement M

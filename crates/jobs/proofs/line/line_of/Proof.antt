@@ -21,7 +21,9 @@ decimal-requires : tie.Need-decimal-requires
 decimal-requires c κs = search needs
 
 letter-requires : tie.Need-letter-requires
-letter-requires c κs = omega (arith, c .decimal .ensures .count, c .before .new .ensures .count, at-most-three (c .before .before .before .before .checked .given .0 .0) (search needs))
+letter-requires c κs =
+    let digits = at-most-three (c .before .before .before .before .checked .given .0 .0) (search needs) in
+    omega (arith, digits, c .decimal .ensures .count, c .before .new .ensures .count)
 
 enum-known-checked-2 : tie.Need-enum-known-checked-2
 enum-known-checked-2 c = search needs

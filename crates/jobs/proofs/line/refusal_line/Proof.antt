@@ -21,7 +21,9 @@ decimal-requires : tie.Need-decimal-requires
 decimal-requires c κs = search needs
 
 letter-requires : tie.Need-letter-requires
-letter-requires c κs = omega (arith, c .decimal .ensures .count, c .before .before .before .before .new .ensures .count, at-most-three (c .before .before .number .given .0 .0) (search needs))
+letter-requires c κs =
+    let digits = at-most-three (c .before .before .number .given .0 .0) (search needs) in
+    omega (arith, digits, c .decimal .ensures .count, c .before .before .before .before .new .ensures .count)
 
 enum-known-number-2 : tie.Need-enum-known-number-2
 enum-known-number-2 c = search needs
@@ -30,13 +32,19 @@ decimal-requires-2 : tie.Need-decimal-requires-2
 decimal-requires-2 c κs = search needs
 
 letter-requires-2 : tie.Need-letter-requires-2
-letter-requires-2 c κs = omega (arith, c .decimal2 .ensures .count, c .before .before .before .before .new .ensures .count, at-most-three (c .before .before .number2 .given .0 .0) (search needs))
+letter-requires-2 c κs =
+    let digits = at-most-three (c .before .before .number2 .given .0 .0) (search needs) in
+    omega (arith, digits, c .decimal2 .ensures .count, c .before .before .before .before .new .ensures .count)
 
 address-requires : tie.Need-address-requires
-address-requires c κs = omega (arith, c .letter2 .ensures .count, c .before .decimal2 .ensures .count, c .before .before .before .before .before .new .ensures .count, at-most-three (c .before .before .before .number2 .given .0 .0) (search needs))
+address-requires c κs =
+    let digits = at-most-three (c .before .before .before .number2 .given .0 .0) (search needs) in
+    omega (arith, digits, c .letter2 .ensures .count, c .before .decimal2 .ensures .count, c .before .before .before .before .before .new .ensures .count)
 
 letter-requires-3 : tie.Need-letter-requires-3
-letter-requires-3 c κs = omega (arith, c .address .ensures .count, c .before .letter2 .ensures .count, c .before .before .decimal2 .ensures .count, c .before .before .before .before .before .before .new .ensures .count, at-most-three (c .before .before .before .before .number2 .given .0 .0) (search needs))
+letter-requires-3 c κs =
+    let digits = at-most-three (c .before .before .before .before .number2 .given .0 .0) (search needs) in
+    omega (arith, digits, c .address .ensures .count, c .before .letter2 .ensures .count, c .before .before .decimal2 .ensures .count, c .before .before .before .before .before .before .new .ensures .count)
 
 returns : tie.Need-returns
 unfolding lineOf
