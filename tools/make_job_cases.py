@@ -8,7 +8,9 @@ crates/job_cases/stdout, written by hand.
 """
 import os
 import shutil
+import sys
 
+sys.dont_write_bytecode = True
 from make_job import joined
 
 CRATES = os.path.join(os.path.dirname(os.path.abspath(__file__)), '..', 'crates')

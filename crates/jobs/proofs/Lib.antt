@@ -4,3 +4,4 @@ pub mod Halves
 pub mod Assembled
 pub mod Cases
 pub mod Written
+pub mod Addresses

@@ -25,12 +25,12 @@ newline = 0x0A ∷ []
 abbrev pub glyph : ℕ → ℕ
 glyph d = cond (ltb d 10) (0x30 + d) (0x41 + (d - 10))
 
--- the decimal digits of a number below 10 to the given power, without leading zeros: its last digit, after those of its tenth part if it has any
+-- the decimal digits of a number below 10 to the given power: its last digit, after those of its tenth part where that is not 0
 abbrev pub decimalBelow : (power : ℕ) → ℕ → List ℕ
 decimalBelow zero n = []
 decimalBelow (suc k) n = cond (ltb n 10) (glyph n ∷ []) (decimalBelow k (n / 10) ++ (glyph (n % 10) ∷ []))
 
--- a number in decimal: no number has more digits than it counts, but for 0, which has one
+-- a number in decimal, without leading zeros; n is below 10 to the power n + 1
 unfoldable pub decimal : ℕ → List ℕ
 decimal n = decimalBelow (suc n) n
 

@@ -3,13 +3,12 @@ use crate::Text;
 use certificate::Checked;
 use isa::Number;
 use isa::refusals::number_of;
-ghost use Rattle.certificate.specs.Check.{answered};
 ghost use Rattle.isa.specs.Refusals.{asNumbered};
-ghost use Rattle.certificate.specs.Check.{refused};
+ghost use Rattle.certificate.specs.Check.{answered, refused};
 ghost use Rattle.jobs.specs.Lines.{lineOf};
 ghost use Rattle.jobs.specs.Texts.{Begins};
 
-// A refusal's number, and its address where it has one.
+// The line of a refusal: its number, and its address where it has one.
 fn refusal_line(number: Number) -> Text
     ensures { λ r. ⌜ Begins (lineOf (refused (asNumbered number))) r ⌝ }
 {
@@ -20,6 +19,7 @@ fn refusal_line(number: Number) -> Text
     }
 }
 
+// The line of a job's answer.
 pub fn line_of(checked: Checked) -> Text
     ensures { λ r. ⌜ Begins (lineOf (answered checked)) r ⌝ }
 {

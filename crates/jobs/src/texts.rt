@@ -1,4 +1,4 @@
-// Text in the making.
+// Text in the making: a word, then pieces put after it.
 use crate::Text;
 ghost use mathlib.Core.Path.{_≡_};
 ghost use Prim.Native.Nat.{_+_, _<_, _≤_};
@@ -30,6 +30,7 @@ impl Text {
         Text { letters, count }
     }
 
+    // One byte more.
     pub fn letter(self, letter: u8) -> Self
         requires { ⌜ self .count < 16 ⌝ }
         ensures { λ r. ⌜ Appends (letter ∷ []) self r ⌝ }

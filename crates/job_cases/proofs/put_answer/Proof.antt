@@ -1,8 +1,8 @@
 -- `put_answer` is safe: a line that was written lies within the buffer.
 -- Assumes nothing.
-use borrow.Author.Needs.{needs}
 use mathlib.Core.Path.{sym}
 use lib.Seq.{length-take-le}
+use borrow.Author.Needs.{needs}
 use Rattle.jobs.proofs.Written.{within-buffer}
 use Rattle.job_cases.proofs.put_answer.Statement.{statement}
 use Rattle.job_cases.proofs.put_answer.Tie as tie

@@ -1,9 +1,9 @@
 -- `Text::decimal` meets its contract: a byte has one digit, two or three.
 -- Assumes nothing.
-use borrow.Author.Needs.{needs}
 use Prim.Native.Nat.{_/_, _%_}
 use native.Mathlib.Omega.{arith}
 use mathlib.Core.Path.{_≡_}
+use borrow.Author.Needs.{needs}
 use Rattle.jobs.proofs.Digits.{one-digit, two-digits, three-digits}
 use Rattle.jobs.proofs.Appending.{both}
 use Rattle.jobs.proofs.Text.decimal.Statement.{statement}

@@ -1,11 +1,10 @@
 -- `Text::letter` meets its contract.
 -- Assumes nothing.
-use borrow.Author.Needs.{needs}
+use Prim.Native.Nat.{_<_}
 use native.Mathlib.Numerals.{add-one}
 use lib.Seq.{take-suc-set}
-use Prim.Native.Nat.{_<_}
-use native.Mathlib.Omega.{arith}
 use lib.ListN.{length, length-set}
+use borrow.Author.Needs.{needs}
 use Rattle.jobs.proofs.Text.letter.Statement.{statement}
 use Rattle.jobs.proofs.Text.letter.Tie as tie
 

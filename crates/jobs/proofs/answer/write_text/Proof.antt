@@ -1,12 +1,12 @@
 -- `answer::write_text` meets its contract.
 -- Assumes nothing.
-use borrow.Author.Needs.{needs}
-use mathlib.Core.Path.{sym}
-use borrow.Author.Tests.{le-leb, lt-leb}
 use Prim.Native.Nat.{_<_, _≤_}
+use mathlib.Core.Path.{sym}
 use lib.ListN.{length}
-use Rattle.jobs.specs.Texts.{textOf}
 use lib.Seq.{take-length}
+use borrow.Author.Needs.{needs}
+use borrow.Author.Tests.{le-leb, lt-leb}
+use Rattle.jobs.specs.Texts.{textOf}
 use Rattle.jobs.proofs.Appending.{text-length}
 use Rattle.jobs.proofs.answer.write_text.Statement.{statement}
 use Rattle.jobs.proofs.answer.write_text.Tie as tie

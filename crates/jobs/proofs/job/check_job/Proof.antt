@@ -1,10 +1,10 @@
 -- `job::check_job` meets its contract: 20, 21, 22, then the check of the parts.
 -- Assumes nothing.
-use borrow.Author.Needs.{needs}
-use borrow.Author.Tests.{eq-eqb, ne-eqb, le-leb, lt-leb, not-true, not-false}
 use native.Mathlib.Omega.{arith}
 use mathlib.Core.Path.{_≡_, sym, _∙_}
 use mathlib.Core.Bool.{true}
+use borrow.Author.Needs.{needs}
+use borrow.Author.Tests.{eq-eqb, ne-eqb, le-leb, lt-leb, not-true, not-false}
 use Rattle.jobs.specs.Jobs.{isCount, jobOf}
 use Rattle.jobs.proofs.Halves.{halves}
 use Rattle.jobs.proofs.job.check_job.Statement.{statement}

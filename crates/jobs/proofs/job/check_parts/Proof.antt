@@ -1,10 +1,10 @@
 -- `job::check_parts` meets its contract.
 -- Assumes nothing.
-use borrow.Author.Needs.{needs}
 use Prim.Native.Nat.{_+_, _-_}
 use native.Mathlib.Omega.{arith}
 use mathlib.Core.Path.{_≡_}
 use lib.ListN.{length}
+use borrow.Author.Needs.{needs}
 use Rattle.jobs.proofs.job.check_parts.Statement.{statement}
 use Rattle.jobs.proofs.job.check_parts.Tie as tie
 

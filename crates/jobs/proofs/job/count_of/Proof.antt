@@ -1,7 +1,7 @@
 -- `job::count_of` meets its contract.
 -- Assumes nothing.
-use borrow.Author.Needs.{needs}
 use native.Mathlib.Omega.{arith}
+use borrow.Author.Needs.{needs}
 use Rattle.jobs.proofs.job.count_of.Statement.{statement}
 use Rattle.jobs.proofs.job.count_of.Tie as tie
 

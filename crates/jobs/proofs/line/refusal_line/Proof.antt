@@ -1,7 +1,7 @@
 -- `line::refusal_line` meets its contract.
 -- Assumes nothing.
-use borrow.Author.Needs.{needs}
 use native.Mathlib.Omega.{arith}
+use borrow.Author.Needs.{needs}
 use Rattle.jobs.specs.Lines.{lineOf}
 use Rattle.jobs.proofs.Digits.{at-most-three}
 use Rattle.jobs.proofs.Appending.{then, both}
