@@ -13,7 +13,7 @@ abbrev blank : List ℕ
 blank = replicate 2048 0x00
 
 -- bytes put at a program address of a 2K image or certificate
-abbrev put : (address : ℕ) → List ℕ → List ℕ → List ℕ
+abbrev pub put : (address : ℕ) → List ℕ → List ℕ → List ℕ
 put a bytes l = sets l (a - 0x800) bytes
 
 -- "a 2K image with 4D 01 89 19 88 at 880h, CD at 890h, 09 88 at FFEh, 4D at FFCh, else 00h"

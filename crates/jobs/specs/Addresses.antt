@@ -1,0 +1,12 @@
+-- Three hexadecimal digits state the whole address.
+-- Assumes nothing.
+use Prim.Native.Nat.{ℕ, _<_}
+use mathlib.Core.Path.{_≡_}
+use mathlib.Core.List.{List}
+use Rattle.isa.specs.Refusals.{located}
+use Rattle.certificate.specs.Check.{refused}
+use Rattle.jobs.specs.Jobs.{jobOf}
+
+-- "address in three hex digits": every address that a job's answer gives is below 1000h
+abbrev pub ThreeDigitsAreEnough : Type 0
+ThreeDigitsAreEnough = (job : List ℕ) (number address : ℕ) → jobOf job ≡ refused (located number address) → address < 0x1000
