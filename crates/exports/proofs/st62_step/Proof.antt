@@ -1,0 +1,57 @@
+-- `st62_step` meets its contract.
+-- Assumes nothing.
+use mathlib.Core.Path.{sym, _∙_}
+use borrow.Author.Tests.{not-false}
+use Rattle.exports.proofs.Filling.{typed-length}
+use borrow.Author.Needs.{needs}
+use Rattle.exports.proofs.st62_step.Statement.{statement}
+use Rattle.exports.proofs.st62_step.Tie as tie
+
+is-typed-requires : tie.Need-is-typed-requires
+is-typed-requires c κs = search needs
+
+untyped-requires : tie.Need-untyped-requires
+untyped-requires c κs = search needs
+
+same-length : tie.Need-same-length
+same-length c = search needs
+
+returns : tie.Need-returns
+returns c = search needs
+
+unpack-requires : tie.Need-unpack-requires
+unpack-requires c κs = typed-length _ (sym (c .before .before .is-typed .ensures) ∙ not-false _ (c .before .if1 .left))
+
+byte-or-requires : tie.Need-byte-or-requires
+byte-or-requires c κs = search needs
+
+step-requires : tie.Need-step-requires
+step-requires c κs = search needs
+
+pack-requires : tie.Need-pack-requires
+pack-requires c κs = typed-length _ (sym (c .before .before .before .before .before .before .before .is-typed .ensures) ∙ not-false _ (c .before .before .before .before .before .before .if1 .left))
+
+step-word-requires : tie.Need-step-word-requires
+step-word-requires c κs = search needs
+
+same-length-2 : tie.Need-same-length-2
+same-length-2 c = search needs
+
+returns-2 : tie.Need-returns-2
+returns-2 c = search needs
+
+pub st62-step-spec : {M : Type 1} → statement M
+st62-step-spec =
+    tie.close
+    (tie.spec
+    is-typed-requires
+    untyped-requires
+    same-length
+    returns
+    unpack-requires
+    byte-or-requires
+    step-requires
+    pack-requires
+    step-word-requires
+    same-length-2
+    returns-2)
