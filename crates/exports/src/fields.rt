@@ -1,12 +1,31 @@
 // An instruction as a row of fields: form, operand kind, value low and high, second value, bit number, displacement; decoding adds
 // length, cycles and a zero.
 use crate::copying::number;
+use crate::copying::put;
 use isa::Instruction;
 use isa::Operand;
 use isa::displacement::long_byte;
 use isa::displacement::long_displacement;
+ghost use mathlib.Core.Path.{_≡_};
+ghost use mathlib.Core.List.{_++_};
 ghost use Prim.Native.Nat.{_≤_};
-ghost use lib.ListN.{length};
+ghost use lib.ListN.{length, drop};
+ghost use Rattle.exports.specs.Fields.{
+  bareRow,
+  jumpRow,
+  toRow,
+  bitJumpRow,
+  bitRow,
+  immediateRow,
+  operandRow,
+  packedInstruction,
+  decodedRow,
+  operandBy,
+  instructionBy,
+  instructionAt,
+  agree,
+  unpackedInstruction,
+};
 
 // The instruction of a row, or that the row is no instruction's.
 pub enum Reading {
@@ -14,31 +33,45 @@ pub enum Reading {
     Unreadable,
 }
 
-fn bare(form: u8) -> [u8; 7] {
+fn bare(form: u8) -> [u8; 7]
+    ensures { λ r. ⌜ r ≡ bareRow form ⌝ }
+{
     [form, 0, 0, 0, 0, 0, 0]
 }
 
-fn jump(form: u8, displacement: i8) -> [u8; 7] {
+fn jump(form: u8, displacement: i8) -> [u8; 7]
+    ensures { λ r. ⌜ r ≡ jumpRow form displacement ⌝ }
+{
     [form, 0, 0, 0, 0, 0, long_byte(displacement)]
 }
 
-fn to(form: u8, target: u16) -> [u8; 7] {
+fn to(form: u8, target: u16) -> [u8; 7]
+    ensures { λ r. ⌜ r ≡ toRow form target ⌝ }
+{
     [form, 0, (target % 256) as u8, (target / 256) as u8, 0, 0, 0]
 }
 
-fn bit_jump(form: u8, bit: u8, address: u8, displacement: i8) -> [u8; 7] {
+fn bit_jump(form: u8, bit: u8, address: u8, displacement: i8) -> [u8; 7]
+    ensures { λ r. ⌜ r ≡ bitJumpRow form bit address displacement ⌝ }
+{
     [form, 0, address, 0, 0, bit, long_byte(displacement)]
 }
 
-fn on_bit(form: u8, bit: u8, address: u8) -> [u8; 7] {
+fn on_bit(form: u8, bit: u8, address: u8) -> [u8; 7]
+    ensures { λ r. ⌜ r ≡ bitRow form bit address ⌝ }
+{
     [form, 0, address, 0, 0, bit, 0]
 }
 
-fn immediate(form: u8, value: u8, second: u8) -> [u8; 7] {
+fn immediate(form: u8, value: u8, second: u8) -> [u8; 7]
+    ensures { λ r. ⌜ r ≡ immediateRow form value second ⌝ }
+{
     [form, 0, value, 0, second, 0, 0]
 }
 
-fn on(form: u8, operand: Operand) -> [u8; 7] {
+fn on(form: u8, operand: Operand) -> [u8; 7]
+    ensures { λ r. ⌜ r ≡ operandRow form operand ⌝ }
+{
     match operand {
         Operand::Direct(address) => [form, 1, address, 0, 0, 0, 0],
         Operand::Short(register) => [form, 2, register, 0, 0, 0, 0],
@@ -48,7 +81,9 @@ fn on(form: u8, operand: Operand) -> [u8; 7] {
 }
 
 // The seven fields that an instruction is read from.
-fn fields_of(i: Instruction) -> [u8; 7] {
+fn fields_of(i: Instruction) -> [u8; 7]
+    ensures { λ r. ⌜ r ≡ packedInstruction i ⌝ }
+{
     match i {
         Instruction::Jrnz(d) => jump(0, d),
         Instruction::Jrnc(d) => jump(1, d),
@@ -83,13 +118,20 @@ fn fields_of(i: Instruction) -> [u8; 7] {
     }
 }
 
-// The whole row that decoding answers.
-pub fn row(i: Instruction, length: u8, cycles: u8) -> [u8; 10] {
-    let f = fields_of(i);
-    [f[0], f[1], f[2], f[3], f[4], f[5], f[6], length, cycles, 0]
+// The whole row that decoding answers, from the buffer's first byte.
+pub fn put_row(out: &mut [u8], i: Instruction, bytes: u8, cycles: u8)
+    requires { ⌜ 10 ≤ length (now out) ⌝ }
+    ensures { λ _. ⌜ now (out .exit) ≡ decodedRow i bytes cycles ++ drop 10 (now (out .entry)) ⌝ }
+{
+    let fields = fields_of(i);
+    let timing = [bytes, cycles, 0];
+    put(out, 0, &fields);
+    put(out, 7, &timing);
 }
 
-fn operand_of(kind: u8, value: u8) -> Operand {
+fn operand_of(kind: u8, value: u8) -> Operand
+    ensures { λ r. ⌜ r ≡ operandBy kind value ⌝ }
+{
     match kind {
         1 => Operand::Direct(value),
         2 => Operand::Short(value),
@@ -107,7 +149,9 @@ fn instruction_of(
     second: u8,
     bit: u8,
     d: i8,
-) -> Instruction {
+) -> Instruction
+    ensures { λ r. ⌜ r ≡ instructionBy form o n target second bit d ⌝ }
+{
     match form {
         0 => Instruction::Jrnz(d),
         1 => Instruction::Jrnc(d),
@@ -145,6 +189,7 @@ fn instruction_of(
 // The one instruction that seven fields can be of.
 fn candidate(fields: &[u8]) -> Instruction
     requires { ⌜ 7 ≤ length (now fields) ⌝ }
+    ensures { λ r. ⌜ r ≡ instructionAt (now (fields .entry)) ⌝ }
 {
     let value = fields[2];
     instruction_of(
@@ -161,6 +206,7 @@ fn candidate(fields: &[u8]) -> Instruction
 // Whether the first seven bytes of a slice are these.
 fn begins_with(fields: &[u8], own: &[u8; 7]) -> bool
     requires { ⌜ 7 ≤ length (now fields) ⌝ }
+    ensures { λ r. ⌜ r ≡ agree (now (fields .entry)) (now (own .entry)) 7 ⌝ }
 {
     let mut same = true;
     let mut i: usize = 0;
@@ -175,7 +221,9 @@ fn begins_with(fields: &[u8], own: &[u8; 7]) -> bool
 
 // Reads an instruction. A row that is not exactly that of its instruction, as one with a byte in a field that the form does not use,
 // is no instruction's.
-pub fn read(fields: &[u8]) -> Reading {
+pub fn read(fields: &[u8]) -> Reading
+    ensures { λ r. ⌜ r ≡ unpackedInstruction (now (fields .entry)) ⌝ }
+{
     if fields.len() < 7 {
         return Reading::Unreadable;
     }

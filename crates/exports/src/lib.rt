@@ -18,8 +18,8 @@ use certificate::check::check;
 use copying::byte_or;
 use copying::put;
 use fields::Reading;
+use fields::put_row;
 use fields::read;
-use fields::row;
 use isa::Decoded;
 use isa::Refusal;
 use machine::running::run;
@@ -30,10 +30,16 @@ use packing::pack;
 use packing::report_bytes;
 use states::is_typed;
 use states::unpack;
+ghost use mathlib.Core.Path.{_≡_};
+ghost use Rattle.certificate.specs.Check.{checkOf};
+ghost use Rattle.exports.specs.Answers.{verdictWord};
+ghost use Rattle.exports.specs.Lent.{lent, lentRun, decodeLent, writeLent, resetLent, storeLent, stepLent, runLent};
 
 // Decodes at an address of the image into `out`.
 #[no_mangle]
-pub extern "C" fn st62_decode(image: &[u8], address: u32, out: &mut [u8]) -> u64 {
+pub extern "C" fn st62_decode(image: &[u8], address: u32, out: &mut [u8]) -> u64
+    ensures { λ r. ⌜ lent r (now (out .exit)) ≡ decodeLent (now (image .entry)) address (now (out .entry)) ⌝ }
+{
     match isa::decode::decode(image, copying::address_or_end(address)) {
         Decoded::Refused(refusal) => refused(refusal),
         Decoded::Valid {
@@ -44,8 +50,7 @@ pub extern "C" fn st62_decode(image: &[u8], address: u32, out: &mut [u8]) -> u64
             if out.len() < 10 {
                 return refused(Refusal::BufferLength);
             }
-            let bytes = row(instruction, length, cycles);
-            put(out, 0, &bytes);
+            put_row(out, instruction, length, cycles);
             done(length as u32)
         }
     }
@@ -53,7 +58,9 @@ pub extern "C" fn st62_decode(image: &[u8], address: u32, out: &mut [u8]) -> u64
 
 // Writes the instruction of the first seven fields into `out`.
 #[no_mangle]
-pub extern "C" fn st62_write(fields: &[u8], out: &mut [u8]) -> u64 {
+pub extern "C" fn st62_write(fields: &[u8], out: &mut [u8]) -> u64
+    ensures { λ r. ⌜ lent r (now (out .exit)) ≡ writeLent (now (fields .entry)) (now (out .entry)) ⌝ }
+{
     match read(fields) {
         Reading::Is(instruction) => write_word(isa::write::write(instruction, out)),
         Reading::Unreadable => refused(Refusal::OperandRange),
@@ -61,7 +68,9 @@ pub extern "C" fn st62_write(fields: &[u8], out: &mut [u8]) -> u64 {
 }
 
 #[no_mangle]
-pub extern "C" fn st62_reset(state: &mut [u8]) -> u64 {
+pub extern "C" fn st62_reset(state: &mut [u8]) -> u64
+    ensures { λ r. ⌜ lent r (now (state .exit)) ≡ resetLent (now (state .entry)) ⌝ }
+{
     if !is_typed(state) {
         return refused(Refusal::IllFormedMachine);
     }
@@ -72,7 +81,9 @@ pub extern "C" fn st62_reset(state: &mut [u8]) -> u64 {
 
 // The host's store of a value at a data address.
 #[no_mangle]
-pub extern "C" fn st62_store(state: &mut [u8], address: u32, value: u32) -> u64 {
+pub extern "C" fn st62_store(state: &mut [u8], address: u32, value: u32) -> u64
+    ensures { λ r. ⌜ lent r (now (state .exit)) ≡ storeLent (now (state .entry)) address value ⌝ }
+{
     if 255 < address {
         return refused(Refusal::OperandRange);
     }
@@ -90,7 +101,9 @@ pub extern "C" fn st62_store(state: &mut [u8], address: u32, value: u32) -> u64 
 }
 
 #[no_mangle]
-pub extern "C" fn st62_step(image: &[u8], state: &mut [u8], request: u32) -> u64 {
+pub extern "C" fn st62_step(image: &[u8], state: &mut [u8], request: u32) -> u64
+    ensures { λ r. ⌜ lent r (now (state .exit)) ≡ stepLent (now (image .entry)) (now (state .entry)) request ⌝ }
+{
     if !is_typed(state) {
         return untyped(image);
     }
@@ -109,7 +122,9 @@ pub extern "C" fn st62_run(
     requests: &[u8],
     n: u32,
     report: &mut [u8],
-) -> u64 {
+) -> u64
+    ensures { λ r. ⌜ lentRun r (now (state .exit)) (now (report .exit)) ≡ runLent (now (image .entry)) (now (state .entry)) (now (requests .entry)) n (now (report .entry)) ⌝ }
+{
     if !is_typed(state) {
         return untyped(image);
     }
@@ -130,6 +145,8 @@ pub extern "C" fn st62_run(
 }
 
 #[no_mangle]
-pub extern "C" fn st62_check(image: &[u8], certificate: &[u8], wired: u32) -> u64 {
+pub extern "C" fn st62_check(image: &[u8], certificate: &[u8], wired: u32) -> u64
+    ensures { λ r. ⌜ r ≡ verdictWord (checkOf (now (image .entry)) (now (certificate .entry)) wired) ⌝ }
+{
     check_word(check(image, certificate, byte_or(wired)))
 }

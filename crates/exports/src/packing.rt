@@ -6,9 +6,10 @@ use control::Mode;
 use machine::FlagPairs;
 use machine::Machine;
 ghost use mathlib.Core.Path.{_≡_};
-ghost use Prim.Native.Nat.{_<_};
+ghost use Prim.Native.Nat.{_<_, _/_, _%_};
 ghost use lib.ListN.{length};
 ghost use Rattle.exports.specs.States.{modeNumber, flag, low, high, controlBytes, stackBytes, packed};
+ghost use Rattle.exports.specs.Lent.{reportBytes};
 
 fn mode_number(mode: Mode) -> u8
     ensures { λ r. ⌜ r ≡ modeNumber mode ⌝ }
@@ -102,12 +103,15 @@ pub fn pack(state: &mut [u8], m: Machine)
 // A byte of a number, by its weight.
 fn digit(n: u32, weight: u32) -> u8
     requires { ⌜ 0 < weight ⌝ }
+    ensures { λ r. ⌜ r ≡ n / weight % 256 ⌝ }
 {
     (n / weight % 256) as u8
 }
 
 // A run's report: steps and cycles, four bytes each.
-pub fn report_bytes(steps: u32, cycles: u32) -> [u8; 8] {
+pub fn report_bytes(steps: u32, cycles: u32) -> [u8; 8]
+    ensures { λ r. ⌜ r ≡ reportBytes steps cycles ⌝ }
+{
     [
         digit(steps, 1),
         digit(steps, 0x100),
