@@ -1,0 +1,38 @@
+-- `answers::step_word` meets its contract.
+-- Assumes nothing.
+use borrow.Author.Needs.{needs}
+use Rattle.exports.proofs.answers.step_word.Statement.{statement}
+use Rattle.exports.proofs.answers.step_word.Tie as tie
+
+enum-known-answer : tie.Need-enum-known-answer
+enum-known-answer c = search needs
+
+cast-done : tie.Need-cast-done
+cast-done c = search needs
+
+done-requires : tie.Need-done-requires
+done-requires c κs = search needs
+
+enum-known-answer-2 : tie.Need-enum-known-answer-2
+enum-known-answer-2 c = search needs
+
+refused-requires : tie.Need-refused-requires
+refused-requires c κs = search needs
+
+returns : tie.Need-returns
+returns c = rw (c .before .before .answer .given .1) (c .done .ensures)
+
+returns-2 : tie.Need-returns-2
+returns-2 c = rw (c .before .before .answer2 .given .1) (c .refused .ensures)
+
+pub step-word-spec : {M : Type 1} → statement M
+step-word-spec =
+    tie.close
+    (tie.spec
+    enum-known-answer
+    cast-done
+    done-requires
+    enum-known-answer-2
+    refused-requires
+    returns
+    returns-2)

@@ -1,0 +1,18 @@
+-- `copying::address_or_end` meets its contract.
+-- Assumes nothing.
+use borrow.Author.Tests.{lt-ltb, le-ltb}
+use borrow.Author.Needs.{needs}
+use Rattle.exports.proofs.copying.address_or_end.Statement.{statement}
+use Rattle.exports.proofs.copying.address_or_end.Tie as tie
+
+cast-result : tie.Need-cast-result
+cast-result c = search needs
+
+returns : tie.Need-returns
+returns c = rw (lt-ltb _ _ (c .if1 .taken))
+
+returns-2 : tie.Need-returns-2
+returns-2 c = rw (le-ltb _ _ (c .if1 .left))
+
+pub address-or-end-spec : {M : Type 1} → statement M
+address-or-end-spec = tie.close (tie.spec cast-result returns returns-2)

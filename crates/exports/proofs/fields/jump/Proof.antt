@@ -1,0 +1,15 @@
+-- `fields::jump` meets its contract.
+-- Assumes nothing.
+use Rattle.isa.proofs.Finite.{kept}
+use borrow.Author.Needs.{needs}
+use Rattle.exports.proofs.fields.jump.Statement.{statement}
+use Rattle.exports.proofs.fields.jump.Tie as tie
+
+long-byte-requires : tie.Need-long-byte-requires
+long-byte-requires c κs = search needs
+
+returns : tie.Need-returns
+returns c = rw (c .long-byte .ensures, kept (c .before .fits .displacement))
+
+pub jump-spec : {M : Type 1} → statement M
+jump-spec = tie.close (tie.spec long-byte-requires returns)

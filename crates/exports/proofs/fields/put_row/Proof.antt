@@ -1,0 +1,44 @@
+-- `fields::put_row` meets its contract.
+-- Assumes nothing.
+use mathlib.Core.Path.{refl, sym}
+use mathlib.Core.List.{[], _∷_}
+use Rattle.exports.proofs.Filling.{two-parts}
+use borrow.Author.Needs.{needs}
+use Rattle.exports.proofs.fields.put_row.Statement.{statement}
+use Rattle.exports.proofs.fields.put_row.Tie as tie
+
+fields-of-requires : tie.Need-fields-of-requires
+fields-of-requires c κs = search needs
+
+slice-aggregate-put : tie.Need-slice-aggregate-put
+slice-aggregate-put c = search needs
+
+put-requires : tie.Need-put-requires
+put-requires c κs = search needs
+
+slice-aggregate-put-2 : tie.Need-slice-aggregate-put-2
+slice-aggregate-put-2 c = search needs
+
+put-requires-2 : tie.Need-put-requires-2
+put-requires-2 c κs = search needs
+
+same-length : tie.Need-same-length
+same-length c = search needs
+
+returns : tie.Need-returns
+returns c =
+    rw (← c .before .before .before .before .before .before .before .before .before .before .fields-of .ensures)
+    (two-parts (c .before .before .before .before .before .before .before .before .before .before .before .before .args .out .now) (c .before .before .before .before .before .before .before .before .before .before .fields-of .result) (c .before .before .before .before .before .before .before .before .before .before .before .before .args .bytes ∷ c .before .before .before .before .before .before .before .before .before .before .before .before .args .cycles ∷ 0 ∷ []) (c .before .before .before .before .before .before .before .put .last .0) (c .before .before .put2 .last .0)
+    (sym (slice-aggregate-put (c .before .before .before .before .before .before .before .before))) refl (c .before .before .before .before .before .before .before .put .ensures) (c .before .before .put2 .ensures))
+
+pub put-row-spec : {M : Type 1} → statement M
+put-row-spec =
+    tie.close
+    (tie.spec
+    fields-of-requires
+    slice-aggregate-put
+    put-requires
+    slice-aggregate-put-2
+    put-requires-2
+    same-length
+    returns)

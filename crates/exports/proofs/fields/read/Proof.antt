@@ -1,0 +1,39 @@
+-- `fields::read` meets its contract.
+-- Assumes nothing.
+use borrow.Author.Tests.{le-leb, lt-leb}
+use Rattle.exports.specs.Fields.{unpackedInstruction}
+use borrow.Author.Needs.{needs}
+use Rattle.exports.proofs.fields.read.Statement.{statement}
+use Rattle.exports.proofs.fields.read.Tie as tie
+
+returns : tie.Need-returns
+unfolding unpackedInstruction
+returns c = rw (lt-leb _ _ (c .if1 .taken))
+
+candidate-requires : tie.Need-candidate-requires
+candidate-requires c κs = search needs
+
+fields-of-requires : tie.Need-fields-of-requires
+fields-of-requires c κs = search needs
+
+begins-with-requires : tie.Need-begins-with-requires
+begins-with-requires c κs = search needs
+
+returns-2 : tie.Need-returns-2
+unfolding unpackedInstruction
+returns-2 c = rw (le-leb _ _ (c .before .before .before .before .before .if1 .left), ← c .before .before .before .before .candidate .ensures, ← c .before .before .before .fields-of .ensures, ← c .before .begins-with .ensures, c .if2 .taken)
+
+returns-3 : tie.Need-returns-3
+unfolding unpackedInstruction
+returns-3 c = rw (le-leb _ _ (c .before .before .before .before .before .if1 .left), ← c .before .before .before .before .candidate .ensures, ← c .before .before .before .fields-of .ensures, ← c .before .begins-with .ensures, c .if2 .left)
+
+pub read-spec : {M : Type 1} → statement M
+read-spec =
+    tie.close
+    (tie.spec
+    returns
+    candidate-requires
+    fields-of-requires
+    begins-with-requires
+    returns-2
+    returns-3)

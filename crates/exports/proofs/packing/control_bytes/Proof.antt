@@ -1,0 +1,56 @@
+-- `packing::control_bytes` meets its contract.
+-- Assumes nothing.
+use Rattle.exports.specs.States.{controlBytes}
+use borrow.Author.Needs.{needs}
+use Rattle.exports.proofs.packing.control_bytes.Statement.{statement}
+use Rattle.exports.proofs.packing.control_bytes.Tie as tie
+
+low-requires : tie.Need-low-requires
+low-requires c κs = search needs
+
+high-requires : tie.Need-high-requires
+high-requires c κs = search needs
+
+mode-number-requires : tie.Need-mode-number-requires
+mode-number-requires c κs = search needs
+
+flag-requires : tie.Need-flag-requires
+flag-requires c κs = search needs
+
+flag-requires-2 : tie.Need-flag-requires-2
+flag-requires-2 c κs = search needs
+
+flag-requires-3 : tie.Need-flag-requires-3
+flag-requires-3 c κs = search needs
+
+flag-requires-4 : tie.Need-flag-requires-4
+flag-requires-4 c κs = search needs
+
+flag-requires-5 : tie.Need-flag-requires-5
+flag-requires-5 c κs = search needs
+
+flag-requires-6 : tie.Need-flag-requires-6
+flag-requires-6 c κs = search needs
+
+flag-requires-7 : tie.Need-flag-requires-7
+flag-requires-7 c κs = search needs
+
+returns : tie.Need-returns
+unfolding controlBytes
+returns c = rw (c .before .before .before .before .before .before .before .before .before .low .ensures, c .before .before .before .before .before .before .before .before .high .ensures, c .before .before .before .before .before .before .before .mode-number .ensures, c .before .before .before .before .before .before .flag .ensures, c .before .before .before .before .before .flag2 .ensures, c .before .before .before .before .flag3 .ensures, c .before .before .before .flag4 .ensures, c .before .before .flag5 .ensures, c .before .flag6 .ensures, c .flag7 .ensures)
+
+pub control-bytes-spec : {M : Type 1} → statement M
+control-bytes-spec =
+    tie.close
+    (tie.spec
+    low-requires
+    high-requires
+    mode-number-requires
+    flag-requires
+    flag-requires-2
+    flag-requires-3
+    flag-requires-4
+    flag-requires-5
+    flag-requires-6
+    flag-requires-7
+    returns)

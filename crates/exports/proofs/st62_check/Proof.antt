@@ -1,0 +1,27 @@
+-- `st62_check` meets its contract.
+-- Assumes nothing.
+use mathlib.Core.Path.{ap, _∙_}
+use Rattle.exports.proofs.Beyond.{check-beyond}
+use Rattle.exports.specs.Answers.{verdictWord}
+use borrow.Author.Needs.{needs}
+use Rattle.exports.proofs.st62_check.Statement.{statement}
+use Rattle.exports.proofs.st62_check.Tie as tie
+
+byte-or-requires : tie.Need-byte-or-requires
+byte-or-requires c κs = search needs
+
+check-requires : tie.Need-check-requires
+check-requires c κs = search needs
+
+check-word-requires : tie.Need-check-word-requires
+check-word-requires c κs = search needs
+
+returns : tie.Need-returns
+returns c =
+    c .check-word .ensures
+    ∙ ap verdictWord
+    ((rw (c .before .before .byte-or .ensures) at (c .before .check .ensures))
+    ∙ check-beyond (c .before .before .before .before .before .args .image .now) (c .before .before .before .before .before .args .certificate .now) (c .before .before .before .before .before .args .wired))
+
+pub st62-check-spec : {M : Type 1} → statement M
+st62-check-spec = tie.close (tie.spec byte-or-requires check-requires check-word-requires returns)

@@ -1,0 +1,69 @@
+-- `st62_decode` meets its contract.
+-- Assumes nothing.
+use mathlib.Core.Path.{_∙_}
+use borrow.Author.Tests.{le-leb, lt-leb}
+use Rattle.exports.proofs.Beyond.{decode-beyond}
+use Rattle.exports.specs.Lent.{decodeLent, decodedLent}
+use borrow.Author.Needs.{needs}
+use Rattle.exports.proofs.st62_decode.Statement.{statement}
+use Rattle.exports.proofs.st62_decode.Tie as tie
+
+address-or-end-requires : tie.Need-address-or-end-requires
+address-or-end-requires c κs = search needs
+
+decode-requires : tie.Need-decode-requires
+decode-requires c κs = search needs
+
+enum-known-refusal : tie.Need-enum-known-refusal
+enum-known-refusal c = search needs
+
+refused-requires : tie.Need-refused-requires
+refused-requires c κs = search needs
+
+enum-known-instruction : tie.Need-enum-known-instruction
+enum-known-instruction c = search needs
+
+refused-requires-2 : tie.Need-refused-requires-2
+refused-requires-2 c κs = search needs
+
+returns : tie.Need-returns
+unfolding decodeLent decodedLent
+returns c = rw (← ((rw (c .before .before .before .before .before .before .address-or-end .ensures) at (c .before .before .before .before .before .decode .ensures)) ∙ decode-beyond (c .before .before .before .before .before .before .before .before .before .args .image .now) (c .before .before .before .before .before .before .before .before .before .args .address)), c .before .before .before .instruction .given .1, lt-leb _ _ (c .before .if1 .taken), c .refused2 .ensures)
+
+put-row-requires : tie.Need-put-row-requires
+put-row-requires c κs = search needs
+
+cast-done : tie.Need-cast-done
+cast-done c = search needs
+
+done-requires : tie.Need-done-requires
+done-requires c κs = search needs
+
+returns-2 : tie.Need-returns-2
+unfolding decodeLent decodedLent
+returns-2 c = rw (← ((rw (c .before .before .before .before .before .address-or-end .ensures) at (c .before .before .before .before .decode .ensures)) ∙ decode-beyond (c .before .before .before .before .before .before .before .before .args .image .now) (c .before .before .before .before .before .before .before .before .args .address)), c .before .before .refusal .given .1, c .refused .ensures)
+
+same-length : tie.Need-same-length
+same-length c = search needs
+
+returns-3 : tie.Need-returns-3
+unfolding decodeLent decodedLent
+returns-3 c = rw (← ((rw (c .before .before .before .before .before .before .before .before .before .before .address-or-end .ensures) at (c .before .before .before .before .before .before .before .before .before .decode .ensures)) ∙ decode-beyond (c .before .before .before .before .before .before .before .before .before .before .before .before .before .args .image .now) (c .before .before .before .before .before .before .before .before .before .before .before .before .before .args .address)), c .before .before .before .before .before .before .before .instruction .given .1, le-leb _ _ (c .before .before .before .before .before .if1 .left), c .done .ensures, c .before .before .before .put-row .ensures)
+
+pub st62-decode-spec : {M : Type 1} → statement M
+st62-decode-spec =
+    tie.close
+    (tie.spec
+    address-or-end-requires
+    decode-requires
+    enum-known-refusal
+    refused-requires
+    enum-known-instruction
+    refused-requires-2
+    returns
+    put-row-requires
+    cast-done
+    done-requires
+    returns-2
+    same-length
+    returns-3)

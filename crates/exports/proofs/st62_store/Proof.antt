@@ -1,0 +1,85 @@
+-- `st62_store` meets its contract.
+-- Assumes nothing.
+use mathlib.Core.Path.{sym, ap, _∙_}
+use borrow.Author.Tests.{le-leb, lt-leb, not-true, not-false}
+use Rattle.exports.specs.Lent.{storeLent, storedLent}
+use Rattle.exports.specs.States.{unpacked}
+use Rattle.exports.proofs.Filling.{typed-length}
+use borrow.Author.Needs.{needs}
+use Rattle.exports.proofs.st62_store.Statement.{statement}
+use Rattle.exports.proofs.st62_store.Tie as tie
+
+refused-requires : tie.Need-refused-requires
+refused-requires c κs = search needs
+
+returns : tie.Need-returns
+unfolding storeLent unpacked
+returns c = rw (lt-leb _ _ (c .before .if1 .taken), c .refused .ensures)
+
+refused-requires-2 : tie.Need-refused-requires-2
+refused-requires-2 c κs = search needs
+
+returns-2 : tie.Need-returns-2
+unfolding storeLent unpacked
+returns-2 c = rw (le-leb _ _ (c .before .before .if1 .left), lt-leb _ _ (c .before .if2 .taken), c .refused2 .ensures)
+
+is-typed-requires : tie.Need-is-typed-requires
+is-typed-requires c κs = search needs
+
+refused-requires-3 : tie.Need-refused-requires-3
+refused-requires-3 c κs = search needs
+
+same-length : tie.Need-same-length
+same-length c = search needs
+
+returns-3 : tie.Need-returns-3
+unfolding storeLent unpacked
+returns-3 c = rw (le-leb _ _ (c .before .before .before .before .before .if1 .left), le-leb _ _ (c .before .before .before .before .if2 .left), ← c .before .before .is-typed .ensures, not-true (c .before .before .is-typed .result) (c .before .if3 .taken), c .refused3 .ensures)
+
+unpack-requires : tie.Need-unpack-requires
+unpack-requires c κs = typed-length _ (sym (c .before .before .is-typed .ensures) ∙ not-false _ (c .before .if3 .left))
+
+cast-host-store : tie.Need-cast-host-store
+cast-host-store c = search needs
+
+cast-host-store-2 : tie.Need-cast-host-store-2
+cast-host-store-2 c = search needs
+
+host-store-requires : tie.Need-host-store-requires
+host-store-requires c κs = search needs
+
+pack-requires : tie.Need-pack-requires
+pack-requires c κs = typed-length _ (sym (c .before .before .before .before .before .before .is-typed .ensures) ∙ not-false _ (c .before .before .before .before .before .if3 .left))
+
+ending-word-requires : tie.Need-ending-word-requires
+ending-word-requires c κs = search needs
+
+same-length-2 : tie.Need-same-length-2
+same-length-2 c = search needs
+
+returns-4 : tie.Need-returns-4
+unfolding storeLent unpacked
+returns-4 c =
+    rw (le-leb _ _ (c .before .before .before .before .before .before .before .before .before .before .before .before .before .if1 .left), le-leb _ _ (c .before .before .before .before .before .before .before .before .before .before .before .before .if2 .left), ← c .before .before .before .before .before .before .before .before .before .before .is-typed .ensures, not-false (c .before .before .before .before .before .before .before .before .before .before .is-typed .result) (c .before .before .before .before .before .before .before .before .before .if3 .left), c .ending-word .ensures, c .before .before .before .pack .ensures)
+    (ap storedLent (rw (c .before .before .before .before .before .before .before .unpack .ensures) at (c .before .before .before .before .before .before .host-store .ensures)))
+
+pub st62-store-spec : {M : Type 1} → statement M
+st62-store-spec =
+    tie.close
+    (tie.spec
+    refused-requires
+    returns
+    refused-requires-2
+    returns-2
+    is-typed-requires
+    refused-requires-3
+    same-length
+    returns-3
+    unpack-requires
+    cast-host-store
+    cast-host-store-2
+    host-store-requires
+    pack-requires
+    ending-word-requires
+    same-length-2
+    returns-4)

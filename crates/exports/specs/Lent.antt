@@ -1,0 +1,104 @@
+-- What each exported function answers, and what it leaves in the buffers that it is lent.
+-- Assumes nothing.
+use Prim.Native.Nat.{ℕ, _/_, _%_}
+use mathlib.Core.Bool.{Bool, cond, _&&_}
+use mathlib.Core.List.{List, [], _∷_, _++_}
+use lib.ListN.{length, drop}
+use lib.Dec.{leb}
+use Rattle.isa.specs.Refusals.{plain}
+use Rattle.isa.specs.Decode.{decodeAt}
+use Rattle.isa.specs.Decode as decode
+use Rattle.isa.specs.Encode.{encodeOf, outcome, bufferAfter}
+use Rattle.machine.specs.declared.Machine.{Machine}
+use Rattle.machine.specs.State.{HostStore, resetOf, hostStoreOf}
+use Rattle.machine.specs.Step.{Step, stepOf}
+use Rattle.machine.specs.Run.{Run, runOf}
+use Rattle.exports.specs.Answers.{word, refusalWord, untypedWord, stepWord, endedWord, isTurnedDown, outcomeWord}
+use Rattle.exports.specs.States.{Unpacked, typed, untyped, unpacked, packed}
+use Rattle.exports.specs.Fields.{decodedRow, unpackedInstruction}
+use Rattle.exports.specs.declared.fields.Reading.{Reading}
+use Rattle.exports.specs.declared.fields.Reading.the-variants.{Is, Unreadable}
+
+-- an answer, and the buffer after it
+pub record Lent : Type 0 where
+  pub answer : ℕ
+  pub buffer : List ℕ
+
+abbrev pub lent : (answer : ℕ) → (buffer : List ℕ) → Lent
+lent answer buffer = record { answer = answer; buffer = buffer }
+
+-- a state that is none is refused with 2
+abbrev pub resetBy : List ℕ → Unpacked → Lent
+resetBy s (typed m) = lent (word 0 0 0) (packed (resetOf m))
+resetBy s untyped = lent (refusalWord (plain 2)) s
+
+unfoldable pub resetLent : List ℕ → Lent
+resetLent s = resetBy s (unpacked s)
+
+abbrev pub storedLent : HostStore → Lent
+storedLent r = lent (endedWord (r .ending)) (packed (r .machine))
+
+abbrev pub storeBy : List ℕ → (a value : ℕ) → Unpacked → Lent
+storeBy s a value (typed m) = storedLent (hostStoreOf m a value)
+storeBy s a value untyped = lent (refusalWord (plain 2)) s
+
+-- an address or a value beyond its byte is refused with 8, first
+unfoldable pub storeLent : List ℕ → (a value : ℕ) → Lent
+storeLent s a value = cond (leb a 255 && leb value 255) (storeBy s a value (unpacked s)) (lent (refusalWord (plain 8)) s)
+
+abbrev pub steppedLent : Step → Lent
+steppedLent r = lent (stepWord (r .answer)) (packed (r .machine))
+
+abbrev pub stepBy : (image s : List ℕ) → (request : ℕ) → Unpacked → Lent
+stepBy image s request (typed m) = steppedLent (stepOf image m request)
+stepBy image s request untyped = lent (untypedWord image) s
+
+unfoldable pub stepLent : (image s : List ℕ) → (request : ℕ) → Lent
+stepLent image s request = stepBy image s request (unpacked s)
+
+-- a run's answer, and state and report after it
+pub record LentRun : Type 0 where
+  pub answer : ℕ
+  pub state : List ℕ
+  pub report : List ℕ
+
+abbrev pub lentRun : (answer : ℕ) → (state report : List ℕ) → LentRun
+lentRun answer state report = record { answer = answer; state = state; report = report }
+
+-- steps and cycles, four bytes each, low byte first
+unfoldable pub reportBytes : (steps cycles : ℕ) → List ℕ
+reportBytes steps cycles =
+    steps / 1 % 256 ∷ steps / 0x100 % 256 ∷ steps / 0x10000 % 256 ∷ steps / 0x1000000 % 256
+    ∷ cycles / 1 % 256 ∷ cycles / 0x100 % 256 ∷ cycles / 0x10000 % 256 ∷ cycles / 0x1000000 % 256 ∷ []
+
+-- a refused run leaves both buffers, and so does one without room for its report: 9
+unfoldable pub ranLent : (s report : List ℕ) → Run → LentRun
+ranLent s report r =
+    cond (isTurnedDown (r .report .ending)) (lentRun (endedWord (r .report .ending)) s report)
+    (cond (leb 8 (length report))
+    (lentRun (endedWord (r .report .ending)) (packed (r .machine)) (reportBytes (r .report .steps) (r .report .cycles) ++ drop 8 report))
+    (lentRun (refusalWord (plain 9)) s report))
+
+abbrev pub runBy : (image s requests : List ℕ) → (n : ℕ) → (report : List ℕ) → Unpacked → LentRun
+runBy image s requests n report (typed m) = ranLent s report (runOf image m requests n)
+runBy image s requests n report untyped = lentRun (untypedWord image) s report
+
+unfoldable pub runLent : (image s requests : List ℕ) → (n : ℕ) → (report : List ℕ) → LentRun
+runLent image s requests n report = runBy image s requests n report (unpacked s)
+
+-- decoding's own refusals come first, then 9
+unfoldable pub decodedLent : List ℕ → decode.Answer → Lent
+decodedLent out (decode.instruction i bytes cycles) =
+    cond (leb 10 (length out)) (lent (word 0 0 bytes) (decodedRow i bytes cycles ++ drop 10 out)) (lent (refusalWord (plain 9)) out)
+decodedLent out (decode.refused r) = lent (refusalWord r) out
+
+unfoldable pub decodeLent : (image : List ℕ) → (address : ℕ) → (out : List ℕ) → Lent
+decodeLent image address out = decodedLent out (decodeAt image address)
+
+-- fields that are no instruction's are refused with 8
+abbrev pub writeBy : List ℕ → Reading → Lent
+writeBy out (Is i) = lent (outcomeWord (outcome (encodeOf i) (length out))) (bufferAfter (encodeOf i) out)
+writeBy out Unreadable = lent (refusalWord (plain 8)) out
+
+unfoldable pub writeLent : (fields out : List ℕ) → Lent
+writeLent fields out = writeBy out (unpackedInstruction fields)

@@ -1,0 +1,99 @@
+-- A machine as a state of 280 bytes: 0-255 data; 256, 257 PC; 258 levels; 259 mode; 260 asleep; 261-266 Z and C of normal, interrupt
+-- and NMI; 267 zero; 268-279 the return addresses. Numbers of two bytes stand low byte first.
+-- Assumes nothing.
+use Prim.Native.Nat.{ℕ, zero, suc, _+_, _*_, _/_, _%_}
+use mathlib.Core.Bool.{Bool, true, false, cond, _&&_}
+use mathlib.Core.List.{List, [], _∷_, _++_}
+use lib.ListN.{length, getD, take}
+use lib.Dec.{eqb, leb}
+use Rattle.alu.specs.declared.Flags.{Flags}
+use Rattle.control.specs.declared.Mode.{Mode}
+use Rattle.control.specs.declared.Mode.the-variants.{Reset, Normal, Interrupt, NmiOverNormal, NmiOverInterrupt}
+use Rattle.control.specs.declared.Control.{Control}
+use Rattle.machine.specs.declared.FlagPairs.{FlagPairs}
+use Rattle.machine.specs.declared.Machine.{Machine}
+use Rattle.machine.specs.State.{machineOf}
+
+-- the first n of the bytes from 260 on, asleep and the flags, are 0 or 1
+unfoldable pub flagsTyped : List ℕ → ℕ → Bool
+flagsTyped s zero = true
+flagsTyped s (suc n) = cond (leb 2 (getD s (260 + n) 0)) false (flagsTyped s n)
+
+-- whether bytes are a state: 280 of them, and none that is no mode or flag
+unfoldable pub isTyped : List ℕ → Bool
+isTyped s = eqb (length s) 280 && (leb (getD s 259 0) 4 && (eqb (getD s 267 0) 0 && flagsTyped s 7))
+
+-- the number of two bytes
+abbrev pub wordAt : List ℕ → ℕ → ℕ
+wordAt s at = getD s at 0 + getD s (at + 1) 0 * 256
+
+abbrev pub flagAt : List ℕ → ℕ → Bool
+flagAt s at = eqb (getD s at 0) 1
+
+abbrev pub pairAt : List ℕ → ℕ → Flags
+pairAt s at = record { zero = flagAt s at; carry = flagAt s (at + 1) }
+
+-- 0 reset, 1 normal, 2 interrupt, 3 NMI over normal, 4 NMI over interrupt
+unfoldable pub modeOf : ℕ → Mode
+modeOf n =
+    cond (eqb n 0) Reset
+    (cond (eqb n 1) Normal
+    (cond (eqb n 2) Interrupt
+    (cond (eqb n 3) NmiOverNormal NmiOverInterrupt)))
+
+unfoldable pub controlAt : List ℕ → Control
+controlAt s = record { pc = wordAt s 256; levels = getD s 258 0; mode = modeOf (getD s 259 0); asleep = flagAt s 260 }
+
+unfoldable pub stackAt : List ℕ → List ℕ
+stackAt s = wordAt s 268 ∷ wordAt s 270 ∷ wordAt s 272 ∷ wordAt s 274 ∷ wordAt s 276 ∷ wordAt s 278 ∷ []
+
+unfoldable pub pairsAt : List ℕ → FlagPairs
+pairsAt s = record { normal = pairAt s 261; interrupt = pairAt s 263; nmi = pairAt s 265 }
+
+-- the machine of a state
+unfoldable pub machineAt : List ℕ → Machine
+machineAt s = machineOf (controlAt s) (stackAt s) (pairsAt s) (take 256 s)
+
+-- what bytes are as a state
+pub data Unpacked : Type 0 where
+  typed : Machine → Unpacked
+  untyped : Unpacked
+
+unfoldable pub unpacked : List ℕ → Unpacked
+unpacked s = cond (isTyped s) (typed (machineAt s)) untyped
+
+abbrev pub modeNumber : Mode → ℕ
+modeNumber Reset = 0
+modeNumber Normal = 1
+modeNumber Interrupt = 2
+modeNumber NmiOverNormal = 3
+modeNumber NmiOverInterrupt = 4
+
+abbrev pub flag : Bool → ℕ
+flag is = cond is 1 0
+
+abbrev pub low : ℕ → ℕ
+low n = n % 256
+
+abbrev pub high : ℕ → ℕ
+high n = n / 256
+
+unfoldable pub controlBytes : Control → FlagPairs → List ℕ
+controlBytes c f =
+    low (c .pc) ∷ high (c .pc) ∷ c .levels ∷ modeNumber (c .mode) ∷ flag (c .asleep)
+    ∷ flag (f .normal .zero) ∷ flag (f .normal .carry)
+    ∷ flag (f .interrupt .zero) ∷ flag (f .interrupt .carry)
+    ∷ flag (f .nmi .zero) ∷ flag (f .nmi .carry) ∷ 0 ∷ []
+
+unfoldable pub stackBytes : List ℕ → List ℕ
+stackBytes stack =
+    low (getD stack 0 0) ∷ high (getD stack 0 0)
+    ∷ low (getD stack 1 0) ∷ high (getD stack 1 0)
+    ∷ low (getD stack 2 0) ∷ high (getD stack 2 0)
+    ∷ low (getD stack 3 0) ∷ high (getD stack 3 0)
+    ∷ low (getD stack 4 0) ∷ high (getD stack 4 0)
+    ∷ low (getD stack 5 0) ∷ high (getD stack 5 0) ∷ []
+
+-- the state of a machine
+unfoldable pub packed : Machine → List ℕ
+packed m = m .bytes ++ controlBytes (m .control) (m .flags) ++ stackBytes (m .stack)

@@ -1,0 +1,92 @@
+// Answers as one number: bits 0 to 7 the refusal's or stop's number (0: none), bits 8 to 23 its address, bits 24 to 55 a value.
+use certificate::Checked;
+use isa::Number;
+use isa::Refusal;
+use isa::Written;
+use isa::refusals::number_of;
+use isa::rom::is_image_length;
+use machine::Ending;
+use machine::StepAnswer;
+ghost use mathlib.Core.Path.{_≡_};
+ghost use Rattle.isa.specs.Refusals.{numbered};
+ghost use Rattle.isa.specs.Encode.{outcomeOf};
+ghost use Rattle.machine.specs.State.{endedOf};
+ghost use Rattle.machine.specs.Step.{answerOf};
+ghost use Rattle.certificate.specs.Check.{answered};
+ghost use Rattle.exports.specs.Answers.{word, refusalWord, untypedWord, stepWord, endedWord, isTurnedDown, verdictWord, outcomeWord};
+
+// What is done, with its value.
+pub fn done(value: u32) -> u64
+    ensures { λ r. ⌜ r ≡ word 0 0 value ⌝ }
+{
+    value as u64 * 0x1000000
+}
+
+pub fn refused(refusal: Refusal) -> u64
+    ensures { λ r. ⌜ r ≡ refusalWord (numbered refusal) ⌝ }
+{
+    match number_of(refusal) {
+        Number::Plain(number) => number as u64,
+        Number::Located(number, address) => number as u64 + address as u64 * 0x100,
+    }
+}
+
+// Step and run on a state that is none: 1 comes before 2.
+pub fn untyped(image: &[u8]) -> u64
+    ensures { λ r. ⌜ r ≡ untypedWord (now (image .entry)) ⌝ }
+{
+    if is_image_length(image.len()) {
+        refused(Refusal::IllFormedMachine)
+    } else {
+        refused(Refusal::ImageLength)
+    }
+}
+
+pub fn step_word(answer: StepAnswer) -> u64
+    ensures { λ r. ⌜ r ≡ stepWord (answerOf answer) ⌝ }
+{
+    match answer {
+        StepAnswer::Done(cycles) => done(cycles as u32),
+        StepAnswer::Refused(refusal) => refused(refusal),
+    }
+}
+
+pub fn ending_word(ending: Ending) -> u64
+    ensures { λ r. ⌜ r ≡ endedWord (endedOf ending) ⌝ }
+{
+    match ending {
+        Ending::Done => done(0),
+        Ending::Refused(refusal) => refused(refusal),
+    }
+}
+
+// Whether a run was refused: a refusal has no address, a stop has one.
+pub fn is_turned_down(ending: Ending) -> bool
+    ensures { λ r. ⌜ r ≡ isTurnedDown (endedOf ending) ⌝ }
+{
+    match ending {
+        Ending::Done => false,
+        Ending::Refused(refusal) => match number_of(refusal) {
+            Number::Plain(_) => true,
+            Number::Located(_, _) => false,
+        },
+    }
+}
+
+pub fn check_word(checked: Checked) -> u64
+    ensures { λ r. ⌜ r ≡ verdictWord (answered checked) ⌝ }
+{
+    match checked {
+        Checked::Accepted(levels) => done(levels as u32),
+        Checked::Refused(refusal) => refused(refusal),
+    }
+}
+
+pub fn write_word(written: Written) -> u64
+    ensures { λ r. ⌜ r ≡ outcomeWord (outcomeOf written) ⌝ }
+{
+    match written {
+        Written::Done(length) => done(length as u32),
+        Written::Refused(refusal) => refused(refusal),
+    }
+}

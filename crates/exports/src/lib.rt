@@ -1,0 +1,152 @@
+// The boundary for tests from outside: functions on numbers and byte slices. Every answer is one number (`answers`), a machine is a
+// state of 280 bytes (`states`), and an instruction is a row of fields (`fields`).
+pub mod answers;
+pub mod copying;
+pub mod fields;
+pub mod packing;
+pub mod states;
+
+use answers::check_word;
+use answers::done;
+use answers::ending_word;
+use answers::is_turned_down;
+use answers::refused;
+use answers::step_word;
+use answers::untyped;
+use answers::write_word;
+use certificate::check::check;
+use copying::byte_or;
+use copying::put;
+use fields::Reading;
+use fields::put_row;
+use fields::read;
+use isa::Decoded;
+use isa::Refusal;
+use machine::running::run;
+use machine::running::step;
+use machine::state::host_store;
+use machine::state::reset;
+use packing::pack;
+use packing::report_bytes;
+use states::is_typed;
+use states::unpack;
+ghost use mathlib.Core.Path.{_≡_};
+ghost use Rattle.certificate.specs.Check.{checkOf};
+ghost use Rattle.exports.specs.Answers.{verdictWord};
+ghost use Rattle.exports.specs.Lent.{lent, lentRun, decodeLent, writeLent, resetLent, storeLent, stepLent, runLent};
+
+// Decodes at an address of the image into `out`.
+#[no_mangle]
+pub extern "C" fn st62_decode(image: &[u8], address: u32, out: &mut [u8]) -> u64
+    ensures { λ r. ⌜ lent r (now (out .exit)) ≡ decodeLent (now (image .entry)) address (now (out .entry)) ⌝ }
+{
+    match isa::decode::decode(image, copying::address_or_end(address)) {
+        Decoded::Refused(refusal) => refused(refusal),
+        Decoded::Valid {
+            instruction,
+            length,
+            cycles,
+        } => {
+            if out.len() < 10 {
+                return refused(Refusal::BufferLength);
+            }
+            put_row(out, instruction, length, cycles);
+            done(length as u32)
+        }
+    }
+}
+
+// Writes the instruction of the first seven fields into `out`.
+#[no_mangle]
+pub extern "C" fn st62_write(fields: &[u8], out: &mut [u8]) -> u64
+    ensures { λ r. ⌜ lent r (now (out .exit)) ≡ writeLent (now (fields .entry)) (now (out .entry)) ⌝ }
+{
+    match read(fields) {
+        Reading::Is(instruction) => write_word(isa::write::write(instruction, out)),
+        Reading::Unreadable => refused(Refusal::OperandRange),
+    }
+}
+
+#[no_mangle]
+pub extern "C" fn st62_reset(state: &mut [u8]) -> u64
+    ensures { λ r. ⌜ lent r (now (state .exit)) ≡ resetLent (now (state .entry)) ⌝ }
+{
+    if !is_typed(state) {
+        return refused(Refusal::IllFormedMachine);
+    }
+    let m = reset(unpack(state));
+    pack(state, m);
+    done(0)
+}
+
+// The host's store of a value at a data address.
+#[no_mangle]
+pub extern "C" fn st62_store(state: &mut [u8], address: u32, value: u32) -> u64
+    ensures { λ r. ⌜ lent r (now (state .exit)) ≡ storeLent (now (state .entry)) address value ⌝ }
+{
+    if 255 < address {
+        return refused(Refusal::OperandRange);
+    }
+    if 255 < value {
+        return refused(Refusal::OperandRange);
+    }
+    if !is_typed(state) {
+        return refused(Refusal::IllFormedMachine);
+    }
+    let stored = host_store(unpack(state), address as u8, value as u8);
+    let m = stored.machine;
+    let ending = stored.ending;
+    pack(state, m);
+    ending_word(ending)
+}
+
+#[no_mangle]
+pub extern "C" fn st62_step(image: &[u8], state: &mut [u8], request: u32) -> u64
+    ensures { λ r. ⌜ lent r (now (state .exit)) ≡ stepLent (now (image .entry)) (now (state .entry)) request ⌝ }
+{
+    if !is_typed(state) {
+        return untyped(image);
+    }
+    let stepped = step(image, unpack(state), byte_or(request));
+    let m = stepped.machine;
+    let answer = stepped.answer;
+    pack(state, m);
+    step_word(answer)
+}
+
+// A run of n steps. A refused one, and one without room for its report, leave state and report.
+#[no_mangle]
+pub extern "C" fn st62_run(
+    image: &[u8],
+    state: &mut [u8],
+    requests: &[u8],
+    n: u32,
+    report: &mut [u8],
+) -> u64
+    ensures { λ r. ⌜ lentRun r (now (state .exit)) (now (report .exit)) ≡ runLent (now (image .entry)) (now (state .entry)) (now (requests .entry)) n (now (report .entry)) ⌝ }
+{
+    if !is_typed(state) {
+        return untyped(image);
+    }
+    let ran = run(image, unpack(state), requests, n);
+    let m = ran.machine;
+    let reported = ran.report;
+    let ending = reported.ending;
+    if is_turned_down(ending) {
+        return ending_word(ending);
+    }
+    if report.len() < 8 {
+        return refused(Refusal::BufferLength);
+    }
+    let bytes = report_bytes(reported.steps, reported.cycles);
+    pack(state, m);
+    put(report, 0, &bytes);
+    ending_word(ending)
+}
+
+#[no_mangle]
+pub extern "C" fn st62_check(image: &[u8], certificate: &[u8], wired: u32) -> u64
+    ensures { λ r. ⌜ r ≡ verdictWord (checkOf (now (image .entry)) (now (certificate .entry)) wired) ⌝ }
+{
+    check_word(check(image, certificate, byte_or(wired)))
+}
