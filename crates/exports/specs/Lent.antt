@@ -13,6 +13,9 @@ use Rattle.machine.specs.declared.Machine.{Machine}
 use Rattle.machine.specs.State.{HostStore, resetOf, hostStoreOf}
 use Rattle.machine.specs.Step.{Step, stepOf}
 use Rattle.machine.specs.Run.{Run, runOf}
+use Rattle.jobs.specs.Jobs.{jobOf}
+use Rattle.jobs.specs.Lines.{lineOf}
+use Rattle.jobs.specs.Answers.{fits}
 use Rattle.exports.specs.Answers.{word, refusalWord, untypedWord, stepWord, endedWord, isTurnedDown, outcomeWord}
 use Rattle.exports.specs.States.{Unpacked, typed, untyped, unpacked, packed}
 use Rattle.exports.specs.Fields.{decodedRow, unpackedInstruction}
@@ -102,3 +105,11 @@ writeBy out Unreadable = lent (refusalWord (plain 8)) out
 
 unfoldable pub writeLent : (fields out : List ℕ) → Lent
 writeLent fields out = writeBy out (unpackedInstruction fields)
+
+-- a job's line, written from the buffer's first byte, with its length; 9 where the buffer is too short for it
+abbrev pub lineLent : (line buffer : List ℕ) → Lent
+lineLent line buffer =
+    cond (fits line buffer) (lent (word 0 0 (length line)) (line ++ drop (length line) buffer)) (lent (refusalWord (plain 9)) buffer)
+
+unfoldable pub jobLent : (job buffer : List ℕ) → Lent
+jobLent job buffer = lineLent (lineOf (jobOf job)) buffer

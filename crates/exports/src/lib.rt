@@ -22,6 +22,8 @@ use fields::put_row;
 use fields::read;
 use isa::Decoded;
 use isa::Refusal;
+use jobs::Answered;
+use jobs::answer::answer;
 use machine::running::run;
 use machine::running::step;
 use machine::state::host_store;
@@ -33,7 +35,7 @@ use states::unpack;
 ghost use mathlib.Core.Path.{_≡_};
 ghost use Rattle.certificate.specs.Check.{checkOf};
 ghost use Rattle.exports.specs.Answers.{verdictWord};
-ghost use Rattle.exports.specs.Lent.{lent, lentRun, decodeLent, writeLent, resetLent, storeLent, stepLent, runLent};
+ghost use Rattle.exports.specs.Lent.{lent, lentRun, decodeLent, writeLent, resetLent, storeLent, stepLent, runLent, jobLent};
 
 // Decodes at an address of the image into `out`.
 #[no_mangle]
@@ -149,4 +151,15 @@ pub extern "C" fn st62_check(image: &[u8], certificate: &[u8], wired: u32) -> u6
     ensures { λ r. ⌜ r ≡ verdictWord (checkOf (now (image .entry)) (now (certificate .entry)) wired) ⌝ }
 {
     check_word(check(image, certificate, byte_or(wired)))
+}
+
+// Answers a job with its line, written into `line`.
+#[no_mangle]
+pub extern "C" fn st62_job(job: &[u8], line: &mut [u8]) -> u64
+    ensures { λ r. ⌜ lent r (now (line .exit)) ≡ jobLent (now (job .entry)) (now (line .entry)) ⌝ }
+{
+    match answer(job, line) {
+        Answered::Line(count) => done(count as u32),
+        Answered::Refused(refusal) => refused(refusal),
+    }
 }
