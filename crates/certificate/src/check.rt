@@ -13,16 +13,18 @@ use crate::vectors::levels_of;
 use isa::Decoded;
 use isa::Flow;
 use isa::Refusal;
-use isa::decode::decode_by;
+use isa::decode::decode_in_range;
 use isa::displacement::forward;
 use isa::rom::is_image_length;
 use isa::sources::names_only_sources;
 use isa::successor::flow_of;
 use isa::table::timings;
 ghost use mathlib.Core.Path.{_≡_};
-ghost use Prim.Native.Nat.{_≤_};
+ghost use mathlib.Core.Bool.{true};
+ghost use Prim.Native.Nat.{_≤_, _<_};
 ghost use lib.ListN.{length};
 ghost use Rattle.isa.specs.Map.{Timings};
+ghost use Rattle.isa.specs.Decode.{isImage};
 ghost use Rattle.certificate.specs.Marks.{lowest};
 ghost use Rattle.certificate.specs.Check.{found, answered, flowFound, markFound, marksFound, rulesFound, verdict, checkOf};
 ghost use Rattle.certificate.specs.Levels.{levelsOf};
@@ -53,7 +55,7 @@ fn check_mark(
     address: u16,
     mark: u8,
 ) -> Finding
-    requires { ⌜ Timings (now table) ⌝ }
+    requires { ⌜ Timings (now table) × (isImage (length (now image)) ≡ true) × (address < 4096) ⌝ }
     ensures { λ r. ⌜ found r ≡ markFound (now (image .entry)) (now (certificate .entry)) address mark ⌝ }
 {
     if mark == 0 {
@@ -62,7 +64,7 @@ fn check_mark(
     if kind_of(mark) == 0 {
         return Finding::Fault(Refusal::MalformedMark(address));
     }
-    match decode_by(table, image, address) {
+    match decode_in_range(table, image, address) {
         Decoded::Valid {
             instruction,
             length,
@@ -77,7 +79,7 @@ fn check_mark(
 
 // The first fault among the marks, upward: one pass.
 fn check_marks(table: &[u8; 256], image: &[u8], certificate: &[u8]) -> Finding
-    requires { ⌜ Timings (now table) × (length (now certificate) ≤ 4096) ⌝ }
+    requires { ⌜ Timings (now table) × (isImage (length (now image)) ≡ true) × (length (now certificate) ≤ 4096) ⌝ }
     ensures { λ r. ⌜ found r ≡ marksFound (now (image .entry)) (now (certificate .entry)) (lowest (now (certificate .entry))) (now (certificate .entry)) ⌝ }
 {
     let start = 4096 - certificate.len();
@@ -100,7 +102,7 @@ fn check_marks(table: &[u8; 256], image: &[u8], certificate: &[u8]) -> Finding
 
 // The rules of a certificate of the right length: the marks upward, then the vectors, then 19.
 fn check_rules(image: &[u8], certificate: &[u8], wired: u8) -> Checked
-    requires { ⌜ length (now certificate) ≤ 4096 ⌝ }
+    requires { ⌜ (isImage (length (now image)) ≡ true) × (length (now certificate) ≤ 4096) ⌝ }
     ensures { λ r. ⌜ answered r ≡ verdict (levelsOf (now (certificate .entry)) wired) (rulesFound (now (image .entry)) (now (certificate .entry)) wired) ⌝ }
 {
     // A constant table is built where it is named: made once here, and lent to every mark.

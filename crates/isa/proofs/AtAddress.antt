@@ -46,3 +46,8 @@ at-opcode image a Outside = inl refl
 pub at-address : (image : List ℕ) (a : ℕ) → isImage (length image) ≡ true → a < 4096 → AtAddress a (decodeAt image a)
 unfolding decodeAt
 at-address image a e h = rw (e, lt-ltb a 4096 h) (at-opcode image a (romAt image a))
+
+-- where length and address are tested already
+pub in-range : (image : List ℕ) (a : ℕ) → isImage (length image) ≡ true → a < 4096 → withOpcode image a (romAt image a) ≡ decodeAt image a
+unfolding decodeAt
+in-range image a e h = rw (e, lt-ltb a 4096 h)

@@ -13,8 +13,9 @@ ghost use mathlib.Core.Path.{_≡_};
 ghost use Rattle.isa.specs.Map.{Timings};
 ghost use Rattle.isa.specs.Decode.{answerOf, decodeAt, romAt, withOpcode};
 
-// The instruction at an address of the program space.
-fn decode_in_range(table: &[u8; 256], image: &[u8], address: u16) -> Decoded
+// The instruction at an address of the program space of an image that has a valid length: for whoever has tested both once and
+// decodes much.
+pub fn decode_in_range(table: &[u8; 256], image: &[u8], address: u16) -> Decoded
     requires { ⌜ Timings (now table) ⌝ }
     ensures { λ r. ⌜ answerOf r ≡ withOpcode (now (image .entry)) address (romAt (now (image .entry)) address) ⌝ }
 {
@@ -38,9 +39,8 @@ fn decode_in_range(table: &[u8; 256], image: &[u8], address: u16) -> Decoded
     }
 }
 
-// The instruction at an address of an image, by a table that is lent.
-pub fn decode_by(table: &[u8; 256], image: &[u8], address: u16) -> Decoded
-    requires { ⌜ Timings (now table) ⌝ }
+// The instruction at an address of an image.
+pub fn decode(image: &[u8], address: u16) -> Decoded
     ensures { λ r. ⌜ answerOf r ≡ decodeAt (now (image .entry)) address ⌝ }
 {
     if !is_image_length(image.len()) {
@@ -49,13 +49,6 @@ pub fn decode_by(table: &[u8; 256], image: &[u8], address: u16) -> Decoded
     if 4096 <= address {
         return Decoded::Refused(Refusal::AddressRange);
     }
-    decode_in_range(table, image, address)
-}
-
-// The instruction at an address of an image.
-pub fn decode(image: &[u8], address: u16) -> Decoded
-    ensures { λ r. ⌜ answerOf r ≡ decodeAt (now (image .entry)) address ⌝ }
-{
     let table = timings();
-    decode_by(&table, image, address)
+    decode_in_range(&table, image, address)
 }

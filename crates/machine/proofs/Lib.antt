@@ -1,3 +1,4 @@
+pub mod PairTests
 pub mod Stops
 pub mod StepDoes
 pub mod Formed

@@ -1,9 +1,24 @@
 -- The flag pair of a mode (document 01, "Modes, stack, sleep").
 -- Assumes nothing.
+use mathlib.Core.Bool.{Bool, true, false}
 use Rattle.alu.specs.declared.Flags.{Flags}
 use Rattle.control.specs.declared.Mode.{Mode}
 use Rattle.control.specs.declared.Mode.the-variants.{Reset, Normal, Interrupt, NmiOverNormal, NmiOverInterrupt}
 use Rattle.machine.specs.declared.FlagPairs.{FlagPairs}
+
+abbrev pub isNormal : Mode → Bool
+isNormal Normal = true
+isNormal Interrupt = false
+isNormal Reset = false
+isNormal NmiOverNormal = false
+isNormal NmiOverInterrupt = false
+
+abbrev pub isInterrupt : Mode → Bool
+isInterrupt Normal = false
+isInterrupt Interrupt = true
+isInterrupt Reset = false
+isInterrupt NmiOverNormal = false
+isInterrupt NmiOverInterrupt = false
 
 -- "Normal and interrupt each have their own Z and C; the other three share the NMI pair."
 abbrev pub pairOf : FlagPairs → Mode → Flags

@@ -3,31 +3,43 @@ use crate::FlagPairs;
 use alu::Flags;
 use control::Mode;
 ghost use mathlib.Core.Path.{_≡_};
-ghost use Rattle.machine.specs.Pairs.{pairOf, withNmi, withPairOf};
+ghost use Rattle.machine.specs.Pairs.{isNormal, isInterrupt, pairOf, withPairOf};
 
-// The pair in use in a mode.
-pub fn pair(pairs: FlagPairs, mode: Mode) -> Flags
-    ensures { λ r. ⌜ r ≡ pairOf pairs mode ⌝ }
+fn is_normal(mode: Mode) -> bool
+    ensures { λ r. ⌜ r ≡ isNormal mode ⌝ }
 {
     match mode {
-        Mode::Normal => pairs.normal,
-        Mode::Interrupt => pairs.interrupt,
-        Mode::Reset => pairs.nmi,
-        Mode::NmiOverNormal => pairs.nmi,
-        Mode::NmiOverInterrupt => pairs.nmi,
+        Mode::Reset => false,
+        Mode::Normal => true,
+        Mode::Interrupt => false,
+        Mode::NmiOverNormal => false,
+        Mode::NmiOverInterrupt => false,
     }
 }
 
-fn with_nmi(pairs: FlagPairs, nmi: Flags) -> FlagPairs
-    ensures { λ r. ⌜ r ≡ withNmi pairs nmi ⌝ }
+fn is_interrupt(mode: Mode) -> bool
+    ensures { λ r. ⌜ r ≡ isInterrupt mode ⌝ }
 {
-    let normal = pairs.normal;
-    let interrupt = pairs.interrupt;
-    FlagPairs {
-        normal,
-        interrupt,
-        nmi,
+    match mode {
+        Mode::Reset => false,
+        Mode::Normal => false,
+        Mode::Interrupt => true,
+        Mode::NmiOverNormal => false,
+        Mode::NmiOverInterrupt => false,
     }
+}
+
+// The pair in use in a mode. Tests, since a match on five modes is compiled into a jump through a table in every step.
+pub fn pair(pairs: FlagPairs, mode: Mode) -> Flags
+    ensures { λ r. ⌜ r ≡ pairOf pairs mode ⌝ }
+{
+    if is_normal(mode) {
+        return pairs.normal;
+    }
+    if is_interrupt(mode) {
+        return pairs.interrupt;
+    }
+    pairs.nmi
 }
 
 // The pairs with another one in use in a mode.
@@ -37,19 +49,23 @@ pub fn with_pair(pairs: FlagPairs, mode: Mode, flags: Flags) -> FlagPairs
     let normal = pairs.normal;
     let interrupt = pairs.interrupt;
     let nmi = pairs.nmi;
-    match mode {
-        Mode::Normal => FlagPairs {
+    if is_normal(mode) {
+        return FlagPairs {
             normal: flags,
             interrupt,
             nmi,
-        },
-        Mode::Interrupt => FlagPairs {
+        };
+    }
+    if is_interrupt(mode) {
+        return FlagPairs {
             normal,
             interrupt: flags,
             nmi,
-        },
-        Mode::Reset => with_nmi(pairs, flags),
-        Mode::NmiOverNormal => with_nmi(pairs, flags),
-        Mode::NmiOverInterrupt => with_nmi(pairs, flags),
+        };
+    }
+    FlagPairs {
+        normal,
+        interrupt,
+        nmi: flags,
     }
 }

@@ -16,11 +16,13 @@ use isa::Refusal;
 use isa::Source;
 ghost use mathlib.Core.Path.{_≡_};
 ghost use mathlib.Core.List.{List};
-ghost use Prim.Native.Nat.{ℕ};
+ghost use mathlib.Core.Bool.{true};
+ghost use Prim.Native.Nat.{ℕ, _<_};
+ghost use lib.ListN.{length};
 ghost use Rattle.isa.specs.Refusals.{numbered};
 ghost use Rattle.isa.specs.Map.{Timings};
 ghost use Rattle.isa.specs.Lengths.{lengthOf};
-ghost use Rattle.isa.specs.Decode.{decodeAt};
+ghost use Rattle.isa.specs.Decode.{isImage, decodeAt};
 ghost use Rattle.machine.specs.State.{machineOf};
 ghost use Rattle.machine.specs.Step.{advancedAs, doneOf, refusedOf, takenOf, executedOf, decodedOf, unrequestedOf, enabledOf, advancedOf};
 
@@ -93,10 +95,10 @@ fn instructed(
     c: Control,
     flags: FlagPairs,
 ) -> Advanced
-    requires { ⌜ Timings (now table) ⌝ }
+    requires { ⌜ Timings (now table) × (isImage (length (now image)) ≡ true) × (c .pc < 4096) ⌝ }
     ensures { λ r. ⌜ advancedAs (now (bytes .exit)) (now (stack .exit)) r ≡ decodedOf (now (image .entry)) (machineOf c (now (stack .entry)) flags (now (bytes .entry))) (decodeAt (now (image .entry)) (c .pc)) ⌝ }
 {
-    match isa::decode::decode_by(table, image, c.pc) {
+    match isa::decode::decode_in_range(table, image, c.pc) {
         Decoded::Refused(reason) => stopped(c, flags, reason),
         Decoded::Valid {
             instruction,
@@ -122,7 +124,7 @@ fn unrequested(
     c: Control,
     flags: FlagPairs,
 ) -> Advanced
-    requires { ⌜ Timings (now table) ⌝ }
+    requires { ⌜ Timings (now table) × (isImage (length (now image)) ≡ true) × (c .pc < 4096) ⌝ }
     ensures { λ r. ⌜ advancedAs (now (bytes .exit)) (now (stack .exit)) r ≡ unrequestedOf (now (image .entry)) (machineOf c (now (stack .entry)) flags (now (bytes .entry))) ⌝ }
 {
     if c.asleep {
@@ -141,7 +143,7 @@ pub fn advance(
     flags: FlagPairs,
     request: u8,
 ) -> Advanced
-    requires { ⌜ Timings (now table) ⌝ }
+    requires { ⌜ Timings (now table) × (isImage (length (now image)) ≡ true) × (c .pc < 4096) ⌝ }
     ensures { λ r. ⌜ advancedAs (now (bytes .exit)) (now (stack .exit)) r ≡ advancedOf (now (image .entry)) (machineOf c (now (stack .entry)) flags (now (bytes .entry))) request ⌝ }
 {
     let mode = c.mode;

@@ -45,7 +45,7 @@ check-rules-requires c κs =
     let image = c .before .before .before .before .before .before .before .args .image .now in
     let asked = c .before .before .before .before .is-image-length in
     let is-image = sym (asked .ensures) ∙ not-false (asked .result) (c .before .before .before .if1 .left) in
-    omega (arith, at-most-4096 (image-length (length image) is-image), c .before .before .if2 .left)
+    (is-image, omega (arith, at-most-4096 (image-length (length image) is-image), c .before .before .if2 .left))
 
 returns-4 : tie.Need-returns-4
 unfolding checkOf

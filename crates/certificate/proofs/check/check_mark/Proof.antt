@@ -1,7 +1,9 @@
 -- `check::check_mark` meets its contract: no mark, 14, then what decoding answers.
 -- Assumes nothing.
+use mathlib.Core.Path.{_∙_}
 use native.Mathlib.Omega.{arith}
 use borrow.Author.Tests.{lt-ltb, le-ltb}
+use Rattle.isa.proofs.AtAddress.{in-range}
 use Rattle.certificate.specs.Check.{decodedFound, markFound}
 use Rattle.certificate.proofs.Facts.{marked, positive}
 use borrow.Author.Needs.{needs}
@@ -24,8 +26,8 @@ returns-2 c =
       le-ltb 0 (c .before .kind-of .result) (omega (arith, c .if2 .taken)),
     )
 
-decode-by-requires : tie.Need-decode-by-requires
-decode-by-requires c κs = search needs
+decode-in-range-requires : tie.Need-decode-in-range-requires
+decode-in-range-requires c κs = search needs
 
 enum-known-instruction : tie.Need-enum-known-instruction
 enum-known-instruction c = search needs
@@ -49,7 +51,7 @@ returns-3 c =
       marked _ _ _ _ (c .before .before .before .before .before .before .before .before .before .if1 .left),
       ← c .before .before .before .before .before .before .before .before .kind-of .ensures,
       lt-ltb 0 (c .before .before .before .before .before .before .before .before .kind-of .result) (positive (c .before .before .before .before .before .before .before .if2 .left)),
-      ← c .before .before .before .before .before .before .decode-by .ensures,
+      ← (c .before .before .before .before .before .before .decode-in-range .ensures ∙ in-range _ _ (c .before .before .before .before .before .before .before .before .before .before .before .before .pre .1) (c .before .before .before .before .before .before .before .before .before .before .before .before .pre .2)),
       c .before .before .before .before .instruction .given .1,
       ← c .before .before .flow-of .ensures,
       ← c .before .forward .ensures,
@@ -63,7 +65,7 @@ returns-4 c =
       marked _ _ _ _ (c .before .before .before .before .before .before .if1 .left),
       ← c .before .before .before .before .before .kind-of .ensures,
       lt-ltb 0 (c .before .before .before .before .before .kind-of .result) (positive (c .before .before .before .before .if2 .left)),
-      ← c .before .before .before .decode-by .ensures,
+      ← (c .before .before .before .decode-in-range .ensures ∙ in-range _ _ (c .before .before .before .before .before .before .before .before .before .pre .1) (c .before .before .before .before .before .before .before .before .before .pre .2)),
       c .before .refusal .given .1,
     )
 
@@ -74,7 +76,7 @@ check-mark-spec =
     returns
     kind-of-requires
     returns-2
-    decode-by-requires
+    decode-in-range-requires
     enum-known-instruction
     flow-of-requires
     forward-requires

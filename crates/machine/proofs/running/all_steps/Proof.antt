@@ -7,6 +7,7 @@ use mathlib.Core.List.{[]}
 use native.Mathlib.Omega.{arith}
 use borrow.Author.Needs.{needs}
 use Rattle.control.specs.Forming.{wellFormed}
+use Rattle.control.proofs.StaysFormed.{formed-exactly}
 use Rattle.machine.specs.State.{machineOf, done}
 use Rattle.machine.specs.Run.{Run, runAt, stepsOf}
 use Rattle.machine.proofs.Formed.{formed-step}
@@ -29,7 +30,9 @@ request-at-requires : tie.Need-request-at-requires Inv-loop μ-loop
 request-at-requires c κs = search needs
 
 advance-requires : tie.Need-advance-requires Inv-loop μ-loop
-advance-requires c κs = search needs
+advance-requires c κs =
+    let start = c .before .before .before .before .before .before .before in
+    (start .pre .1, start .pre .2, formed-exactly .facts _ _ (c .before .before .before .before .loop .inv .2) .pc)
 
 enum-known-answer : tie.Need-enum-known-answer Inv-loop μ-loop
 enum-known-answer c = search needs

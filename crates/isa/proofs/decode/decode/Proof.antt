@@ -1,10 +1,10 @@
--- `decode::decode_by` meets its contract.
+-- `decode::decode` meets its contract.
 -- Assumes nothing.
 use borrow.Author.Needs.{needs}
 use borrow.Author.Tests.{lt-ltb, le-ltb, not-true, not-false}
 use Rattle.isa.specs.Decode.{decodeAt}
-use Rattle.isa.proofs.decode.decode_by.Statement.{statement}
-use Rattle.isa.proofs.decode.decode_by.Tie as tie
+use Rattle.isa.proofs.decode.decode.Statement.{statement}
+use Rattle.isa.proofs.decode.decode.Tie as tie
 
 is-image-length-requires : tie.Need-is-image-length-requires
 is-image-length-requires c κs = search needs
@@ -17,16 +17,23 @@ returns-2 : tie.Need-returns-2
 unfolding decodeAt
 returns-2 c = rw (← c .before .before .is-image-length .ensures, not-false (c .before .before .is-image-length .result) (c .before .if1 .left), le-ltb _ _ (c .if2 .taken))
 
+timings-requires : tie.Need-timings-requires
+timings-requires c κs = search needs
+
 decode-in-range-requires : tie.Need-decode-in-range-requires
 decode-in-range-requires c κs = search needs
 
 returns-3 : tie.Need-returns-3
 unfolding decodeAt
-returns-3 c =
-    rw (← c .before .before .before .is-image-length .ensures, not-false (c .before .before .before .is-image-length .result) (c .before .before .if1 .left), lt-ltb _ _ (c .before .if2 .left))
-    (c .decode-in-range .ensures)
+returns-3 c = rw (← c .before .before .before .before .before .is-image-length .ensures, not-false (c .before .before .before .before .before .is-image-length .result) (c .before .before .before .before .if1 .left), lt-ltb _ _ (c .before .before .before .if2 .left)) (c .decode-in-range .ensures)
 
-pub decode-by-spec : {M : Type 1} → statement M
-decode-by-spec =
+pub decode-spec : {M : Type 1} → statement M
+decode-spec =
     tie.close
-    (tie.spec is-image-length-requires returns returns-2 decode-in-range-requires returns-3)
+    (tie.spec
+    is-image-length-requires
+    returns
+    returns-2
+    timings-requires
+    decode-in-range-requires
+    returns-3)
