@@ -1,3 +1,4 @@
 pub mod Filling
 pub mod Beyond
 pub mod Inverse
+pub mod Leaving
