@@ -44,7 +44,7 @@ low-back a b h = omega arith
 high-back : (a b : ℕ) → a < 256 → high (a + b * 256) ≡ b
 high-back a b h = omega arith
 
-number-back : (n : ℕ) → low n + high n * 256 ≡ n
+pub number-back : (n : ℕ) → low n + high n * 256 ≡ n
 number-back n = omega arith
 
 flag-back : (n : ℕ) → n < 2 → flag (eqb n 1) ≡ n
@@ -98,7 +98,7 @@ passed : (b x : Bool) → cond b false x ≡ true → (b ≡ false) × (x ≡ tr
 passed true x e = let z : _≡_ {A = ℕ} 0 1 = cc in absurd (omega arith)
 passed false x e = (refl, e)
 
-both : (a b : Bool) → a && b ≡ true → (a ≡ true) × (b ≡ true)
+pub both : (a b : Bool) → a && b ≡ true → (a ≡ true) × (b ≡ true)
 both true b e = (refl, e)
 both false b e = let z : _≡_ {A = ℕ} 0 1 = cc in absurd (omega arith)
 

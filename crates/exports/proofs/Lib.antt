@@ -2,3 +2,4 @@ pub mod Filling
 pub mod Beyond
 pub mod Inverse
 pub mod Leaving
+pub mod Reading
