@@ -5,7 +5,6 @@ use mathlib.Core.Path.{_≡_, refl, sym, ap, _∙_}
 use mathlib.Core.Bool.{Bool, true, false, cond, _&&_}
 use mathlib.Core.List.{List, [], _∷_, _++_, append-assoc}
 use native.Mathlib.Omega.{arith}
-use native.Mathlib.Nat.{add-zero}
 use borrow.Author.Count.{below-more}
 use borrow.Author.Tests.{leb-false, leb-true, eqb-true}
 use lib.Dec.{eqb, leb}
@@ -15,26 +14,7 @@ use Rattle.isa.specs.RoundTrip.{Bytes}
 use Rattle.control.specs.declared.Mode.{Mode}
 use Rattle.control.specs.declared.Mode.the-variants.{Reset, Normal, Interrupt, NmiOverNormal, NmiOverInterrupt}
 use Rattle.machine.specs.declared.Machine.{Machine}
-use Rattle.exports.specs.States.{
-  flagsTyped,
-  isTyped,
-  low,
-  high,
-  flag,
-  modeOf,
-  modeNumber,
-  controlAt,
-  stackAt,
-  pairsAt,
-  machineAt,
-  Unpacked,
-  typed,
-  untyped,
-  unpacked,
-  controlBytes,
-  stackBytes,
-  packed,
-}
+use Rattle.exports.specs.States.{flagsTyped, isTyped, low, high, flag, modeOf, modeNumber, controlAt, stackAt, pairsAt, machineAt, typed, untyped, unpacked, controlBytes, stackBytes, packed}
 use Rattle.exports.specs.Laws.{Sized, PackingInverts, WordReads}
 use Rattle.exports.proofs.Filling.{typed-length}
 

@@ -1,7 +1,7 @@
 -- An answer whose number is not 0 leaves the lent buffer.
 -- Assumes nothing.
 use Prim.Native.Nat.{ℕ, _%_}
-use mathlib.Core.Path.{_≡_, refl, _∙_}
+use mathlib.Core.Path.{_≡_, refl}
 use mathlib.Core.Bool.{Bool, true, false, cond, not, _&&_}
 use mathlib.Core.List.{List}
 use native.Mathlib.Omega.{arith}
@@ -26,21 +26,7 @@ use Rattle.exports.specs.declared.fields.Reading.the-variants.{Is, Unrea
 use Rattle.exports.specs.Answers.{word, refusalWord, stepWord, outcomeWord}
 use Rattle.exports.specs.States.{Unpacked, typed, untyped, unpacked, packed}
 use Rattle.exports.specs.Fields.{unpackedInstruction}
-use Rattle.exports.specs.Lent.{
-  Lent,
-  lent,
-  decodedLent,
-  decodeLent,
-  writeBy,
-  writeLent,
-  resetBy,
-  resetLent,
-  storedLent,
-  storeBy,
-  storeLent,
-  stepBy,
-  stepLent,
-}
+use Rattle.exports.specs.Lent.{lent, decodedLent, decodeLent, writeBy, writeLent, resetBy, resetLent, storedLent, storeBy, storeLent, stepBy, stepLent}
 use Rattle.exports.specs.Laws.{Leaves, RefusalsLeave}
 use Rattle.exports.proofs.Inverse.{packing-inverts}
 

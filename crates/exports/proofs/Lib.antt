@@ -3,3 +3,4 @@ pub mod Beyond
 pub mod Inverse
 pub mod Leaving
 pub mod Reading
+pub mod TurnedDown

@@ -1,9 +1,9 @@
 -- Fields are read as the one instruction whose row they are.
 -- Assumes nothing.
-use Prim.Native.Nat.{ℕ, zero, suc, _+_, _*_, _<_, _≤_}
-use mathlib.Core.Path.{_≡_, refl, sym, ap, _∙_}
+use Prim.Native.Nat.{ℕ, zero, suc, _+_, _<_, _≤_}
+use mathlib.Core.Path.{_≡_, refl, sym, _∙_}
 use mathlib.Core.Bool.{Bool, true, false, cond, _&&_}
-use mathlib.Core.List.{List, [], _∷_, _++_}
+use mathlib.Core.List.{List, _++_}
 use native.Mathlib.Omega.{arith}
 use borrow.Author.Count.{below-more}
 use borrow.Author.Tests.{ltb-true, leb-true, eqb-true, eq-eqb, le-leb}
@@ -12,8 +12,6 @@ use lib.IntN.{ℤ}
 use lib.Signed.{mag}
 use lib.ListN.{length, getD, take, length-append, List·getD-append}
 use lib.Seq.{length-take-le, getD-take, ext-getD}
-use mir.Syntax.{w8}
-use mir.Val.{SFits}
 use Rattle.isa.specs.Displacement.{modulo, longDisplacement}
 use Rattle.isa.specs.Encode.{inField}
 use Rattle.isa.specs.declared.Operand.{Operand}
@@ -21,8 +19,6 @@ use Rattle.isa.specs.declared.Operand.the-variants.{Direct, Short, ThroughX, Th
 use Rattle.isa.specs.declared.Instruction.{Instruction}
 use Rattle.isa.specs.declared.Instruction.the-variants as I
 use Rattle.isa.proofs.Finite.{eqZ, atSigned, eqZ→eq}
-use Rattle.exports.specs.States.{low, high}
-use Rattle.exports.specs.declared.fields.Reading.{Reading}
 use Rattle.exports.specs.declared.fields.Reading.the-variants.{Is, Unreadable}
 use Rattle.exports.specs.Fields.{
   operandRow,

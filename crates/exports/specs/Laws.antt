@@ -2,16 +2,20 @@
 -- Assumes nothing.
 use Prim.Native.Nat.{ℕ, _<_, _/_, _%_}
 use mathlib.Core.Path.{_≡_}
-use mathlib.Core.Bool.{true}
+use mathlib.Core.Bool.{true, not, _&&_}
 use mathlib.Core.List.{List, _++_}
+use lib.Dec.{leb}
 use lib.IntN.{ℤ, pos}
 use lib.ListN.{length, take}
 use Rattle.isa.specs.RoundTrip.{Bytes}
+use Rattle.isa.specs.Decode.{isImage}
 use Rattle.isa.specs.Encode.{inField}
 use Rattle.isa.specs.declared.Instruction.{Instruction}
 use Rattle.isa.specs.declared.Instruction.the-variants as I
 use Rattle.machine.specs.declared.Machine.{Machine}
-use Rattle.exports.specs.Answers.{word}
+use Rattle.machine.specs.State.{isWellFormed}
+use Rattle.machine.specs.Run.{requestsFit, runOf}
+use Rattle.exports.specs.Answers.{word, isTurnedDown}
 use Rattle.exports.specs.States.{typed, unpacked, packed}
 use Rattle.exports.specs.Fields.{packedInstruction, unpackedInstruction}
 use Rattle.exports.specs.declared.fields.Reading.the-variants.{Is}
@@ -70,6 +74,13 @@ pub record WordReads : Type 0 where
   pub number : (n a v : ℕ) → n < 0x100 → a < 0x10000 → word n a v % 0x100 ≡ n
   pub address : (n a v : ℕ) → n < 0x100 → a < 0x10000 → word n a v / 0x100 % 0x10000 ≡ a
   pub value : (n a v : ℕ) → n < 0x100 → a < 0x10000 → word n a v / 0x1000000 ≡ v
+
+-- a run is turned down exactly where one of its own refusals applies: 1, 2, 12, 11
+abbrev pub RunTurnedDown : Type 0
+RunTurnedDown =
+    (image : List ℕ) → Bytes image → (m : Machine) (requests : List ℕ) (n : ℕ) →
+    isTurnedDown (runOf image m requests n .report .ending)
+    ≡ not (isImage (length image) && (isWellFormed m && (leb n 65535 && requestsFit requests n)))
 
 -- "A refusal is a number, and leaves buffers and machine untouched": where the number is not 0
 abbrev pub Leaves : List ℕ → Lent → Type 0
