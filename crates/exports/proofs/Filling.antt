@@ -7,7 +7,7 @@ use mathlib.Core.List.{List, [], _++_, append-nil}
 use native.Mathlib.Omega.{arith}
 use native.Mathlib.Nat.{le-refl}
 use borrow.Author.Tests.{eqb-true}
-use lib.ListN.{length, take, drop, length-append, length-drop, drop-of-length-le}
+use lib.ListN.{length, drop, length-append, length-drop, drop-of-length-le}
 use lib.Seq.{paste, take-all, take-at, drop-append-add, drop-drop}
 use Rattle.control.specs.declared.Control.{Control}
 use Rattle.machine.specs.declared.FlagPairs.{FlagPairs}

@@ -1,10 +1,10 @@
 -- An instruction as a row of fields: form, operand kind, value low and high, second value, bit number, displacement; decoding adds
 -- length, cycles and a zero.
 -- Assumes nothing.
-use Prim.Native.Nat.{ℕ, zero, suc, _+_, _*_, _/_, _%_}
+use Prim.Native.Nat.{ℕ, zero, suc, _+_, _*_}
 use mathlib.Core.Bool.{Bool, true, false, cond, _&&_}
 use mathlib.Core.List.{List, [], _∷_, _++_}
-use lib.ListN.{length, getD, take}
+use lib.ListN.{length, getD}
 use lib.Dec.{eqb, leb}
 use lib.IntN.{ℤ}
 use Rattle.isa.specs.Displacement.{modulo, longDisplacement}

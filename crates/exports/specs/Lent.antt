@@ -1,7 +1,7 @@
 -- What each exported function answers, and what it leaves in the buffers that it is lent.
 -- Assumes nothing.
 use Prim.Native.Nat.{ℕ, _/_, _%_}
-use mathlib.Core.Bool.{Bool, cond, _&&_}
+use mathlib.Core.Bool.{cond, _&&_}
 use mathlib.Core.List.{List, [], _∷_, _++_}
 use lib.ListN.{length, drop}
 use lib.Dec.{leb}
@@ -9,7 +9,6 @@ use Rattle.isa.specs.Refusals.{plain}
 use Rattle.isa.specs.Decode.{decodeAt}
 use Rattle.isa.specs.Decode as decode
 use Rattle.isa.specs.Encode.{encodeOf, outcome, bufferAfter}
-use Rattle.machine.specs.declared.Machine.{Machine}
 use Rattle.machine.specs.State.{HostStore, resetOf, hostStoreOf}
 use Rattle.machine.specs.Step.{Step, stepOf}
 use Rattle.machine.specs.Run.{Run, runOf}

@@ -141,15 +141,7 @@ fn operand_of(kind: u8, value: u8) -> Operand
 }
 
 // The instruction of a form, from the fields that the form uses.
-fn instruction_of(
-    form: u8,
-    o: Operand,
-    n: u8,
-    target: u16,
-    second: u8,
-    bit: u8,
-    d: i8,
-) -> Instruction
+fn of_form(form: u8, o: Operand, n: u8, target: u16, second: u8, bit: u8, d: i8) -> Instruction
     ensures { λ r. ⌜ r ≡ instructionBy form o n target second bit d ⌝ }
 {
     match form {
@@ -192,7 +184,7 @@ fn candidate(fields: &[u8]) -> Instruction
     ensures { λ r. ⌜ r ≡ instructionAt (now (fields .entry)) ⌝ }
 {
     let value = fields[2];
-    instruction_of(
+    of_form(
         fields[0],
         operand_of(fields[1], value),
         value,

@@ -1,10 +1,10 @@
 // The boundary for tests from outside: functions on numbers and byte slices. Every answer is one number (`answers`), a machine is a
 // state of 280 bytes (`states`), and an instruction is a row of fields (`fields`).
-pub mod answers;
-pub mod copying;
-pub mod fields;
-pub mod packing;
-pub mod states;
+mod answers;
+mod copying;
+mod fields;
+mod packing;
+mod states;
 
 use answers::check_word;
 use answers::done;
@@ -15,6 +15,7 @@ use answers::step_word;
 use answers::untyped;
 use answers::write_word;
 use certificate::check::check;
+use copying::address_or_end;
 use copying::byte_or;
 use copying::put;
 use fields::Reading;
@@ -22,6 +23,8 @@ use fields::put_row;
 use fields::read;
 use isa::Decoded;
 use isa::Refusal;
+use isa::decode::decode;
+use isa::write::write;
 use jobs::Answered;
 use jobs::answer::answer;
 use machine::running::run;
@@ -42,7 +45,7 @@ ghost use Rattle.exports.specs.Lent.{lent, lentRun, decodeLent, writeLen
 pub extern "C" fn st62_decode(image: &[u8], address: u32, out: &mut [u8]) -> u64
     ensures { λ r. ⌜ lent r (now (out .exit)) ≡ decodeLent (now (image .entry)) address (now (out .entry)) ⌝ }
 {
-    match isa::decode::decode(image, copying::address_or_end(address)) {
+    match decode(image, address_or_end(address)) {
         Decoded::Refused(refusal) => refused(refusal),
         Decoded::Valid {
             instruction,
@@ -64,7 +67,7 @@ pub extern "C" fn st62_write(fields: &[u8], out: &mut [u8]) -> u64
     ensures { λ r. ⌜ lent r (now (out .exit)) ≡ writeLent (now (fields .entry)) (now (out .entry)) ⌝ }
 {
     match read(fields) {
-        Reading::Is(instruction) => write_word(isa::write::write(instruction, out)),
+        Reading::Is(instruction) => write_word(write(instruction, out)),
         Reading::Unreadable => refused(Refusal::OperandRange),
     }
 }

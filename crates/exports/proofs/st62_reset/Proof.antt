@@ -1,6 +1,6 @@
 -- `st62_reset` meets its contract.
 -- Assumes nothing.
-use mathlib.Core.Path.{sym, ap, _∙_}
+use mathlib.Core.Path.{sym, _∙_}
 use borrow.Author.Tests.{not-true, not-false}
 use Rattle.exports.specs.Lent.{resetLent}
 use Rattle.exports.specs.States.{unpacked}

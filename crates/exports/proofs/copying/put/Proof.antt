@@ -1,11 +1,11 @@
 -- `copying::put` meets its contract. The loop's invariant: the first i bytes of the part are pasted in.
 -- Assumes nothing.
-use Prim.Native.Nat.{ℕ, _+_, _≤_, _<_, _-_}
-use mathlib.Core.Path.{_≡_, refl, sym, ap, _∙_}
+use Prim.Native.Nat.{_+_, _≤_, _<_, _-_}
+use mathlib.Core.Path.{_≡_, refl}
 use native.Mathlib.Omega.{arith}
 use native.Mathlib.Numerals.{add-one}
 use borrow.Author.Needs.{needs}
-use lib.ListN.{length, length-set}
+use lib.ListN.{length}
 use lib.Seq.{paste, paste-zero, paste-suc}
 use Rattle.exports.proofs.copying.put.Statement.{statement}
 use Rattle.exports.proofs.copying.put.Tie as tie

@@ -1,11 +1,11 @@
 -- `states::data_of` meets its contract. The loop's invariant: the first i bytes are the state's.
 -- Assumes nothing.
-use Prim.Native.Nat.{ℕ, _≤_, _<_, _-_}
-use mathlib.Core.Path.{_≡_, refl, sym, ap, _∙_}
+use Prim.Native.Nat.{_≤_, _<_, _-_}
+use mathlib.Core.Path.{_≡_, refl, sym, _∙_}
 use native.Mathlib.Omega.{arith}
 use native.Mathlib.Numerals.{add-one}
 use borrow.Author.Needs.{needs}
-use lib.ListN.{length, take, length-set}
+use lib.ListN.{length, take}
 use lib.Seq.{take-all, take-suc, take-suc-set}
 use Rattle.exports.proofs.states.data_of.Statement.{statement}
 use Rattle.exports.proofs.states.data_of.Tie as tie

@@ -1,4 +1,4 @@
--- `fields::instruction_of` meets its contract. A form past the others is beyond their list.
+-- `fields::of_form` meets its contract. A form past the others is beyond their list.
 -- Assumes nothing.
 use mathlib.Core.Path.{_≡_}
 use Rattle.isa.proofs.Finite.{kept}
@@ -6,8 +6,8 @@ use Prim.Native.Nat.{ℕ, suc, _≤_, zero-le}
 use native.Mathlib.Omega.{arith}
 use lib.ListN.{List·getD-eq-default}
 use Rattle.exports.specs.Fields.{instructionBy, instructions}
-use Rattle.exports.proofs.fields.instruction_of.Statement.{statement}
-use Rattle.exports.proofs.fields.instruction_of.Tie as tie
+use Rattle.exports.proofs.fields.of_form.Statement.{statement}
+use Rattle.exports.proofs.fields.of_form.Tie as tie
 
 above : (n form : ℕ) → n ≤ form → (form ≡ n → ⊥) → suc n ≤ form
 above n form h other = omega arith
@@ -137,8 +137,8 @@ returns-30 c =
     above 28 form (above 27 form (above 26 form (above 25 form (above 24 form (above 23 form (above 22 form (above 21 form (above 20 form (above 19 form (above 18 form (above 17 form (above 16 form (above 15 form (above 14 form (above 13 form (above 12 form (above 11 form (above 10 form (above 9 form (above 8 form (above 7 form (above 6 form (above 5 form (above 4 form (above 3 form (above 2 form (above 1 form (above 0 form zero-le (none .0 .0 .0 .0 .0 .0 .0 .0 .0 .0 .0 .0 .0 .0 .0 .0 .0 .0 .0 .0 .0 .0 .0 .0 .0 .0 .0 .0 .1)) (none .0 .0 .0 .0 .0 .0 .0 .0 .0 .0 .0 .0 .0 .0 .0 .0 .0 .0 .0 .0 .0 .0 .0 .0 .0 .0 .0 .1)) (none .0 .0 .0 .0 .0 .0 .0 .0 .0 .0 .0 .0 .0 .0 .0 .0 .0 .0 .0 .0 .0 .0 .0 .0 .0 .0 .1)) (none .0 .0 .0 .0 .0 .0 .0 .0 .0 .0 .0 .0 .0 .0 .0 .0 .0 .0 .0 .0 .0 .0 .0 .0 .0 .1)) (none .0 .0 .0 .0 .0 .0 .0 .0 .0 .0 .0 .0 .0 .0 .0 .0 .0 .0 .0 .0 .0 .0 .0 .0 .1)) (none .0 .0 .0 .0 .0 .0 .0 .0 .0 .0 .0 .0 .0 .0 .0 .0 .0 .0 .0 .0 .0 .0 .0 .1)) (none .0 .0 .0 .0 .0 .0 .0 .0 .0 .0 .0 .0 .0 .0 .0 .0 .0 .0 .0 .0 .0 .0 .1)) (none .0 .0 .0 .0 .0 .0 .0 .0 .0 .0 .0 .0 .0 .0 .0 .0 .0 .0 .0 .0 .0 .1)) (none .0 .0 .0 .0 .0 .0 .0 .0 .0 .0 .0 .0 .0 .0 .0 .0 .0 .0 .0 .0 .1)) (none .0 .0 .0 .0 .0 .0 .0 .0 .0 .0 .0 .0 .0 .0 .0 .0 .0 .0 .0 .1)) (none .0 .0 .0 .0 .0 .0 .0 .0 .0 .0 .0 .0 .0 .0 .0 .0 .0 .0 .1)) (none .0 .0 .0 .0 .0 .0 .0 .0 .0 .0 .0 .0 .0 .0 .0 .0 .0 .1)) (none .0 .0 .0 .0 .0 .0 .0 .0 .0 .0 .0 .0 .0 .0 .0 .0 .1)) (none .0 .0 .0 .0 .0 .0 .0 .0 .0 .0 .0 .0 .0 .0 .0 .1)) (none .0 .0 .0 .0 .0 .0 .0 .0 .0 .0 .0 .0 .0 .0 .1)) (none .0 .0 .0 .0 .0 .0 .0 .0 .0 .0 .0 .0 .0 .1)) (none .0 .0 .0 .0 .0 .0 .0 .0 .0 .0 .0 .0 .1)) (none .0 .0 .0 .0 .0 .0 .0 .0 .0 .0 .0 .1)) (none .0 .0 .0 .0 .0 .0 .0 .0 .0 .0 .1)) (none .0 .0 .0 .0 .0 .0 .0 .0 .0 .1)) (none .0 .0 .0 .0 .0 .0 .0 .0 .1)) (none .0 .0 .0 .0 .0 .0 .0 .1)) (none .0 .0 .0 .0 .0 .0 .1)) (none .0 .0 .0 .0 .0 .1)) (none .0 .0 .0 .0 .1)) (none .0 .0 .0 .1)) (none .0 .0 .1)) (none .0 .1)) (none .1) in
     rw (List·getD-eq-default _ _ past)
 
-pub instruction-of-spec : {M : Type 1} → statement M
-instruction-of-spec =
+pub of-form-spec : {M : Type 1} → statement M
+of-form-spec =
     tie.close
     (tie.spec
     returns

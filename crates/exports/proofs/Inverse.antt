@@ -1,0 +1,239 @@
+-- Packing and unpacking undo each other; an answer's parts can be read back.
+-- Assumes nothing.
+use Prim.Native.Nat.{ℕ, zero, suc, _+_, _*_, _<_, _≤_}
+use mathlib.Core.Path.{_≡_, refl, sym, ap, _∙_}
+use mathlib.Core.Bool.{Bool, true, false, cond, _&&_}
+use mathlib.Core.List.{List, [], _∷_, _++_, append-assoc}
+use native.Mathlib.Omega.{arith}
+use borrow.Author.Count.{below-more}
+use borrow.Author.Tests.{leb-false, leb-true, eqb-true}
+use lib.Dec.{eqb, leb}
+use lib.ListN.{length, getD, take, drop, length-append, take-append-drop, drop-of-length-le}
+use lib.Seq.{drop-cons, take-at, getD-append-add}
+use Rattle.isa.specs.RoundTrip.{Bytes}
+use Rattle.control.specs.declared.Mode.{Mode}
+use Rattle.control.specs.declared.Mode.the-variants.{Reset, Normal, Interrupt, NmiOverNormal, NmiOverInterrupt}
+use Rattle.machine.specs.declared.Machine.{Machine}
+use Rattle.exports.specs.States.{flagsTyped, isTyped, low, high, flag, modeOf, modeNumber, controlAt, stackAt, pairsAt, machineAt, typed, untyped, unpacked, controlBytes, stackBytes, packed}
+use Rattle.exports.specs.Laws.{Sized, PackingInverts, WordReads}
+use Rattle.exports.proofs.Filling.{typed-length}
+
+low-back : (a b : ℕ) → a < 256 → low (a + b * 256) ≡ a
+low-back a b h = omega arith
+
+high-back : (a b : ℕ) → a < 256 → high (a + b * 256) ≡ b
+high-back a b h = omega arith
+
+pub number-back : (n : ℕ) → low n + high n * 256 ≡ n
+number-back n = omega arith
+
+flag-back : (n : ℕ) → n < 2 → flag (eqb n 1) ≡ n
+flag-back zero h = refl
+flag-back (suc zero) h = refl
+flag-back (suc (suc n)) h = absurd (omega arith)
+
+back-flag : (b : Bool) → eqb (flag b) 1 ≡ b
+back-flag true = refl
+back-flag false = refl
+
+flag-small : (b : Bool) → leb 2 (flag b) ≡ false
+flag-small true = refl
+flag-small false = refl
+
+mode-back : (n : ℕ) → n ≤ 4 → modeNumber (modeOf n) ≡ n
+unfolding modeOf
+mode-back zero h = refl
+mode-back (suc zero) h = refl
+mode-back (suc (suc zero)) h = refl
+mode-back (suc (suc (suc zero))) h = refl
+mode-back (suc (suc (suc (suc zero)))) h = refl
+mode-back (suc (suc (suc (suc (suc n))))) h = absurd (omega arith)
+
+back-mode : (m : Mode) → modeOf (modeNumber m) ≡ m
+unfolding modeOf
+back-mode Reset = refl
+back-mode Normal = refl
+back-mode Interrupt = refl
+back-mode NmiOverNormal = refl
+back-mode NmiOverInterrupt = refl
+
+mode-small : (m : Mode) → leb (modeNumber m) 4 ≡ true
+mode-small Reset = refl
+mode-small Normal = refl
+mode-small Interrupt = refl
+mode-small NmiOverNormal = refl
+mode-small NmiOverInterrupt = refl
+
+-- n elements from an index on
+abbrev listed : List ℕ → (from n : ℕ) → List ℕ
+listed s from zero = []
+listed s from (suc n) = getD s from 0 ∷ listed s (suc from) n
+
+elements : (s : List ℕ) (from n : ℕ) → length s ≡ from + n → drop from s ≡ listed s from n
+elements s from zero e = let over : length s ≤ from = omega arith in drop-of-length-le s over
+elements s from (suc n) e = drop-cons s from 0 (omega arith) ∙ ap (λ (l : List ℕ). getD s from 0 ∷ l) (elements s (suc from) n (omega arith))
+
+-- what the tests of a state tell
+passed : (b x : Bool) → cond b false x ≡ true → (b ≡ false) × (x ≡ true)
+passed true x e = let z : _≡_ {A = ℕ} 0 1 = cc in absurd (omega arith)
+passed false x e = (refl, e)
+
+pub both : (a b : Bool) → a && b ≡ true → (a ≡ true) × (b ≡ true)
+both true b e = (refl, e)
+both false b e = let z : _≡_ {A = ℕ} 0 1 = cc in absurd (omega arith)
+
+flags-below : (s : List ℕ) (n : ℕ) → flagsTyped s n ≡ true → (k : ℕ) → k < n → getD s (260 + k) 0 < 2
+unfolding flagsTyped
+flags-below s zero e k h = absurd (omega arith)
+flags-below s (suc n) e k h =
+    let p : (leb 2 (getD s (260 + n) 0) ≡ false) × (flagsTyped s n ≡ true) = passed (leb 2 (getD s (260 + n) 0)) (flagsTyped s n) e in
+    below-more (λ j. getD s (260 + j) 0 < 2) n (flags-below s n (p .1)) (leb-false 2 (getD s (260 + n) 0) (p .0)) k (omega arith)
+
+record Typed (s : List ℕ) : Type 0 where
+  mode : getD s 259 0 ≤ 4
+  nought : getD s 267 0 ≡ 0
+  flags : (k : ℕ) → k < 7 → getD s (260 + k) 0 < 2
+
+typed-facts : (s : List ℕ) → isTyped s ≡ true → Typed s
+unfolding isTyped
+typed-facts s e =
+    let p : (eqb (length s) 280 ≡ true) × (leb (getD s 259 0) 4 && (eqb (getD s 267 0) 0 && flagsTyped s 7) ≡ true) = both _ _ e in
+    let q : (leb (getD s 259 0) 4 ≡ true) × (eqb (getD s 267 0) 0 && flagsTyped s 7 ≡ true) = both _ _ (p .1) in
+    let r : (eqb (getD s 267 0) 0 ≡ true) × (flagsTyped s 7 ≡ true) = both _ _ (q .1) in
+    record { mode = leb-true (getD s 259 0) 4 (q .0); nought = eqb-true (getD s 267 0) 0 (r .0); flags = flags-below s 7 (r .1) }
+
+packed-again : (s : List ℕ) → Bytes s → isTyped s ≡ true → packed (machineAt s) ≡ s
+unfolding packed machineAt controlAt stackAt pairsAt controlBytes stackBytes
+packed-again s b e =
+    let t = typed-facts s e in
+    let flags = t .flags in
+    let whole : take 256 s ++ listed s 256 24 ≡ s = rw (← elements s 256 24 (typed-length s e)) (take-append-drop 256 s) in
+    rw (
+      low-back (getD s 256 0) (getD s 257 0) (b 256),
+      high-back (getD s 256 0) (getD s 257 0) (b 256),
+      low-back (getD s 268 0) (getD s 269 0) (b 268),
+      high-back (getD s 268 0) (getD s 269 0) (b 268),
+      low-back (getD s 270 0) (getD s 271 0) (b 270),
+      high-back (getD s 270 0) (getD s 271 0) (b 270),
+      low-back (getD s 272 0) (getD s 273 0) (b 272),
+      high-back (getD s 272 0) (getD s 273 0) (b 272),
+      low-back (getD s 274 0) (getD s 275 0) (b 274),
+      high-back (getD s 274 0) (getD s 275 0) (b 274),
+      low-back (getD s 276 0) (getD s 277 0) (b 276),
+      high-back (getD s 276 0) (getD s 277 0) (b 276),
+      low-back (getD s 278 0) (getD s 279 0) (b 278),
+      high-back (getD s 278 0) (getD s 279 0) (b 278),
+      mode-back (getD s 259 0) (t .mode),
+      flag-back (getD s 260 0) (flags 0 (omega arith)),
+      flag-back (getD s 261 0) (flags 1 (omega arith)),
+      flag-back (getD s 262 0) (flags 2 (omega arith)),
+      flag-back (getD s 263 0) (flags 3 (omega arith)),
+      flag-back (getD s 264 0) (flags 4 (omega arith)),
+      flag-back (getD s 265 0) (flags 5 (omega arith)),
+      flag-back (getD s 266 0) (flags 6 (omega arith)),
+      append-assoc,
+    )
+    (rw (t .nought) at whole)
+
+module _ (m : Machine) (z : Sized m) where
+  tail : List ℕ
+  tail = controlBytes (m .control) (m .flags) ++ stackBytes (m .stack)
+
+  at : (n : ℕ) → getD (m .bytes ++ tail) (256 + n) 0 ≡ getD tail n 0
+  at n = rw (← z .bytes) (getD-append-add (m .bytes) tail n 0)
+
+  is-typed : isTyped (m .bytes ++ tail) ≡ true
+  unfolding tail isTyped flagsTyped controlBytes stackBytes
+  is-typed =
+      rw (
+        length-append,
+        z .bytes,
+        at 3,
+        mode-small (m .control .mode),
+        at 11,
+        at 4,
+        at 5,
+        at 6,
+        at 7,
+        at 8,
+        at 9,
+        at 10,
+        flag-small (m .control .asleep),
+        flag-small (m .flags .normal .zero),
+        flag-small (m .flags .normal .carry),
+        flag-small (m .flags .interrupt .zero),
+        flag-small (m .flags .interrupt .carry),
+        flag-small (m .flags .nmi .zero),
+        flag-small (m .flags .nmi .carry),
+      )
+
+  is-machine : machineAt (m .bytes ++ tail) ≡ m
+  unfolding tail machineAt controlAt stackAt pairsAt controlBytes stackBytes
+  is-machine =
+      let six : listed (m .stack) 0 6 ≡ m .stack = sym (elements (m .stack) 0 6 (z .stack)) in
+      rw (
+        at 0,
+        at 1,
+        at 2,
+        at 3,
+        at 4,
+        at 5,
+        at 6,
+        at 7,
+        at 8,
+        at 9,
+        at 10,
+        at 12,
+        at 13,
+        at 14,
+        at 15,
+        at 16,
+        at 17,
+        at 18,
+        at 19,
+        at 20,
+        at 21,
+        at 22,
+        at 23,
+        number-back (m .control .pc),
+        number-back (getD (m .stack) 0 0),
+        number-back (getD (m .stack) 1 0),
+        number-back (getD (m .stack) 2 0),
+        number-back (getD (m .stack) 3 0),
+        number-back (getD (m .stack) 4 0),
+        number-back (getD (m .stack) 5 0),
+        back-mode (m .control .mode),
+        back-flag (m .control .asleep),
+        back-flag (m .flags .normal .zero),
+        back-flag (m .flags .normal .carry),
+        back-flag (m .flags .interrupt .zero),
+        back-flag (m .flags .interrupt .carry),
+        back-flag (m .flags .nmi .zero),
+        back-flag (m .flags .nmi .carry),
+        take-at (m .bytes) _ 256 (z .bytes),
+        six,
+      )
+
+  unpacked-again : unpacked (packed m) ≡ typed m
+  unfolding unpacked packed tail
+  unpacked-again = rw (append-assoc, is-typed, is-machine)
+
+typed-is : (s : List ℕ) (b : Bool) (m : Machine) → cond b (typed (machineAt s)) untyped ≡ typed m → (b ≡ true) × (machineAt s ≡ m)
+typed-is s true m e = (refl, cc)
+typed-is s false m e = let z : _≡_ {A = ℕ} 0 1 = cc in absurd (omega arith)
+
+pub packing-inverts : PackingInverts
+unfolding unpacked
+packing-inverts = record {
+  unpack-pack = unpacked-again;
+  pack-unpack = λ s b m e.
+      let p : (isTyped s ≡ true) × (machineAt s ≡ m) = typed-is s (isTyped s) m e in
+      rw (← p .1) (packed-again s b (p .0));
+}
+
+pub word-reads : WordReads
+word-reads = record {
+  number = λ n a v h k. omega arith;
+  address = λ n a v h k. omega arith;
+  value = λ n a v h k. omega arith;
+}

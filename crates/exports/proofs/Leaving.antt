@@ -1,0 +1,113 @@
+-- An answer whose number is not 0 leaves the lent buffer.
+-- Assumes nothing.
+use Prim.Native.Nat.{ℕ, _%_}
+use mathlib.Core.Path.{_≡_, refl}
+use mathlib.Core.Bool.{Bool, true, false, cond, not, _&&_}
+use mathlib.Core.List.{List}
+use native.Mathlib.Omega.{arith}
+use lib.Dec.{leb}
+use lib.ListN.{length}
+use Rattle.isa.specs.Refusals.{Numbered, plain}
+use Rattle.isa.specs.RoundTrip.{Bytes}
+use Rattle.isa.specs.Decode.{decodeAt}
+use Rattle.isa.specs.Decode as decode
+use Rattle.isa.specs.Encode.{Outcome, wrote, encodeOf, outcome, bufferAfter}
+use Rattle.isa.specs.Encode as encode
+use Rattle.isa.specs.declared.Encoded.{Encoded}
+use Rattle.isa.proofs.WriteEffects.{write-effects}
+use Rattle.machine.specs.declared.Machine.{Machine}
+use Rattle.machine.specs.State.{unless, isWellFormed, done, refused, hostStored, inWindow, withByte, hostStoreOf}
+use Rattle.machine.specs.Step.{Step, Answer, stepOf}
+use Rattle.machine.specs.Step as step
+use Rattle.machine.specs.Laws.{Does, stops, takes, idles, executes}
+use Rattle.machine.proofs.StepDoes.{step-does, Tested, refuses, passes, step-tested}
+use Rattle.exports.specs.declared.fields.Reading.{Reading}
+use Rattle.exports.specs.declared.fields.Reading.the-variants.{Is, Unreadable}
+use Rattle.exports.specs.Answers.{word, refusalWord, stepWord, outcomeWord}
+use Rattle.exports.specs.States.{Unpacked, typed, untyped, unpacked, packed}
+use Rattle.exports.specs.Fields.{unpackedInstruction}
+use Rattle.exports.specs.Lent.{lent, decodedLent, decodeLent, writeBy, writeLent, resetBy, resetLent, storedLent, storeBy, storeLent, stepBy, stepLent}
+use Rattle.exports.specs.Laws.{Leaves, RefusalsLeave}
+use Rattle.exports.proofs.Inverse.{packing-inverts}
+
+-- what is done has no number
+done-number : (v : ℕ) → word 0 0 v % 0x100 ≡ 0
+done-number v = omega arith
+
+module _ (out : List ℕ) where
+  with-room : (b : Bool) (n : ℕ) (after : List ℕ) → Leaves out (cond b (lent (word 0 0 n) after) (lent (refusalWord (plain 9)) out))
+  with-room true n after k = absurd (k (done-number n))
+  with-room false n after k = refl
+
+  decoded : (a : decode.Answer) → Leaves out (decodedLent out a)
+  unfolding decodedLent
+  decoded (decode.instruction i bytes cycles) k = with-room (leb 10 (length out)) bytes _ k
+  decoded (decode.refused r) k = refl
+
+  written : (e : Encoded) (o : Outcome) → outcome e (length out) ≡ o → Leaves out (lent (outcomeWord o) (bufferAfter e out))
+  written e (wrote n) is k = absurd (k (done-number n))
+  written e (encode.refused r) is k = write-effects .untouched e out r is
+
+  read : (r : Reading) → Leaves out (writeBy out r)
+  read (Is i) k = written (encodeOf i) (outcome (encodeOf i) (length out)) refl k
+  read Unreadable k = refl
+
+-- a step that is refused or stops keeps the machine
+module _ (image : List ℕ) (m : Machine) (request : ℕ) where
+  does-keep : (t : Step) → Does image m request t → (r : Numbered) → t .answer ≡ step.refused r → t .machine ≡ m
+  does-keep t (stops n is) r e = refl
+  does-keep t (takes source asked room) r e = let z : _≡_ {A = ℕ} 0 1 = cc in absurd (omega arith)
+  does-keep t (idles none asleep) r e = let z : _≡_ {A = ℕ} 0 1 = cc in absurd (omega arith)
+  does-keep t (executes i bytes cycles none awake at room) r e = let z : _≡_ {A = ℕ} 0 1 = cc in absurd (omega arith)
+
+  tested-keep : (t : Step) → Tested image m request t → (r : Numbered) → t .answer ≡ step.refused r → t .machine ≡ m
+  tested-keep t (refuses n) r e = refl
+  tested-keep t (passes size formed) r e = does-keep t (step-does image m request size formed) r e
+
+module _ (s : List ℕ) (bytes : Bytes s) where
+  again : (m : Machine) → unpacked s ≡ typed m → packed m ≡ s
+  again = packing-inverts .pack-unpack s bytes
+
+  stepped :
+      (image : List ℕ) (m : Machine) (request : ℕ) → unpacked s ≡ typed m → (a : Answer) → stepOf image m request .answer ≡ a →
+      Leaves s (lent (stepWord a) (packed (stepOf image m request .machine)))
+  stepped image m request u (step.done cycles) e k = absurd (k (done-number cycles))
+  stepped image m request u (step.refused r) e k =
+      rw (tested-keep image m request (stepOf image m request) (step-tested image m request) r e) (again m u)
+
+  by-state : (image : List ℕ) (request : ℕ) (u : Unpacked) → unpacked s ≡ u → Leaves s (stepBy image s request u)
+  by-state image request (typed m) e k = stepped image m request e (stepOf image m request .answer) refl k
+  by-state image request untyped e k = refl
+
+  tests :
+      (m : Machine) (a value : ℕ) → unpacked s ≡ typed m → (formed outside : Bool) →
+      Leaves s
+      (storedLent
+      (unless formed (hostStored m (refused (plain 2)))
+      (unless outside (hostStored m (refused (plain 10))) (hostStored (withByte m a value) done))))
+  tests m a value e false outside k = again m e
+  tests m a value e true false k = again m e
+  tests m a value e true true k = absurd (k refl)
+
+  stored : (a value : ℕ) (u : Unpacked) → unpacked s ≡ u → Leaves s (storeBy s a value u)
+  unfolding hostStoreOf
+  stored a value (typed m) e k = tests m a value e (isWellFormed m) (not (inWindow a)) k
+  stored a value untyped e k = refl
+
+  in-range : (a value : ℕ) (b : Bool) → Leaves s (cond b (storeBy s a value (unpacked s)) (lent (refusalWord (plain 8)) s))
+  in-range a value true k = stored a value (unpacked s) refl k
+  in-range a value false k = refl
+
+reset : (s : List ℕ) (u : Unpacked) → Leaves s (resetBy s u)
+reset s (typed m) k = absurd (k refl)
+reset s untyped k = refl
+
+pub refusals-leave : RefusalsLeave
+unfolding decodeLent writeLent resetLent storeLent stepLent
+refusals-leave = record {
+  by-decode = λ image address out. decoded out (decodeAt image address);
+  by-write = λ fields out. read out (unpackedInstruction fields);
+  by-reset = λ s. reset s (unpacked s);
+  by-store = λ s bytes a value. in-range s bytes a value (leb a 255 && leb value 255);
+  by-step = λ image s bytes request. by-state s bytes image request (unpacked s) refl;
+}

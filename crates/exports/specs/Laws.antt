@@ -1,0 +1,94 @@
+-- What callers may rely on: packing and unpacking undo each other, an answer's parts can be read back, and a refusal leaves what was lent.
+-- Assumes nothing.
+use Prim.Native.Nat.{ℕ, _<_, _/_, _%_}
+use mathlib.Core.Path.{_≡_}
+use mathlib.Core.Bool.{true, not, _&&_}
+use mathlib.Core.List.{List, _++_}
+use lib.Dec.{leb}
+use lib.IntN.{ℤ, pos}
+use lib.ListN.{length, take}
+use Rattle.isa.specs.RoundTrip.{Bytes}
+use Rattle.isa.specs.Decode.{isImage}
+use Rattle.isa.specs.Encode.{inField}
+use Rattle.isa.specs.declared.Instruction.{Instruction}
+use Rattle.isa.specs.declared.Instruction.the-variants as I
+use Rattle.machine.specs.declared.Machine.{Machine}
+use Rattle.machine.specs.State.{isWellFormed}
+use Rattle.machine.specs.Run.{requestsFit, runOf}
+use Rattle.exports.specs.Answers.{word, isTurnedDown}
+use Rattle.exports.specs.States.{typed, unpacked, packed}
+use Rattle.exports.specs.Fields.{packedInstruction, unpackedInstruction}
+use Rattle.exports.specs.declared.fields.Reading.the-variants.{Is}
+use Rattle.exports.specs.Lent.{Lent, decodeLent, writeLent, resetLent, storeLent, stepLent}
+
+-- the program's arrays have these lengths
+pub record Sized (m : Machine) : Type 0 where
+  pub stack : length (m .stack) ≡ 6
+  pub bytes : length (m .bytes) ≡ 256
+
+pub record PackingInverts : Type 0 where
+  pub unpack-pack : (m : Machine) → Sized m → unpacked (packed m) ≡ typed m
+  pub pack-unpack : (s : List ℕ) → Bytes s → (m : Machine) → unpacked s ≡ typed m → packed m ≡ s
+
+-- the displacement of a jump, 0 where there is none
+abbrev pub displacementOf : Instruction → ℤ
+displacementOf (I.Jrnz d) = d
+displacementOf (I.Jrnc d) = d
+displacementOf (I.Jrz d) = d
+displacementOf (I.Jrc d) = d
+displacementOf (I.Jrr bit a d) = d
+displacementOf (I.Jrs bit a d) = d
+displacementOf (I.Call target) = pos 0
+displacementOf (I.Jp target) = pos 0
+displacementOf (I.Res bit a) = pos 0
+displacementOf (I.Set bit a) = pos 0
+displacementOf (I.LoadA o) = pos 0
+displacementOf (I.StoreA o) = pos 0
+displacementOf (I.LoadAImmediate n) = pos 0
+displacementOf (I.LoadImmediate a n) = pos 0
+displacementOf (I.Inc o) = pos 0
+displacementOf (I.Dec o) = pos 0
+displacementOf (I.Add o) = pos 0
+displacementOf (I.AddImmediate n) = pos 0
+displacementOf (I.Sub o) = pos 0
+displacementOf (I.SubImmediate n) = pos 0
+displacementOf (I.And o) = pos 0
+displacementOf (I.AndImmediate n) = pos 0
+displacementOf (I.Cp o) = pos 0
+displacementOf (I.CpImmediate n) = pos 0
+displacementOf I.Com = pos 0
+displacementOf I.Rlc = pos 0
+displacementOf I.Ret = pos 0
+displacementOf I.Reti = pos 0
+displacementOf I.Stop = pos 0
+displacementOf I.Wait = pos 0
+
+-- fields are read as the one instruction whose row they are
+pub record FieldsInvert : Type 0 where
+  pub read-row :
+      (i : Instruction) → inField 8 (displacementOf i) ≡ true → (more : List ℕ) → unpackedInstruction (packedInstruction i ++ more) ≡ Is i
+  pub row-read : (s : List ℕ) (i : Instruction) → unpackedInstruction s ≡ Is i → take 7 s ≡ packedInstruction i
+
+-- bits 0 to 7, 8 to 23 and from 24
+pub record WordReads : Type 0 where
+  pub number : (n a v : ℕ) → n < 0x100 → a < 0x10000 → word n a v % 0x100 ≡ n
+  pub address : (n a v : ℕ) → n < 0x100 → a < 0x10000 → word n a v / 0x100 % 0x10000 ≡ a
+  pub value : (n a v : ℕ) → n < 0x100 → a < 0x10000 → word n a v / 0x1000000 ≡ v
+
+-- a run is turned down exactly where one of its own refusals applies: 1, 2, 12, 11
+abbrev pub RunTurnedDown : Type 0
+RunTurnedDown =
+    (image : List ℕ) → Bytes image → (m : Machine) (requests : List ℕ) (n : ℕ) →
+    isTurnedDown (runOf image m requests n .report .ending)
+    ≡ not (isImage (length image) && (isWellFormed m && (leb n 65535 && requestsFit requests n)))
+
+-- "A refusal is a number, and leaves buffers and machine untouched": where the number is not 0
+abbrev pub Leaves : List ℕ → Lent → Type 0
+Leaves before l = (l .answer % 0x100 ≡ 0 → ⊥) → l .buffer ≡ before
+
+pub record RefusalsLeave : Type 0 where
+  pub by-decode : (image : List ℕ) (address : ℕ) (out : List ℕ) → Leaves out (decodeLent image address out)
+  pub by-write : (fields out : List ℕ) → Leaves out (writeLent fields out)
+  pub by-reset : (s : List ℕ) → Leaves s (resetLent s)
+  pub by-store : (s : List ℕ) → Bytes s → (a value : ℕ) → Leaves s (storeLent s a value)
+  pub by-step : (image s : List ℕ) → Bytes s → (request : ℕ) → Leaves s (stepLent image s request)
