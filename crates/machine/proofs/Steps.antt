@@ -8,7 +8,7 @@ use native.Mathlib.Omega.{arith}
 use native.Mathlib.Nat.{zero-add, suc-add}
 use native.Mathlib.Numerals.{add-one}
 use borrow.Author.Count.{below-more}
-use lib.ListN.{getD, length, replicate}
+use lib.ListN.{getD, length, replicate, List·getD-eq-default}
 use Rattle.isa.specs.Refusals.{Numbered}
 use Rattle.isa.specs.Sources.{namesOnlySources}
 use Rattle.isa.specs.Decode.{isImage, decodeAt}
@@ -34,6 +34,19 @@ fits-at requests zero e k h = absurd (omega arith)
 fits-at requests (suc n) e k h =
     let p : (namesOnlySources (getD requests n 0) ≡ true) × (requestsFit requests n ≡ true) = both (namesOnlySources (getD requests n 0)) (requestsFit requests n) e in
     below-more (λ j. namesOnlySources (getD requests j 0) ≡ true) n (fits-at requests n (p .1)) (p .0) k (omega arith)
+
+-- past the list's end there is nothing that does not fit
+past-end : (requests : List ℕ) (d : ℕ) → requestsFit requests (d + length requests) ≡ requestsFit requests (length requests)
+unfolding requestsFit
+past-end requests zero = ap (requestsFit requests) (zero-add (length requests))
+past-end requests (suc d) =
+    ap (requestsFit requests) (suc-add d (length requests))
+    ∙ rw (List·getD-eq-default requests 0 {n = d + length requests} (omega arith)) (past-end requests d)
+
+pub fit-past : (requests : List ℕ) (n : ℕ) → length requests ≤ n → requestsFit requests (length requests) ≡ requestsFit requests n
+fit-past requests n h =
+    let whole : (n - length requests) + length requests ≡ n = omega arith in
+    sym (past-end requests (n - length requests)) ∙ ap (requestsFit requests) whole
 
 -- step i of a run, from what the program knows
 pub stepped : (image requests : List ℕ) (m : Machine) (n i request : ℕ) (s : Step) → isImage (length image) ≡ true → isWellFormed m ≡ true → requestsFit requests n ≡ true → i < n → request ≡ getD requests i 0 → s ≡ advancedOf image m request → s ≡ stepOf image m (getD requests i 0)

@@ -36,7 +36,7 @@ fn request_at(requests: &[u8], i: u32) -> u8
 }
 
 // Whether the first n request bytes name nothing but sources.
-fn requests_fit(requests: &[u8], n: u32) -> bool
+fn first_fit(requests: &[u8], n: u32) -> bool
     ensures { λ r. ⌜ r ≡ requestsFit (now (requests .entry)) n ⌝ }
 {
     let mut fit = true;
@@ -48,6 +48,17 @@ fn requests_fit(requests: &[u8], n: u32) -> bool
         i += 1;
     }
     fit
+}
+
+// The same without a look past the list's end, where there are no requests.
+fn requests_fit(requests: &[u8], n: u32) -> bool
+    ensures { λ r. ⌜ r ≡ requestsFit (now (requests .entry)) n ⌝ }
+{
+    let count = requests.len();
+    if (n as usize) < count {
+        return first_fit(requests, n);
+    }
+    first_fit(requests, count as u32)
 }
 
 fn progress(control: Control, flags: FlagPairs, steps: u32, cycles: u32, ending: Ending) -> Progress

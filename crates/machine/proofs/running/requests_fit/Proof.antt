@@ -1,64 +1,26 @@
--- `running::requests_fit` meets its contract. The loop's invariant: `fit` is the answer for the first i bytes.
+-- `running::requests_fit` meets its contract.
 -- Assumes nothing.
-use Prim.Native.Nat.{_≤_, _-_}
-use mathlib.Core.Path.{_≡_, refl, _∙_}
-use mathlib.Core.Logic.{⊎-elim}
-use native.Mathlib.Omega.{arith}
-use native.Mathlib.Numerals.{add-one}
 use borrow.Author.Needs.{needs}
-use borrow.Author.Tests.{not-true, not-false}
-use Rattle.machine.specs.Run.{requestsFit}
+use mathlib.Core.Path.{_∙_}
+use Rattle.machine.proofs.Steps.{fit-past}
 use Rattle.machine.proofs.running.requests_fit.Statement.{statement}
 use Rattle.machine.proofs.running.requests_fit.Tie as tie
 
-abbrev Inv-loop : tie.InvT-loop
-Inv-loop requests n fit₀ i₀ fit i = (i ≤ n) × (fit ≡ requestsFit requests i)
+first-fit-requires : tie.Need-first-fit-requires
+first-fit-requires c κs = search needs
 
-abbrev μ-loop : tie.MeasureT-loop
-μ-loop requests n fit₀ i₀ fit i = n - i
+returns : tie.Need-returns
+returns c = search needs
 
-loop-holds : tie.Need-loop-holds Inv-loop μ-loop
-unfolding requestsFit
-loop-holds c = (search needs, refl)
+cast-first-fit : tie.Need-cast-first-fit
+cast-first-fit c = search needs
 
-request-at-requires : tie.Need-request-at-requires Inv-loop μ-loop
-request-at-requires c κs = search needs
+first-fit-requires-2 : tie.Need-first-fit-requires-2
+first-fit-requires-2 c κs = search needs
 
-names-only-sources-requires : tie.Need-names-only-sources-requires Inv-loop μ-loop
-names-only-sources-requires c κs = search needs
-
-add-i : tie.Need-add-i Inv-loop μ-loop
-add-i c = search needs
-
-loop-less : tie.Need-loop-less Inv-loop μ-loop
-loop-less c = search needs
-
-loop-again : tie.Need-loop-again Inv-loop μ-loop
-unfolding requestsFit
-loop-again c = (
-  search needs,
-  rw (add-one _, ← c .before .before .request-at .ensures, ← c .before .names-only-sources .ensures)
-      (⊎-elim
-      (λ w. rw (not-true (c .before .names-only-sources .result) (w .0 .taken)) (w .1))
-      (λ w. rw (not-false (c .before .names-only-sources .result) (w .0 .left)) (w .1 ∙ c .before .before .before .before .loop .inv .1))
-      (c .if1 .came)),
-)
-
-returns : tie.Need-returns Inv-loop μ-loop
-returns c =
-    let e : c .before .loop .i ≡ c .before .before .before .args .n = omega arith in
-    rw (← e) (c .before .loop .inv .1)
+returns-2 : tie.Need-returns-2
+returns-2 c = c .first-fit2 .ensures ∙ fit-past _ _ (c .before .if1 .left)
 
 pub requests-fit-spec : {M : Type 1} → statement M
 requests-fit-spec =
-    tie.close
-    (tie.spec
-    Inv-loop
-    μ-loop
-    loop-holds
-    request-at-requires
-    names-only-sources-requires
-    add-i
-    loop-less
-    loop-again
-    returns)
+    tie.close (tie.spec first-fit-requires returns cast-first-fit first-fit-requires-2 returns-2)
