@@ -1,9 +1,9 @@
 -- `st62_check` meets its contract.
 -- Assumes nothing.
 use mathlib.Core.Path.{ap, _∙_}
-use Rattle.exports.proofs.Beyond.{check-beyond}
-use Rattle.exports.specs.Answers.{verdictWord}
 use borrow.Author.Needs.{needs}
+use Rattle.exports.specs.Answers.{verdictWord}
+use Rattle.exports.proofs.Beyond.{check-beyond}
 use Rattle.exports.proofs.st62_check.Statement.{statement}
 use Rattle.exports.proofs.st62_check.Tie as tie
 

@@ -1,13 +1,12 @@
 -- `st62_step` meets its contract.
 -- Assumes nothing.
-use Rattle.exports.specs.States.{unpacked, machineAt}
 use mathlib.Core.Path.{sym, ap, _∙_}
 use borrow.Author.Tests.{not-true, not-false}
+use borrow.Author.Needs.{needs}
+use Rattle.exports.specs.States.{unpacked, machineAt}
 use Rattle.exports.specs.Lent.{stepLent, steppedLent}
-use Rattle.exports.specs.States.{unpacked}
 use Rattle.exports.proofs.Beyond.{step-beyond}
 use Rattle.exports.proofs.Filling.{typed-length}
-use borrow.Author.Needs.{needs}
 use Rattle.exports.proofs.st62_step.Statement.{statement}
 use Rattle.exports.proofs.st62_step.Tie as tie
 
@@ -46,9 +45,17 @@ returns-2 : tie.Need-returns-2
 unfolding stepLent unpacked
 returns-2 c =
     let s = c .before .before .before .before .before .before .before .before .before .before .before .before .before .before .before .args .state .now in
-    rw (← c .before .before .before .before .before .before .before .before .before .before .before .is-typed .ensures, not-false (c .before .before .before .before .before .before .before .before .before .before .before .is-typed .result) (c .before .before .before .before .before .before .before .before .before .before .if1 .left), c .step-word .ensures, c .before .before .before .pack .ensures)
+    rw (
+      ← c .before .before .before .before .before .before .before .before .before .before .before .is-typed .ensures,
+      not-false (c .before .before .before .before .before .before .before .before .before .before .before .is-typed .result) (c .before .before .before .before .before .before .before .before .before .before .if1 .left),
+      c .step-word .ensures,
+      c .before .before .before .pack .ensures,
+    )
     (ap steppedLent
-    ((rw (c .before .before .before .before .before .before .before .before .unpack .ensures, c .before .before .before .before .before .before .before .byte-or .ensures) at (c .before .before .before .before .before .before .step .ensures))
+    ((rw (
+      c .before .before .before .before .before .before .before .before .unpack .ensures,
+      c .before .before .before .before .before .before .before .byte-or .ensures,
+    ) at (c .before .before .before .before .before .before .step .ensures))
     ∙ step-beyond (c .before .before .before .before .before .before .before .before .before .before .before .before .before .before .before .args .image .now) (machineAt s) (c .before .before .before .before .before .before .before .before .before .before .before .before .before .before .before .args .request)))
 
 pub st62-step-spec : {M : Type 1} → statement M

@@ -2,8 +2,8 @@
 -- Assumes nothing.
 use mathlib.Core.Path.{refl, sym}
 use mathlib.Core.List.{[], _∷_}
-use Rattle.exports.proofs.Filling.{two-parts}
 use borrow.Author.Needs.{needs}
+use Rattle.exports.proofs.Filling.{two-parts}
 use Rattle.exports.proofs.fields.put_row.Statement.{statement}
 use Rattle.exports.proofs.fields.put_row.Tie as tie
 
