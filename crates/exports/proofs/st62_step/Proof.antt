@@ -3,7 +3,7 @@
 use mathlib.Core.Path.{sym, ap, _∙_}
 use borrow.Author.Tests.{not-true, not-false}
 use borrow.Author.Needs.{needs}
-use Rattle.exports.specs.States.{unpacked, machineAt}
+use Rattle.exports.specs.States.{unpacked}
 use Rattle.exports.specs.Lent.{stepLent, steppedLent}
 use Rattle.exports.proofs.Beyond.{step-beyond}
 use Rattle.exports.proofs.Filling.{typed-length}
@@ -44,7 +44,6 @@ same-length-2 c = search needs
 returns-2 : tie.Need-returns-2
 unfolding stepLent unpacked
 returns-2 c =
-    let s = c .before .before .before .before .before .before .before .before .before .before .before .before .before .before .before .args .state .now in
     rw (
       ← c .before .before .before .before .before .before .before .before .before .before .before .is-typed .ensures,
       not-false (c .before .before .before .before .before .before .before .before .before .before .before .is-typed .result) (c .before .before .before .before .before .before .before .before .before .before .if1 .left),
@@ -56,7 +55,7 @@ returns-2 c =
       c .before .before .before .before .before .before .before .before .unpack .ensures,
       c .before .before .before .before .before .before .before .byte-or .ensures,
     ) at (c .before .before .before .before .before .before .step .ensures))
-    ∙ step-beyond (c .before .before .before .before .before .before .before .before .before .before .before .before .before .before .before .args .image .now) (machineAt s) (c .before .before .before .before .before .before .before .before .before .before .before .before .before .before .before .args .request)))
+    ∙ step-beyond _ _ _))
 
 pub st62-step-spec : {M : Type 1} → statement M
 st62-step-spec =
