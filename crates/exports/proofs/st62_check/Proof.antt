@@ -1,9 +1,9 @@
 -- `st62_check` meets its contract.
 -- Assumes nothing.
 use mathlib.Core.Path.{ap, _∙_}
-use Rattle.exports.proofs.Beyond.{check-beyond}
-use Rattle.exports.specs.Answers.{verdictWord}
 use borrow.Author.Needs.{needs}
+use Rattle.exports.specs.Answers.{verdictWord}
+use Rattle.exports.proofs.Beyond.{check-beyond}
 use Rattle.exports.proofs.st62_check.Statement.{statement}
 use Rattle.exports.proofs.st62_check.Tie as tie
 
@@ -21,7 +21,7 @@ returns c =
     c .check-word .ensures
     ∙ ap verdictWord
     ((rw (c .before .before .byte-or .ensures) at (c .before .check .ensures))
-    ∙ check-beyond (c .before .before .before .before .before .args .image .now) (c .before .before .before .before .before .args .certificate .now) (c .before .before .before .before .before .args .wired))
+    ∙ check-beyond _ _ _)
 
 pub st62-check-spec : {M : Type 1} → statement M
 st62-check-spec = tie.close (tie.spec byte-or-requires check-requires check-word-requires returns)

@@ -2,9 +2,9 @@
 -- Assumes nothing.
 use mathlib.Core.Path.{_∙_}
 use borrow.Author.Tests.{le-leb, lt-leb}
-use Rattle.exports.proofs.Beyond.{decode-beyond}
-use Rattle.exports.specs.Lent.{decodeLent, decodedLent}
 use borrow.Author.Needs.{needs}
+use Rattle.exports.specs.Lent.{decodeLent, decodedLent}
+use Rattle.exports.proofs.Beyond.{decode-beyond}
 use Rattle.exports.proofs.st62_decode.Statement.{statement}
 use Rattle.exports.proofs.st62_decode.Tie as tie
 
@@ -28,7 +28,12 @@ refused-requires-2 c κs = search needs
 
 returns : tie.Need-returns
 unfolding decodeLent decodedLent
-returns c = rw (← ((rw (c .before .before .before .before .before .before .address-or-end .ensures) at (c .before .before .before .before .before .decode .ensures)) ∙ decode-beyond (c .before .before .before .before .before .before .before .before .before .args .image .now) (c .before .before .before .before .before .before .before .before .before .args .address)), c .before .before .before .instruction .given .1, lt-leb _ _ (c .before .if1 .taken), c .refused2 .ensures)
+returns c = rw (
+  ← ((rw (c .before .before .before .before .before .before .address-or-end .ensures) at (c .before .before .before .before .before .decode .ensures)) ∙ decode-beyond (c .before .before .before .before .before .before .before .before .before .args .image .now) (c .before .before .before .before .before .before .before .before .before .args .address)),
+  c .before .before .before .instruction .given .1,
+  lt-leb _ _ (c .before .if1 .taken),
+  c .refused2 .ensures,
+)
 
 put-row-requires : tie.Need-put-row-requires
 put-row-requires c κs = search needs
@@ -41,14 +46,24 @@ done-requires c κs = search needs
 
 returns-2 : tie.Need-returns-2
 unfolding decodeLent decodedLent
-returns-2 c = rw (← ((rw (c .before .before .before .before .before .address-or-end .ensures) at (c .before .before .before .before .decode .ensures)) ∙ decode-beyond (c .before .before .before .before .before .before .before .before .args .image .now) (c .before .before .before .before .before .before .before .before .args .address)), c .before .before .refusal .given .1, c .refused .ensures)
+returns-2 c = rw (
+  ← ((rw (c .before .before .before .before .before .address-or-end .ensures) at (c .before .before .before .before .decode .ensures)) ∙ decode-beyond (c .before .before .before .before .before .before .before .before .args .image .now) (c .before .before .before .before .before .before .before .before .args .address)),
+  c .before .before .refusal .given .1,
+  c .refused .ensures,
+)
 
 same-length : tie.Need-same-length
 same-length c = search needs
 
 returns-3 : tie.Need-returns-3
 unfolding decodeLent decodedLent
-returns-3 c = rw (← ((rw (c .before .before .before .before .before .before .before .before .before .before .address-or-end .ensures) at (c .before .before .before .before .before .before .before .before .before .decode .ensures)) ∙ decode-beyond (c .before .before .before .before .before .before .before .before .before .before .before .before .before .args .image .now) (c .before .before .before .before .before .before .before .before .before .before .before .before .before .args .address)), c .before .before .before .before .before .before .before .instruction .given .1, le-leb _ _ (c .before .before .before .before .before .if1 .left), c .done .ensures, c .before .before .before .put-row .ensures)
+returns-3 c = rw (
+  ← ((rw (c .before .before .before .before .before .before .before .before .before .before .address-or-end .ensures) at (c .before .before .before .before .before .before .before .before .before .decode .ensures)) ∙ decode-beyond (c .before .before .before .before .before .before .before .before .before .before .before .before .before .args .image .now) (c .before .before .before .before .before .before .before .before .before .before .before .before .before .args .address)),
+  c .before .before .before .before .before .before .before .instruction .given .1,
+  le-leb _ _ (c .before .before .before .before .before .if1 .left),
+  c .done .ensures,
+  c .before .before .before .put-row .ensures,
+)
 
 pub st62-decode-spec : {M : Type 1} → statement M
 st62-decode-spec =

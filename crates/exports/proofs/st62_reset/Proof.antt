@@ -2,10 +2,10 @@
 -- Assumes nothing.
 use mathlib.Core.Path.{sym, _∙_}
 use borrow.Author.Tests.{not-true, not-false}
+use borrow.Author.Needs.{needs}
 use Rattle.exports.specs.Lent.{resetLent}
 use Rattle.exports.specs.States.{unpacked}
 use Rattle.exports.proofs.Filling.{typed-length}
-use borrow.Author.Needs.{needs}
 use Rattle.exports.proofs.st62_reset.Statement.{statement}
 use Rattle.exports.proofs.st62_reset.Tie as tie
 
@@ -39,7 +39,14 @@ same-length-2 c = search needs
 
 returns-2 : tie.Need-returns-2
 unfolding resetLent unpacked
-returns-2 c = rw (← c .before .before .before .before .before .before .before .before .before .is-typed .ensures, not-false (c .before .before .before .before .before .before .before .before .before .is-typed .result) (c .before .before .before .before .before .before .before .before .if1 .left), c .done .ensures, c .before .before .before .pack .ensures, c .before .before .before .before .before .reset .ensures, c .before .before .before .before .before .before .unpack .ensures)
+returns-2 c = rw (
+  ← c .before .before .before .before .before .before .before .before .before .is-typed .ensures,
+  not-false (c .before .before .before .before .before .before .before .before .before .is-typed .result) (c .before .before .before .before .before .before .before .before .if1 .left),
+  c .done .ensures,
+  c .before .before .before .pack .ensures,
+  c .before .before .before .before .before .reset .ensures,
+  c .before .before .before .before .before .before .unpack .ensures,
+)
 
 pub st62-reset-spec : {M : Type 1} → statement M
 st62-reset-spec =

@@ -2,10 +2,10 @@
 -- Assumes nothing.
 use mathlib.Core.Path.{sym, _∙_}
 use borrow.Author.Tests.{le-leb, lt-leb, not-true, not-false}
+use borrow.Author.Needs.{needs}
 use Rattle.exports.specs.Lent.{runLent, ranLent, reportBytes}
 use Rattle.exports.specs.States.{unpacked}
 use Rattle.exports.proofs.Filling.{typed-length}
-use borrow.Author.Needs.{needs}
 use Rattle.exports.proofs.st62_run.Statement.{statement}
 use Rattle.exports.proofs.st62_run.Tie as tie
 
@@ -39,7 +39,14 @@ same-length-2 c = search needs
 
 returns-2 : tie.Need-returns-2
 unfolding runLent unpacked ranLent
-returns-2 c = rw (← c .before .before .before .before .before .before .before .before .before .is-typed .ensures, not-false (c .before .before .before .before .before .before .before .before .before .is-typed .result) (c .before .before .before .before .before .before .before .before .if1 .left), ← (rw (c .before .before .before .before .before .before .unpack .ensures) at (c .before .before .before .before .before .run .ensures)), ← c .before .before .is-turned-down .ensures, c .before .if2 .taken, c .ending-word .ensures)
+returns-2 c = rw (
+  ← c .before .before .before .before .before .before .before .before .before .is-typed .ensures,
+  not-false (c .before .before .before .before .before .before .before .before .before .is-typed .result) (c .before .before .before .before .before .before .before .before .if1 .left),
+  ← (rw (c .before .before .before .before .before .before .unpack .ensures) at (c .before .before .before .before .before .run .ensures)),
+  ← c .before .before .is-turned-down .ensures,
+  c .before .if2 .taken,
+  c .ending-word .ensures,
+)
 
 refused-requires : tie.Need-refused-requires
 refused-requires c κs = search needs
@@ -49,7 +56,15 @@ same-length-3 c = search needs
 
 returns-3 : tie.Need-returns-3
 unfolding runLent unpacked ranLent
-returns-3 c = rw (← c .before .before .before .before .before .before .before .before .before .before .is-typed .ensures, not-false (c .before .before .before .before .before .before .before .before .before .before .is-typed .result) (c .before .before .before .before .before .before .before .before .before .if1 .left), ← (rw (c .before .before .before .before .before .before .before .unpack .ensures) at (c .before .before .before .before .before .before .run .ensures)), ← c .before .before .before .is-turned-down .ensures, c .before .before .if2 .left, lt-leb _ _ (c .before .if3 .taken), c .refused .ensures)
+returns-3 c = rw (
+  ← c .before .before .before .before .before .before .before .before .before .before .is-typed .ensures,
+  not-false (c .before .before .before .before .before .before .before .before .before .before .is-typed .result) (c .before .before .before .before .before .before .before .before .before .if1 .left),
+  ← (rw (c .before .before .before .before .before .before .before .unpack .ensures) at (c .before .before .before .before .before .before .run .ensures)),
+  ← c .before .before .before .is-turned-down .ensures,
+  c .before .before .if2 .left,
+  lt-leb _ _ (c .before .if3 .taken),
+  c .refused .ensures,
+)
 
 report-bytes-requires : tie.Need-report-bytes-requires
 report-bytes-requires c κs = search needs
@@ -74,7 +89,18 @@ same-length-5 c = search needs
 
 returns-4 : tie.Need-returns-4
 unfolding runLent unpacked ranLent reportBytes
-returns-4 c = rw (← c .before .before .before .before .before .before .before .before .before .before .before .before .before .before .before .before .before .before .before .before .is-typed .ensures, not-false (c .before .before .before .before .before .before .before .before .before .before .before .before .before .before .before .before .before .before .before .before .is-typed .result) (c .before .before .before .before .before .before .before .before .before .before .before .before .before .before .before .before .before .before .before .if1 .left), ← (rw (c .before .before .before .before .before .before .before .before .before .before .before .before .before .before .before .before .before .unpack .ensures) at (c .before .before .before .before .before .before .before .before .before .before .before .before .before .before .before .before .run .ensures)), ← c .before .before .before .before .before .before .before .before .before .before .before .before .before .is-turned-down .ensures, c .before .before .before .before .before .before .before .before .before .before .before .before .if2 .left, le-leb _ _ (c .before .before .before .before .before .before .before .before .before .before .before .if3 .left), c .ending-word2 .ensures, c .before .before .before .before .before .before .before .before .pack .ensures, c .before .before .before .put .ensures, c .before .before .before .before .before .before .before .before .before .before .report-bytes .ensures)
+returns-4 c = rw (
+  ← c .before .before .before .before .before .before .before .before .before .before .before .before .before .before .before .before .before .before .before .before .is-typed .ensures,
+  not-false (c .before .before .before .before .before .before .before .before .before .before .before .before .before .before .before .before .before .before .before .before .is-typed .result) (c .before .before .before .before .before .before .before .before .before .before .before .before .before .before .before .before .before .before .before .if1 .left),
+  ← (rw (c .before .before .before .before .before .before .before .before .before .before .before .before .before .before .before .before .before .unpack .ensures) at (c .before .before .before .before .before .before .before .before .before .before .before .before .before .before .before .before .run .ensures)),
+  ← c .before .before .before .before .before .before .before .before .before .before .before .before .before .is-turned-down .ensures,
+  c .before .before .before .before .before .before .before .before .before .before .before .before .if2 .left,
+  le-leb _ _ (c .before .before .before .before .before .before .before .before .before .before .before .if3 .left),
+  c .ending-word2 .ensures,
+  c .before .before .before .before .before .before .before .before .pack .ensures,
+  c .before .before .before .put .ensures,
+  c .before .before .before .before .before .before .before .before .before .before .report-bytes .ensures,
+)
 
 pub st62-run-spec : {M : Type 1} → statement M
 st62-run-spec =

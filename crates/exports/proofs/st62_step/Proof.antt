@@ -1,13 +1,12 @@
 -- `st62_step` meets its contract.
 -- Assumes nothing.
-use Rattle.exports.specs.States.{unpacked, machineAt}
 use mathlib.Core.Path.{sym, ap, _∙_}
 use borrow.Author.Tests.{not-true, not-false}
-use Rattle.exports.specs.Lent.{stepLent, steppedLent}
+use borrow.Author.Needs.{needs}
 use Rattle.exports.specs.States.{unpacked}
+use Rattle.exports.specs.Lent.{stepLent, steppedLent}
 use Rattle.exports.proofs.Beyond.{step-beyond}
 use Rattle.exports.proofs.Filling.{typed-length}
-use borrow.Author.Needs.{needs}
 use Rattle.exports.proofs.st62_step.Statement.{statement}
 use Rattle.exports.proofs.st62_step.Tie as tie
 
@@ -45,11 +44,18 @@ same-length-2 c = search needs
 returns-2 : tie.Need-returns-2
 unfolding stepLent unpacked
 returns-2 c =
-    let s = c .before .before .before .before .before .before .before .before .before .before .before .before .before .before .before .args .state .now in
-    rw (← c .before .before .before .before .before .before .before .before .before .before .before .is-typed .ensures, not-false (c .before .before .before .before .before .before .before .before .before .before .before .is-typed .result) (c .before .before .before .before .before .before .before .before .before .before .if1 .left), c .step-word .ensures, c .before .before .before .pack .ensures)
+    rw (
+      ← c .before .before .before .before .before .before .before .before .before .before .before .is-typed .ensures,
+      not-false (c .before .before .before .before .before .before .before .before .before .before .before .is-typed .result) (c .before .before .before .before .before .before .before .before .before .before .if1 .left),
+      c .step-word .ensures,
+      c .before .before .before .pack .ensures,
+    )
     (ap steppedLent
-    ((rw (c .before .before .before .before .before .before .before .before .unpack .ensures, c .before .before .before .before .before .before .before .byte-or .ensures) at (c .before .before .before .before .before .before .step .ensures))
-    ∙ step-beyond (c .before .before .before .before .before .before .before .before .before .before .before .before .before .before .before .args .image .now) (machineAt s) (c .before .before .before .before .before .before .before .before .before .before .before .before .before .before .before .args .request)))
+    ((rw (
+      c .before .before .before .before .before .before .before .before .unpack .ensures,
+      c .before .before .before .before .before .before .before .byte-or .ensures,
+    ) at (c .before .before .before .before .before .before .step .ensures))
+    ∙ step-beyond _ _ _))
 
 pub st62-step-spec : {M : Type 1} → statement M
 st62-step-spec =

@@ -2,10 +2,10 @@
 -- Assumes nothing.
 use mathlib.Core.Path.{sym, ap, _∙_}
 use borrow.Author.Tests.{le-leb, lt-leb, not-true, not-false}
+use borrow.Author.Needs.{needs}
 use Rattle.exports.specs.Lent.{storeLent, storedLent}
 use Rattle.exports.specs.States.{unpacked}
 use Rattle.exports.proofs.Filling.{typed-length}
-use borrow.Author.Needs.{needs}
 use Rattle.exports.proofs.st62_store.Statement.{statement}
 use Rattle.exports.proofs.st62_store.Tie as tie
 
@@ -34,7 +34,13 @@ same-length c = search needs
 
 returns-3 : tie.Need-returns-3
 unfolding storeLent unpacked
-returns-3 c = rw (le-leb _ _ (c .before .before .before .before .before .if1 .left), le-leb _ _ (c .before .before .before .before .if2 .left), ← c .before .before .is-typed .ensures, not-true (c .before .before .is-typed .result) (c .before .if3 .taken), c .refused3 .ensures)
+returns-3 c = rw (
+  le-leb _ _ (c .before .before .before .before .before .if1 .left),
+  le-leb _ _ (c .before .before .before .before .if2 .left),
+  ← c .before .before .is-typed .ensures,
+  not-true (c .before .before .is-typed .result) (c .before .if3 .taken),
+  c .refused3 .ensures,
+)
 
 unpack-requires : tie.Need-unpack-requires
 unpack-requires c κs = typed-length _ (sym (c .before .before .is-typed .ensures) ∙ not-false _ (c .before .if3 .left))
@@ -60,7 +66,14 @@ same-length-2 c = search needs
 returns-4 : tie.Need-returns-4
 unfolding storeLent unpacked
 returns-4 c =
-    rw (le-leb _ _ (c .before .before .before .before .before .before .before .before .before .before .before .before .before .if1 .left), le-leb _ _ (c .before .before .before .before .before .before .before .before .before .before .before .before .if2 .left), ← c .before .before .before .before .before .before .before .before .before .before .is-typed .ensures, not-false (c .before .before .before .before .before .before .before .before .before .before .is-typed .result) (c .before .before .before .before .before .before .before .before .before .if3 .left), c .ending-word .ensures, c .before .before .before .pack .ensures)
+    rw (
+      le-leb _ _ (c .before .before .before .before .before .before .before .before .before .before .before .before .before .if1 .left),
+      le-leb _ _ (c .before .before .before .before .before .before .before .before .before .before .before .before .if2 .left),
+      ← c .before .before .before .before .before .before .before .before .before .before .is-typed .ensures,
+      not-false (c .before .before .before .before .before .before .before .before .before .before .is-typed .result) (c .before .before .before .before .before .before .before .before .before .if3 .left),
+      c .ending-word .ensures,
+      c .before .before .before .pack .ensures,
+    )
     (ap storedLent (rw (c .before .before .before .before .before .before .before .unpack .ensures) at (c .before .before .before .before .before .before .host-store .ensures)))
 
 pub st62-store-spec : {M : Type 1} → statement M

@@ -1,7 +1,7 @@
 -- `st62_write` meets its contract.
 -- Assumes nothing.
-use Rattle.exports.specs.Lent.{writeLent}
 use borrow.Author.Needs.{needs}
+use Rattle.exports.specs.Lent.{writeLent}
 use Rattle.exports.proofs.st62_write.Statement.{statement}
 use Rattle.exports.proofs.st62_write.Tie as tie
 
@@ -28,7 +28,13 @@ same-length c = search needs
 
 returns : tie.Need-returns
 unfolding writeLent
-returns c = rw (← c .before .before .before .before .before .before .before .before .read .ensures, c .before .before .before .before .before .before .instruction .given .1, c .write-word .ensures, c .before .before .before .write .ensures .answer, c .before .before .before .write .ensures .buffer)
+returns c = rw (
+  ← c .before .before .before .before .before .before .before .before .read .ensures,
+  c .before .before .before .before .before .before .instruction .given .1,
+  c .write-word .ensures,
+  c .before .before .before .write .ensures .answer,
+  c .before .before .before .write .ensures .buffer,
+)
 
 returns-2 : tie.Need-returns-2
 unfolding writeLent

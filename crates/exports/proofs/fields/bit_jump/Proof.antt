@@ -1,7 +1,7 @@
 -- `fields::bit_jump` meets its contract.
 -- Assumes nothing.
-use Rattle.isa.proofs.Finite.{kept}
 use borrow.Author.Needs.{needs}
+use Rattle.isa.proofs.Finite.{kept}
 use Rattle.exports.proofs.fields.bit_jump.Statement.{statement}
 use Rattle.exports.proofs.fields.bit_jump.Tie as tie
 

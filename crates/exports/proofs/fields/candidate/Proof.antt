@@ -1,10 +1,10 @@
 -- `fields::candidate` meets its contract.
 -- Assumes nothing.
-use Rattle.isa.proofs.Finite.{kept}
 use mir.Syntax.{w8}
 use mir.Val.{SFits}
-use Rattle.exports.specs.Fields.{instructionAt}
 use borrow.Author.Needs.{needs}
+use Rattle.isa.proofs.Finite.{kept}
+use Rattle.exports.specs.Fields.{instructionAt}
 use Rattle.exports.proofs.fields.candidate.Statement.{statement}
 use Rattle.exports.proofs.fields.candidate.Tie as tie
 
@@ -45,7 +45,13 @@ returns : tie.Need-returns
 unfolding instructionAt
 returns c =
     let fits : SFits w8 (c .before .long-displacement .result) = search needs in
-    rw (c .of-form .ensures, c .before .before .before .before .before .before .before .operand-of .ensures, c .before .before .before .before .before .number .ensures, kept fits, c .before .long-displacement .ensures)
+    rw (
+      c .of-form .ensures,
+      c .before .before .before .before .before .before .before .operand-of .ensures,
+      c .before .before .before .before .before .number .ensures,
+      kept fits,
+      c .before .long-displacement .ensures,
+    )
 
 pub candidate-spec : {M : Type 1} → statement M
 candidate-spec =

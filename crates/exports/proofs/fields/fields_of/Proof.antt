@@ -1,11 +1,11 @@
 -- `fields::fields_of` meets its contract.
 -- Assumes nothing.
 use mathlib.Core.Path.{ap, _∙_}
-use Rattle.isa.proofs.Finite.{kept}
 use mir.Syntax.{w8}
 use mir.Val.{SFits}
-use Rattle.exports.specs.Fields.{jumpRow, bitJumpRow, packedInstruction}
 use borrow.Author.Needs.{needs}
+use Rattle.isa.proofs.Finite.{kept}
+use Rattle.exports.specs.Fields.{jumpRow, bitJumpRow, packedInstruction}
 use Rattle.exports.proofs.fields.fields_of.Statement.{statement}
 use Rattle.exports.proofs.fields.fields_of.Tie as tie
 

@@ -1,7 +1,7 @@
 -- `fields::jump` meets its contract.
 -- Assumes nothing.
-use Rattle.isa.proofs.Finite.{kept}
 use borrow.Author.Needs.{needs}
+use Rattle.isa.proofs.Finite.{kept}
 use Rattle.exports.proofs.fields.jump.Statement.{statement}
 use Rattle.exports.proofs.fields.jump.Tie as tie
 

@@ -1,16 +1,25 @@
 -- `fields::of_form` meets its contract. A form past the others is beyond their list.
 -- Assumes nothing.
+use Prim.Native.Nat.{ℕ, zero, suc, _≤_, zero-le}
 use mathlib.Core.Path.{_≡_}
-use Rattle.isa.proofs.Finite.{kept}
-use Prim.Native.Nat.{ℕ, suc, _≤_, zero-le}
 use native.Mathlib.Omega.{arith}
 use lib.ListN.{List·getD-eq-default}
+use Rattle.isa.proofs.Finite.{kept}
 use Rattle.exports.specs.Fields.{instructionBy, instructions}
 use Rattle.exports.proofs.fields.of_form.Statement.{statement}
 use Rattle.exports.proofs.fields.of_form.Tie as tie
 
-above : (n form : ℕ) → n ≤ form → (form ≡ n → ⊥) → suc n ≤ form
-above n form h other = omega arith
+-- a number that is none of the first n
+abbrev Others : (form n : ℕ) → Type 0
+Others form zero = Unit
+Others form (suc n) = Others form n × (form ≡ n → ⊥)
+
+past : (form n : ℕ) → Others form n → n ≤ form
+past form zero o = zero-le
+past form (suc n) o =
+    let least : n ≤ form = past form n (o .0) in
+    let other : form ≡ n → ⊥ = o .1 in
+    omega arith
 
 returns : tie.Need-returns
 unfolding instructionBy instructions
@@ -130,12 +139,7 @@ returns-29 c = rw (c .match .keys29)
 
 returns-30 : tie.Need-returns-30
 unfolding instructionBy instructions
-returns-30 c =
-    let form = c .before .args .form in
-    let none = c .match .rest in
-    let past : 29 ≤ form =
-    above 28 form (above 27 form (above 26 form (above 25 form (above 24 form (above 23 form (above 22 form (above 21 form (above 20 form (above 19 form (above 18 form (above 17 form (above 16 form (above 15 form (above 14 form (above 13 form (above 12 form (above 11 form (above 10 form (above 9 form (above 8 form (above 7 form (above 6 form (above 5 form (above 4 form (above 3 form (above 2 form (above 1 form (above 0 form zero-le (none .0 .0 .0 .0 .0 .0 .0 .0 .0 .0 .0 .0 .0 .0 .0 .0 .0 .0 .0 .0 .0 .0 .0 .0 .0 .0 .0 .0 .1)) (none .0 .0 .0 .0 .0 .0 .0 .0 .0 .0 .0 .0 .0 .0 .0 .0 .0 .0 .0 .0 .0 .0 .0 .0 .0 .0 .0 .1)) (none .0 .0 .0 .0 .0 .0 .0 .0 .0 .0 .0 .0 .0 .0 .0 .0 .0 .0 .0 .0 .0 .0 .0 .0 .0 .0 .1)) (none .0 .0 .0 .0 .0 .0 .0 .0 .0 .0 .0 .0 .0 .0 .0 .0 .0 .0 .0 .0 .0 .0 .0 .0 .0 .1)) (none .0 .0 .0 .0 .0 .0 .0 .0 .0 .0 .0 .0 .0 .0 .0 .0 .0 .0 .0 .0 .0 .0 .0 .0 .1)) (none .0 .0 .0 .0 .0 .0 .0 .0 .0 .0 .0 .0 .0 .0 .0 .0 .0 .0 .0 .0 .0 .0 .0 .1)) (none .0 .0 .0 .0 .0 .0 .0 .0 .0 .0 .0 .0 .0 .0 .0 .0 .0 .0 .0 .0 .0 .0 .1)) (none .0 .0 .0 .0 .0 .0 .0 .0 .0 .0 .0 .0 .0 .0 .0 .0 .0 .0 .0 .0 .0 .1)) (none .0 .0 .0 .0 .0 .0 .0 .0 .0 .0 .0 .0 .0 .0 .0 .0 .0 .0 .0 .0 .1)) (none .0 .0 .0 .0 .0 .0 .0 .0 .0 .0 .0 .0 .0 .0 .0 .0 .0 .0 .0 .1)) (none .0 .0 .0 .0 .0 .0 .0 .0 .0 .0 .0 .0 .0 .0 .0 .0 .0 .0 .1)) (none .0 .0 .0 .0 .0 .0 .0 .0 .0 .0 .0 .0 .0 .0 .0 .0 .0 .1)) (none .0 .0 .0 .0 .0 .0 .0 .0 .0 .0 .0 .0 .0 .0 .0 .0 .1)) (none .0 .0 .0 .0 .0 .0 .0 .0 .0 .0 .0 .0 .0 .0 .0 .1)) (none .0 .0 .0 .0 .0 .0 .0 .0 .0 .0 .0 .0 .0 .0 .1)) (none .0 .0 .0 .0 .0 .0 .0 .0 .0 .0 .0 .0 .0 .1)) (none .0 .0 .0 .0 .0 .0 .0 .0 .0 .0 .0 .0 .1)) (none .0 .0 .0 .0 .0 .0 .0 .0 .0 .0 .0 .1)) (none .0 .0 .0 .0 .0 .0 .0 .0 .0 .0 .1)) (none .0 .0 .0 .0 .0 .0 .0 .0 .0 .1)) (none .0 .0 .0 .0 .0 .0 .0 .0 .1)) (none .0 .0 .0 .0 .0 .0 .0 .1)) (none .0 .0 .0 .0 .0 .0 .1)) (none .0 .0 .0 .0 .0 .1)) (none .0 .0 .0 .0 .1)) (none .0 .0 .0 .1)) (none .0 .0 .1)) (none .0 .1)) (none .1) in
-    rw (List·getD-eq-default _ _ past)
+returns-30 c = rw (List·getD-eq-default _ _ (past (c .before .args .form) 29 (c .match .rest)))
 
 pub of-form-spec : {M : Type 1} → statement M
 of-form-spec =

@@ -2,8 +2,8 @@
 -- Assumes nothing.
 use mathlib.Core.Path.{refl, sym}
 use mathlib.Core.List.{[], _∷_}
-use Rattle.exports.proofs.Filling.{two-parts}
 use borrow.Author.Needs.{needs}
+use Rattle.exports.proofs.Filling.{two-parts}
 use Rattle.exports.proofs.fields.put_row.Statement.{statement}
 use Rattle.exports.proofs.fields.put_row.Tie as tie
 
@@ -27,9 +27,12 @@ same-length c = search needs
 
 returns : tie.Need-returns
 returns c =
+    let args = c .before .before .before .before .before .before .before .before .before .before .before .before .args in
     rw (← c .before .before .before .before .before .before .before .before .before .before .fields-of .ensures)
-    (two-parts (c .before .before .before .before .before .before .before .before .before .before .before .before .args .out .now) (c .before .before .before .before .before .before .before .before .before .before .fields-of .result) (c .before .before .before .before .before .before .before .before .before .before .before .before .args .bytes ∷ c .before .before .before .before .before .before .before .before .before .before .before .before .args .cycles ∷ 0 ∷ []) (c .before .before .before .before .before .before .before .put .last .0) (c .before .before .put2 .last .0)
-    (sym (slice-aggregate-put (c .before .before .before .before .before .before .before .before))) refl (c .before .before .before .before .before .before .before .put .ensures) (c .before .before .put2 .ensures))
+    (two-parts (args .out .now) (c .before .before .before .before .before .before .before .before .before .before .fields-of .result) (args .bytes ∷ args .cycles ∷ 0 ∷ [])
+    (c .before .before .before .before .before .before .before .put .last .0) (c .before .before .put2 .last .0)
+    (sym (slice-aggregate-put (c .before .before .before .before .before .before .before .before))) refl
+    (c .before .before .before .before .before .before .before .put .ensures) (c .before .before .put2 .ensures))
 
 pub put-row-spec : {M : Type 1} → statement M
 put-row-spec =

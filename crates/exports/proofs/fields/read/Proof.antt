@@ -1,8 +1,8 @@
 -- `fields::read` meets its contract.
 -- Assumes nothing.
 use borrow.Author.Tests.{le-leb, lt-leb}
-use Rattle.exports.specs.Fields.{unpackedInstruction}
 use borrow.Author.Needs.{needs}
+use Rattle.exports.specs.Fields.{unpackedInstruction}
 use Rattle.exports.proofs.fields.read.Statement.{statement}
 use Rattle.exports.proofs.fields.read.Tie as tie
 
@@ -21,11 +21,23 @@ begins-with-requires c κs = search needs
 
 returns-2 : tie.Need-returns-2
 unfolding unpackedInstruction
-returns-2 c = rw (le-leb _ _ (c .before .before .before .before .before .if1 .left), ← c .before .before .before .before .candidate .ensures, ← c .before .before .before .fields-of .ensures, ← c .before .begins-with .ensures, c .if2 .taken)
+returns-2 c = rw (
+  le-leb _ _ (c .before .before .before .before .before .if1 .left),
+  ← c .before .before .before .before .candidate .ensures,
+  ← c .before .before .before .fields-of .ensures,
+  ← c .before .begins-with .ensures,
+  c .if2 .taken,
+)
 
 returns-3 : tie.Need-returns-3
 unfolding unpackedInstruction
-returns-3 c = rw (le-leb _ _ (c .before .before .before .before .before .if1 .left), ← c .before .before .before .before .candidate .ensures, ← c .before .before .before .fields-of .ensures, ← c .before .begins-with .ensures, c .if2 .left)
+returns-3 c = rw (
+  le-leb _ _ (c .before .before .before .before .before .if1 .left),
+  ← c .before .before .before .before .candidate .ensures,
+  ← c .before .before .before .fields-of .ensures,
+  ← c .before .begins-with .ensures,
+  c .if2 .left,
+)
 
 pub read-spec : {M : Type 1} → statement M
 read-spec =

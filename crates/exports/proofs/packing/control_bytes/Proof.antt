@@ -1,7 +1,7 @@
 -- `packing::control_bytes` meets its contract.
 -- Assumes nothing.
-use Rattle.exports.specs.States.{controlBytes}
 use borrow.Author.Needs.{needs}
+use Rattle.exports.specs.States.{controlBytes}
 use Rattle.exports.proofs.packing.control_bytes.Statement.{statement}
 use Rattle.exports.proofs.packing.control_bytes.Tie as tie
 
@@ -37,7 +37,18 @@ flag-requires-7 c κs = search needs
 
 returns : tie.Need-returns
 unfolding controlBytes
-returns c = rw (c .before .before .before .before .before .before .before .before .before .low .ensures, c .before .before .before .before .before .before .before .before .high .ensures, c .before .before .before .before .before .before .before .mode-number .ensures, c .before .before .before .before .before .before .flag .ensures, c .before .before .before .before .before .flag2 .ensures, c .before .before .before .before .flag3 .ensures, c .before .before .before .flag4 .ensures, c .before .before .flag5 .ensures, c .before .flag6 .ensures, c .flag7 .ensures)
+returns c = rw (
+  c .before .before .before .before .before .before .before .before .before .low .ensures,
+  c .before .before .before .before .before .before .before .before .high .ensures,
+  c .before .before .before .before .before .before .before .mode-number .ensures,
+  c .before .before .before .before .before .before .flag .ensures,
+  c .before .before .before .before .before .flag2 .ensures,
+  c .before .before .before .before .flag3 .ensures,
+  c .before .before .before .flag4 .ensures,
+  c .before .before .flag5 .ensures,
+  c .before .flag6 .ensures,
+  c .flag7 .ensures,
+)
 
 pub control-bytes-spec : {M : Type 1} → statement M
 control-bytes-spec =

@@ -1,10 +1,10 @@
 -- `packing::pack` meets its contract.
 -- Assumes nothing.
 use mathlib.Core.Path.{sym}
-use Rattle.exports.specs.States.{packed}
-use Rattle.exports.proofs.Filling.{three-parts}
 use native.Mathlib.Omega.{arith}
 use borrow.Author.Needs.{needs}
+use Rattle.exports.specs.States.{packed}
+use Rattle.exports.proofs.Filling.{three-parts}
 use Rattle.exports.proofs.packing.pack.Statement.{statement}
 use Rattle.exports.proofs.packing.pack.Tie as tie
 

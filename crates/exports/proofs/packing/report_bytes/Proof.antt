@@ -1,7 +1,7 @@
 -- `packing::report_bytes` meets its contract.
 -- Assumes nothing.
-use Rattle.exports.specs.Lent.{reportBytes}
 use borrow.Author.Needs.{needs}
+use Rattle.exports.specs.Lent.{reportBytes}
 use Rattle.exports.proofs.packing.report_bytes.Statement.{statement}
 use Rattle.exports.proofs.packing.report_bytes.Tie as tie
 
@@ -31,7 +31,16 @@ digit-requires-8 c κs = search needs
 
 returns : tie.Need-returns
 unfolding reportBytes
-returns c = rw (c .before .before .before .before .before .before .before .digit .ensures, c .before .before .before .before .before .before .digit2 .ensures, c .before .before .before .before .before .digit3 .ensures, c .before .before .before .before .digit4 .ensures, c .before .before .before .digit5 .ensures, c .before .before .digit6 .ensures, c .before .digit7 .ensures, c .digit8 .ensures)
+returns c = rw (
+  c .before .before .before .before .before .before .before .digit .ensures,
+  c .before .before .before .before .before .before .digit2 .ensures,
+  c .before .before .before .before .before .digit3 .ensures,
+  c .before .before .before .before .digit4 .ensures,
+  c .before .before .before .digit5 .ensures,
+  c .before .before .digit6 .ensures,
+  c .before .digit7 .ensures,
+  c .digit8 .ensures,
+)
 
 pub report-bytes-spec : {M : Type 1} → statement M
 report-bytes-spec =

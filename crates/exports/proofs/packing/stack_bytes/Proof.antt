@@ -1,7 +1,7 @@
 -- `packing::stack_bytes` meets its contract.
 -- Assumes nothing.
-use Rattle.exports.specs.States.{stackBytes}
 use borrow.Author.Needs.{needs}
+use Rattle.exports.specs.States.{stackBytes}
 use Rattle.exports.proofs.packing.stack_bytes.Statement.{statement}
 use Rattle.exports.proofs.packing.stack_bytes.Tie as tie
 
@@ -79,7 +79,20 @@ high-requires-6 c κs = search needs
 
 returns : tie.Need-returns
 unfolding stackBytes
-returns c = rw (c .before .before .before .before .before .before .before .before .before .before .before .before .before .before .before .before .before .before .before .before .before .before .low .ensures, c .before .before .before .before .before .before .before .before .before .before .before .before .before .before .before .before .before .before .before .before .high .ensures, c .before .before .before .before .before .before .before .before .before .before .before .before .before .before .before .before .before .before .low2 .ensures, c .before .before .before .before .before .before .before .before .before .before .before .before .before .before .before .before .high2 .ensures, c .before .before .before .before .before .before .before .before .before .before .before .before .before .before .low3 .ensures, c .before .before .before .before .before .before .before .before .before .before .before .before .high3 .ensures, c .before .before .before .before .before .before .before .before .before .before .low4 .ensures, c .before .before .before .before .before .before .before .before .high4 .ensures, c .before .before .before .before .before .before .low5 .ensures, c .before .before .before .before .high5 .ensures, c .before .before .low6 .ensures, c .high6 .ensures)
+returns c = rw (
+  c .before .before .before .before .before .before .before .before .before .before .before .before .before .before .before .before .before .before .before .before .before .before .low .ensures,
+  c .before .before .before .before .before .before .before .before .before .before .before .before .before .before .before .before .before .before .before .before .high .ensures,
+  c .before .before .before .before .before .before .before .before .before .before .before .before .before .before .before .before .before .before .low2 .ensures,
+  c .before .before .before .before .before .before .before .before .before .before .before .before .before .before .before .before .high2 .ensures,
+  c .before .before .before .before .before .before .before .before .before .before .before .before .before .before .low3 .ensures,
+  c .before .before .before .before .before .before .before .before .before .before .before .before .high3 .ensures,
+  c .before .before .before .before .before .before .before .before .before .before .low4 .ensures,
+  c .before .before .before .before .before .before .before .before .high4 .ensures,
+  c .before .before .before .before .before .before .low5 .ensures,
+  c .before .before .before .before .high5 .ensures,
+  c .before .before .low6 .ensures,
+  c .high6 .ensures,
+)
 
 pub stack-bytes-spec : {M : Type 1} → statement M
 stack-bytes-spec =

@@ -1,7 +1,7 @@
 -- `states::control_of` meets its contract.
 -- Assumes nothing.
-use Rattle.exports.specs.States.{controlAt}
 use borrow.Author.Needs.{needs}
+use Rattle.exports.specs.States.{controlAt}
 use Rattle.exports.proofs.states.control_of.Statement.{statement}
 use Rattle.exports.proofs.states.control_of.Tie as tie
 

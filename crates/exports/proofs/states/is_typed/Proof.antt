@@ -1,8 +1,8 @@
 -- `states::is_typed` meets its contract.
 -- Assumes nothing.
 use borrow.Author.Tests.{eq-eqb, ne-eqb, le-leb, lt-leb}
-use Rattle.exports.specs.States.{isTyped}
 use borrow.Author.Needs.{needs}
+use Rattle.exports.specs.States.{isTyped}
 use Rattle.exports.proofs.states.is_typed.Statement.{statement}
 use Rattle.exports.proofs.states.is_typed.Tie as tie
 
@@ -29,7 +29,11 @@ flags-typed-requires c κs = search needs
 
 returns-4 : tie.Need-returns-4
 unfolding isTyped
-returns-4 c = rw (eq-eqb _ _ (c .before .before .before .before .before .if1 .left), le-leb _ _ (c .before .before .before .if2 .left), eq-eqb _ _ (c .before .if3 .left)) (c .flags-typed .ensures)
+returns-4 c = rw (
+  eq-eqb _ _ (c .before .before .before .before .before .if1 .left),
+  le-leb _ _ (c .before .before .before .if2 .left),
+  eq-eqb _ _ (c .before .if3 .left),
+) (c .flags-typed .ensures)
 
 pub is-typed-spec : {M : Type 1} → statement M
 is-typed-spec =

@@ -1,7 +1,7 @@
 -- `states::pairs_of` meets its contract.
 -- Assumes nothing.
-use Rattle.exports.specs.States.{pairsAt}
 use borrow.Author.Needs.{needs}
+use Rattle.exports.specs.States.{pairsAt}
 use Rattle.exports.proofs.states.pairs_of.Statement.{statement}
 use Rattle.exports.proofs.states.pairs_of.Tie as tie
 

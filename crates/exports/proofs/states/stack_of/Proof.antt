@@ -1,7 +1,7 @@
 -- `states::stack_of` meets its contract.
 -- Assumes nothing.
-use Rattle.exports.specs.States.{stackAt}
 use borrow.Author.Needs.{needs}
+use Rattle.exports.specs.States.{stackAt}
 use Rattle.exports.proofs.states.stack_of.Statement.{statement}
 use Rattle.exports.proofs.states.stack_of.Tie as tie
 
@@ -25,7 +25,14 @@ word-at-requires-6 c κs = search needs
 
 returns : tie.Need-returns
 unfolding stackAt
-returns c = rw (c .before .before .before .before .before .word-at .ensures, c .before .before .before .before .word-at2 .ensures, c .before .before .before .word-at3 .ensures, c .before .before .word-at4 .ensures, c .before .word-at5 .ensures, c .word-at6 .ensures)
+returns c = rw (
+  c .before .before .before .before .before .word-at .ensures,
+  c .before .before .before .before .word-at2 .ensures,
+  c .before .before .before .word-at3 .ensures,
+  c .before .before .word-at4 .ensures,
+  c .before .word-at5 .ensures,
+  c .word-at6 .ensures,
+)
 
 pub stack-of-spec : {M : Type 1} → statement M
 stack-of-spec =

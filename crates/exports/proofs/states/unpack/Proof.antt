@@ -1,7 +1,7 @@
 -- `states::unpack` meets its contract.
 -- Assumes nothing.
-use Rattle.exports.specs.States.{machineAt}
 use borrow.Author.Needs.{needs}
+use Rattle.exports.specs.States.{machineAt}
 use Rattle.exports.proofs.states.unpack.Statement.{statement}
 use Rattle.exports.proofs.states.unpack.Tie as tie
 
@@ -19,7 +19,12 @@ data-of-requires c κs = search needs
 
 returns : tie.Need-returns
 unfolding machineAt
-returns c = rw (c .before .before .before .control-of .ensures, c .before .before .stack-of .ensures, c .before .pairs-of .ensures, c .data-of .ensures)
+returns c = rw (
+  c .before .before .before .control-of .ensures,
+  c .before .before .stack-of .ensures,
+  c .before .pairs-of .ensures,
+  c .data-of .ensures,
+)
 
 pub unpack-spec : {M : Type 1} → statement M
 unpack-spec =
