@@ -286,6 +286,18 @@ fn checks() {
     checks_of("with six marks", &sparse(2048), &sparse(4096), 2000);
 }
 
+/// Decodes each opcode, four bytes apart, through one side of the boundary.
+fn decode_all(image: &[u8], decode: fn(&[u8], u32, &mut [u8]) -> u64) -> u32 {
+    let mut count = 0;
+    for opcode in 0..256 {
+        let mut fields = [0; 10];
+        let answer = decode(black_box(image), 4 * opcode, &mut fields);
+        count += (boundary::number(answer) == 0) as u32;
+        black_box(fields);
+    }
+    count
+}
+
 fn decodes() {
     let mut image = vec![0; 4096];
     for opcode in 0..256 {
@@ -293,42 +305,23 @@ fn decodes() {
     }
     let passes = 200;
     let defined = SIZES.iter().filter(|size| size.length > 0).count() as u32;
+    let repeat = |count: &dyn Fn() -> u32| {
+        for _ in 0..passes {
+            assert_eq!(count(), defined);
+        }
+    };
     let times = race(
         ROUNDS,
         &mut [
+            &mut || repeat(&|| decode_all(&image, proved::decode)),
             &mut || {
-                for _ in 0..passes {
-                    let mut count = 0;
-                    for opcode in 0..256 {
-                        let mut fields = [0; 10];
-                        let answer = proved::decode(black_box(&image), 4 * opcode, &mut fields);
-                        count += (boundary::number(answer) == 0) as u32;
-                        black_box(fields);
-                    }
-                    assert_eq!(count, defined);
-                }
+                repeat(&|| {
+                    (0..256)
+                        .filter(|opcode| black_box(decode(black_box(&image), 4 * opcode)).is_ok())
+                        .count() as u32
+                })
             },
-            &mut || {
-                for _ in 0..passes {
-                    let mut count = 0;
-                    for opcode in 0..256 {
-                        count += black_box(decode(black_box(&image), 4 * opcode)).is_ok() as u32;
-                    }
-                    assert_eq!(count, defined);
-                }
-            },
-            &mut || {
-                for _ in 0..passes {
-                    let mut count = 0;
-                    for opcode in 0..256 {
-                        let mut fields = [0; 10];
-                        let answer = boundary::decode(black_box(&image), 4 * opcode, &mut fields);
-                        count += (boundary::number(answer) == 0) as u32;
-                        black_box(fields);
-                    }
-                    assert_eq!(count, defined);
-                }
-            },
+            &mut || repeat(&|| decode_all(&image, boundary::decode)),
         ],
     );
     print("decode of all opcodes", "decodes", (passes * 256) as f64, &times);
