@@ -1,5 +1,4 @@
 -- Levels in use are the pushes since the last reset less the pops.
--- Assumes nothing.
 use Prim.Native.Nat.{ℕ, zero, suc}
 use native.Mathlib.Omega.{arith}
 use mathlib.Core.Path.{_≡_, refl}

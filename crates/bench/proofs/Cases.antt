@@ -1,13 +1,12 @@
 -- Demand 3 of P11's image and certificate.
--- Assumes nothing.
 use mathlib.Core.Path.{refl}
 use Rattle.isa.specs.Map
 use Rattle.isa.specs.Decode
-use Rattle.isa.specs.Flow
+use Rattle.isa.specs.ControlFlow
 use Rattle.control.specs.Stack
-use Rattle.control.specs.Moving
+use Rattle.control.specs.Transfers
 use Rattle.control.specs.Requests
-use Rattle.control.specs.Forming
+use Rattle.control.specs.WellFormed
 use Rattle.data.specs.Effect.{effectOf}
 use Rattle.machine.specs.Execute.{executeOf}
 use Rattle.machine.specs.State.{resetOf, freshOf}

@@ -1,5 +1,4 @@
 -- Control, a stack and a machine with frames: the invariant of a session, and what follows of levels and well-formedness.
--- Assumes nothing.
 use Prim.Native.Nat.{ℕ, zero, suc, _≤_, _<_}
 use native.Mathlib.Omega.{arith}
 use mathlib.Core.Path.{_≡_, refl}
@@ -10,7 +9,7 @@ use borrow.Author.Tests.{lt-leb, le-ltb}
 use Rattle.control.specs.declared.Mode.{Mode}
 use Rattle.control.specs.declared.Control.{Control}
 use Rattle.control.specs.Stack.{inUse}
-use Rattle.control.specs.Forming.{addressesFit, wellFormed}
+use Rattle.control.specs.WellFormed.{addressesFit, wellFormed}
 use Rattle.machine.specs.declared.Machine.{Machine}
 use Rattle.machine.specs.State.{isWellFormed, resetOf}
 use Rattle.certificate.specs.Rules.{Rules}

@@ -1,6 +1,5 @@
 -- The frames of a machine under an accepted certificate: where it executes, and its return addresses, each with the code that it goes
 -- back to. This is the invariant of demand 3.
--- Assumes nothing.
 use Prim.Native.Nat.{ℕ, _+_, _≤_}
 use native.Mathlib.Omega.{arith}
 use mathlib.Core.Path.{_≡_}

@@ -2,7 +2,6 @@
 --     lent-out, come-back      the machine is lent for a lifetime, and comes back at its last value
 --     KeyOf            a key with the other parameters ps and the result res
 --     pressing, pressed        the statements by which a key is pressed, and their walk. All that is known of the key is that it meets its contract
--- Assumes nothing.
 use mathlib.Core.Path.{_≡_, refl}
 use Prim.Native.Nat.{ℕ, suc}
 use mathlib.Core.List.{[], _∷_, List}

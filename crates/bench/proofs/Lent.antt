@@ -4,7 +4,6 @@
 --     Answer S R       what is known of an operation's answer, a struct S of a machine and of a value of R
 --     answering, answers       the statements by which a key ends where its operation answers such a struct, and their walk: the answer's machine is stored, and the rest of the answer is the result
 --     stayed, goes, exits      a key's `Stay`s, their laws, and the end of its walk
--- Assumes nothing.
 use mathlib.Core.Path.{_≡_, refl}
 use Prim.Native.Nat.{ℕ}
 use mathlib.Core.List.{[], _∷_, List}

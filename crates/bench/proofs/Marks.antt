@@ -1,5 +1,4 @@
 -- An address that has a kind is marked, and is a program address.
--- Assumes nothing.
 use Prim.Native.Nat.{ℕ, _≤_, _<_}
 use native.Mathlib.Omega.{arith}
 use mathlib.Core.Path.{_≡_, refl}
@@ -7,7 +6,7 @@ use mathlib.Core.Bool.{Bool, true, false, cond}
 use mathlib.Core.List.{List}
 use lib.Dec.{ltb}
 use borrow.Author.Tests.{ltb-true}
-use Rattle.isa.specs.Decode.{romAt}
+use Rattle.isa.specs.Rom.{romAt}
 use Rattle.isa.specs.declared.rom.RomByte.{RomByte}
 use Rattle.isa.specs.declared.rom.RomByte.the-variants.{Outside}
 use Rattle.certificate.specs.Marks.{markIn, markAt, Marked, kindOf, kindAt}

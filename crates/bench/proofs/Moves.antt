@@ -1,6 +1,5 @@
 -- A step under an accepted certificate as a move of mode, PC and return addresses; every move keeps the frames.
 -- Later theorems about steps go by these moves, and not by the step.
--- Assumes nothing.
 use Prim.Native.Nat.{ℕ, _+_, _≤_}
 use native.Mathlib.Omega.{arith}
 use mathlib.Core.Path.{_≡_, _∙_}
@@ -10,7 +9,7 @@ use Rattle.isa.specs.declared.Source.{Source}
 use Rattle.isa.specs.declared.Source.the-variants.{Nmi, First, Second, Third, Fourth}
 use Rattle.control.specs.declared.Mode.{Mode}
 use Rattle.control.specs.declared.Mode.the-variants.{Reset, Normal, Interrupt}
-use Rattle.control.specs.Modes.{beneath}
+use Rattle.control.specs.Modes.{modeBeneath}
 use Rattle.control.specs.Requests.{serviceMode}
 use Rattle.certificate.specs.Marks.{kindAt, needAt}
 use Rattle.certificate.specs.Levels.{sourceLevels, levelsFor}
@@ -39,7 +38,7 @@ pub data Moves (certificate : List ℕ) (wired : ℕ) : Deed → Mode → ℕ �
   continues : {m : Mode} {p n : ℕ} {s : List ℕ} → Continues certificate p n → Moves certificate wired other m p s m n s
   calls : {m : Mode} {p t n : ℕ} {s : List ℕ} → Calls certificate p t n → Moves certificate wired called m p s m t (n ∷ s)
   returns : {m : Mode} {p r : ℕ} {s : List ℕ} → kindAt certificate p ≡ 4 → Moves certificate wired returned m p (r ∷ s) m r s
-  leaves : {m : Mode} {p r : ℕ} {s : List ℕ} → kindAt certificate p ≡ 3 → Moves certificate wired left m p (r ∷ s) (beneath m) r s
+  leaves : {m : Mode} {p r : ℕ} {s : List ℕ} → kindAt certificate p ≡ 3 → Moves certificate wired left m p (r ∷ s) (modeBeneath m) r s
   begins : {p n : ℕ} → EndsStartUp certificate p n → Moves certificate wired began Reset p [] Normal n []
   takes : {m : Mode} {source : Source} {p : ℕ} {s : List ℕ} → Takes m source → Wired certificate wired source
       → Moves certificate wired (took source) m p s (serviceMode source m) (vectorOf source) (p ∷ s)
@@ -74,12 +73,12 @@ module _ {certificate : List ℕ} {wired : ℕ} where
   return (subroutine f k h) e = f
   return (service o f k h) e = absurd (omega arith)
 
-  back : {m under : Mode} {q : ℕ} {s : List ℕ} → Over m under → Frames certificate wired under q s → Frames certificate wired (beneath m) q s
+  back : {m under : Mode} {q : ℕ} {s : List ℕ} → Over m under → Frames certificate wired under q s → Frames certificate wired (modeBeneath m) q s
   back source-normal f = f
   back nmi-normal f = f
   back nmi-interrupt f = f
 
-  leave : {m : Mode} {p q : ℕ} {s : List ℕ} → Frames certificate wired m p (q ∷ s) → kindAt certificate p ≡ 3 → Frames certificate wired (beneath m) q s
+  leave : {m : Mode} {p q : ℕ} {s : List ℕ} → Frames certificate wired m p (q ∷ s) → kindAt certificate p ≡ 3 → Frames certificate wired (modeBeneath m) q s
   leave (subroutine f k h) e = absurd (omega arith)
   leave (service o f k h) e = back o f
 

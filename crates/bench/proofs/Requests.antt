@@ -1,17 +1,16 @@
 -- The request that a step takes: its byte asks for it, and the mode takes it.
--- Assumes nothing.
 use Prim.Native.Nat.{ℕ, _+_}
 use mathlib.Core.Path.{_≡_, refl}
 use mathlib.Core.Bool.{Bool, true, false, cond, false≢true}
 use mathlib.Core.List.{List}
-use Rattle.isa.specs.Sources.{names, vectorOf}
+use Rattle.isa.specs.Sources.{isNamed, vectorOf}
 use Rattle.isa.specs.declared.Source.{Source}
 use Rattle.isa.specs.declared.Source.the-variants.{Nmi, First, Second, Third, Fourth}
 use Rattle.control.specs.declared.Mode.{Mode}
 use Rattle.control.specs.declared.Mode.the-variants.{Reset, Normal, Interrupt, NmiOverNormal, NmiOverInterrupt}
 use Rattle.control.specs.declared.Requested.{Requested}
 use Rattle.control.specs.declared.Requested.the-variants.{Nothing, Taken}
-use Rattle.control.specs.Requests.{takes, isTaken, requestedOf}
+use Rattle.control.specs.Requests.{canTake, isTaken, requestedOf}
 use Rattle.certificate.specs.Marks.{needAt}
 use Rattle.certificate.specs.Levels.{levelsFor}
 use Rattle.certificate.specs.Rules.{Rules}
@@ -39,7 +38,7 @@ if-taken P mode enabled request p =
     (one-asks P Fourth _ (isTaken mode enabled request Fourth) (p Fourth) tt))))
 
 -- the sources that a mode takes
-mode-takes : (mode : Mode) (enabled : Bool) (s : Source) → takes mode enabled s ≡ true → Takes mode s
+mode-takes : (mode : Mode) (enabled : Bool) (s : Source) → canTake mode enabled s ≡ true → Takes mode s
 mode-takes Normal enabled Nmi e = nmi
 mode-takes Normal enabled First e = first
 mode-takes Normal enabled Second e = second
@@ -59,7 +58,7 @@ pub record Allowed (certificate : List ℕ) (wired : ℕ) (mode : Mode) (source 
   pub takes : Takes mode source
   pub wired-source : Wired certificate wired source
 
-levels-wired : (certificate : List ℕ) (wired : ℕ) (s : Source) → names wired s ≡ true → levelsFor certificate wired s ≡ 1 + needAt certificate (vectorOf s)
+levels-wired : (certificate : List ℕ) (wired : ℕ) (s : Source) → isNamed wired s ≡ true → levelsFor certificate wired s ≡ 1 + needAt certificate (vectorOf s)
 unfolding levelsFor
 levels-wired certificate wired s e = rw e
 
@@ -70,7 +69,7 @@ taken-allowed image certificate wired number ok mode enabled request asks = if-t
   where
     allowed : (s : Source) → isTaken mode enabled request s ≡ true → Allowed certificate wired mode s
     allowed s e =
-        let p = both-true (names request s) (takes mode enabled s) e in
+        let p = both-true (isNamed request s) (canTake mode enabled s) e in
         let w = asks s (p .0) in
         record {
           takes = mode-takes mode enabled s (p .1);

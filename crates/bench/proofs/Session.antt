@@ -1,5 +1,4 @@
 -- Demand 3: every list of calls on a machine just reset keeps what an accepted certificate promises.
--- Assumes nothing.
 use Prim.Native.Nat.{ℕ, _≤_}
 use native.Mathlib.Omega.{arith}
 use mathlib.Core.Path.{_≡_, refl}

@@ -1,5 +1,4 @@
 -- Steps and runs of an accepted image from frames: refusals 1 and 2 are never given, and a step or a run that is not refused goes on.
--- Assumes nothing.
 use Prim.Native.Nat.{ℕ, zero, suc, _<_}
 use native.Mathlib.Omega.{arith}
 use mathlib.Core.Path.{_≡_, refl}
@@ -8,7 +7,7 @@ use mathlib.Core.Bool.{true, false}
 use mathlib.Core.List.{List}
 use lib.Dec.{leb}
 use lib.ListN.{length, getD}
-use Rattle.isa.specs.Decode.{isImage}
+use Rattle.isa.specs.Rom.{isImage}
 use Rattle.isa.specs.Refusals.{plain}
 use Rattle.isa.specs.Sources.{namesOnlySources}
 use Rattle.machine.specs.declared.Machine.{Machine}

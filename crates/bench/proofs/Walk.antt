@@ -1,6 +1,5 @@
 -- The walk of a step: from frames of an accepted certificate a step does not stop, and is one of the moves. Data, flags and cycles are not
 -- looked at.
--- Assumes nothing.
 use Prim.Native.Nat.{ℕ, zero, suc, _+_, _<_}
 use native.Mathlib.Omega.{arith}
 use mathlib.Core.Path.{_≡_, refl, _∙_}
@@ -12,7 +11,7 @@ use lib.ListN.{length, set, length-set}
 use borrow.Author.Tests.{lt-leb}
 use Rattle.isa.specs.Decode.{decodeAt}
 use Rattle.isa.specs.Displacement.{forwardOf}
-use Rattle.isa.specs.Flow.{flowOf}
+use Rattle.isa.specs.ControlFlow.{flowOf}
 use Rattle.isa.specs.declared.Flow.{Flow}
 use Rattle.isa.specs.declared.Flow.the-variants as flow
 use Rattle.isa.specs.declared.Source.{Source}
@@ -23,7 +22,7 @@ use Rattle.control.specs.declared.Requested.{Requested}
 use Rattle.control.specs.declared.Requested.the-variants.{Nothing, Taken}
 use Rattle.control.specs.declared.Stop.the-variants as stop
 use Rattle.control.specs.Stack.{Transferred, inUse, isFull, pushOf, popOf}
-use Rattle.control.specs.Moving.{atOf, inModeOf, sleptOf, callOf, returnFromInterruptOf, advanceOf}
+use Rattle.control.specs.Transfers.{atOf, inModeOf, sleptOf, callOf, returnFromInterruptOf, advanceOf}
 use Rattle.control.specs.Requests.{requestedOf, servingOf, takeOf}
 use Rattle.data.specs.Effect.{Data, effectOf}
 use Rattle.machine.specs.declared.Machine.{Machine}

@@ -1,5 +1,4 @@
 -- Levels in use are the pushes since the last reset less the pops (document 01, "The certificate", last paragraph).
--- Assumes nothing.
 use Prim.Native.Nat.{ℕ, zero, suc, _+_}
 use mathlib.Core.Path.{_≡_}
 use mathlib.Core.Bool.{cond, _&&_}

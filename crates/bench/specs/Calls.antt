@@ -1,12 +1,11 @@
 -- Lists of calls on one machine, what they leave, and which sources ask (the customer's demand 3; document 01, "The certificate", last
 -- paragraph).
--- Assumes nothing.
 use Prim.Native.Nat.{ℕ, _<_}
 use mathlib.Core.Path.{_≡_}
 use mathlib.Core.Bool.{true}
 use mathlib.Core.List.{List, [], _∷_}
 use lib.ListN.{getD}
-use Rattle.isa.specs.Sources.{names}
+use Rattle.isa.specs.Sources.{isNamed}
 use Rattle.isa.specs.declared.Source.{Source}
 use Rattle.machine.specs.declared.Machine.{Machine}
 use Rattle.machine.specs.State.{hostStoreOf, resetOf}
@@ -34,7 +33,7 @@ leavesAll image (c ∷ calls) m = leavesAll image calls (leaves image c m)
 
 -- "sets none of bits 0 to 4 but those of wired sources"; bits 5 to 7 are free, and the call is then refused
 abbrev pub AsksOnly : (wired request : ℕ) → Type 0
-AsksOnly wired request = (s : Source) → names request s ≡ true → names wired s ≡ true
+AsksOnly wired request = (s : Source) → isNamed request s ≡ true → isNamed wired s ≡ true
 
 -- "each of the first n of a run of n steps": "request byte i at step i and none past the lent list's end", where it is 0
 abbrev pub FirstAskOnly : (wired : ℕ) → (requests : List ℕ) → (n : ℕ) → Type 0

@@ -1,5 +1,4 @@
 -- Demand 3 of an image and a certificate of document 01's bench cases, so that it is no claim about nothing.
--- Assumes nothing.
 use mathlib.Core.Path.{_≡_}
 use mathlib.Core.List.{[], _∷_}
 use Rattle.certificate.specs.Cases.{image11}

@@ -1,18 +1,17 @@
 -- What a step does to the return addresses and to services: the request that it takes, or the CALL, RET or RETI that it executes.
--- Assumes nothing.
 use Prim.Native.Nat.{ℕ}
 use mathlib.Core.Bool.{cond}
 use mathlib.Core.List.{List}
 use Rattle.isa.specs.Decode as decode
 use Rattle.isa.specs.Decode.{decodeAt}
-use Rattle.isa.specs.Flow.{flowOf}
+use Rattle.isa.specs.ControlFlow.{flowOf}
 use Rattle.isa.specs.declared.Flow.{Flow}
 use Rattle.isa.specs.declared.Flow.the-variants as flow
 use Rattle.isa.specs.declared.Source.{Source}
 use Rattle.control.specs.declared.Control.{Control}
 use Rattle.control.specs.declared.Requested.{Requested}
 use Rattle.control.specs.declared.Requested.the-variants.{Nothing, Taken}
-use Rattle.control.specs.Moving.{endsStartUp}
+use Rattle.control.specs.Transfers.{endsStartUp}
 use Rattle.control.specs.Requests.{requestedOf}
 use Rattle.machine.specs.declared.Machine.{Machine}
 use Rattle.machine.specs.Step.{enabledOf}

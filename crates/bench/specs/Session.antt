@@ -1,6 +1,5 @@
 -- DEMAND 3: what holds of every list of calls on one machine, once a certificate is accepted (the customer's demand 3; document 01, "The
 -- certificate", last paragraph). The claim is `NeverStops`, at the end.
--- Assumes nothing.
 use Prim.Native.Nat.{ℕ, _≤_, _<_}
 use mathlib.Core.Path.{_≡_}
 use mathlib.Core.Logic.{_⊎_}

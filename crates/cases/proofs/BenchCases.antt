@@ -1,15 +1,16 @@
 -- The bench cases hold: each by computing the definitions.
--- Assumes nothing.
 use mathlib.Core.Path.{refl}
-use Rattle.isa.specs.Decode.{romAt, operandAt, decodeAt}
-use Rattle.isa.specs.Map.{entryOf, bytesOf, cyclesOf, formAs, formOf}
-use Rattle.isa.specs.Flow.{flowOf}
+use Rattle.isa.specs.Rom.{romAt, operandAt}
+use Rattle.isa.specs.Decode.{decodeAt}
+use Rattle.isa.specs.Table.{bytesOf, cyclesOf}
+use Rattle.isa.specs.Map.{entryOf, formAs, formOf}
+use Rattle.isa.specs.ControlFlow.{flowOf}
 use Rattle.data.specs.Space.{readOf, storeOf, addressOf, operandOf}
 use Rattle.data.specs.Effect.{putOf, effectOf}
 use Rattle.control.specs.Stack.{pushOf}
-use Rattle.control.specs.Moving.{atOf, callOf, advanceOf}
+use Rattle.control.specs.Transfers.{atOf, callOf, advanceOf}
 use Rattle.control.specs.Requests.{requestedOf}
-use Rattle.control.specs.Forming.{addressesFit, wellFormed}
+use Rattle.control.specs.WellFormed.{addressesFit, wellFormed}
 use Rattle.machine.specs.Execute.{executeOf}
 use Rattle.machine.specs.Step.{completedOf, executedOf, decodedOf, unrequestedOf, respondOf, advancedOf, stepOf}
 use Rattle.certificate.proofs.Cases.{check-cases}

@@ -1,5 +1,4 @@
 -- Document 01's bench cases P1 to P12 in one table: single steps of the machine, and answers of the check.
--- Assumes nothing.
 use Prim.Native.Nat.{ℕ}
 use mathlib.Core.Path.{_≡_}
 use mathlib.Core.Bool.{Bool, true, false}

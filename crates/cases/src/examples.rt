@@ -4,8 +4,8 @@ use control::Control;
 use control::Mode;
 use machine::FlagPairs;
 use machine::Machine;
-use machine::running::step;
 use machine::state::fresh;
+use machine::step::step;
 use text::put;
 use text::put_byte;
 

@@ -2,7 +2,7 @@
 use crate::examples::machine_at;
 use machine::Machine;
 use machine::StepAnswer;
-use machine::running::step;
+use machine::step::step;
 use text::put;
 use text::put_address;
 use text::put_refusal;

@@ -1,5 +1,4 @@
 -- A certificate is accepted exactly when all the rules of document 01 hold.
--- Assumes nothing.
 use Rattle.certificate.specs.Agreement.{Agreement}
 use Rattle.certificate.proofs.Sound.{check-sound}
 use Rattle.certificate.proofs.Complete.{check-complete}

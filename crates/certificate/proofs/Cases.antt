@@ -1,9 +1,8 @@
 -- Document 01's bench cases of the check, computed.
--- Assumes nothing.
 use mathlib.Core.Path.{refl}
 use Rattle.isa.specs.Map
 use Rattle.isa.specs.Decode
-use Rattle.isa.specs.Flow
+use Rattle.isa.specs.ControlFlow
 use Rattle.certificate.specs.Marks
 use Rattle.certificate.specs.Successors
 use Rattle.certificate.specs.Levels

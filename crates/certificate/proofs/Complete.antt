@@ -1,5 +1,4 @@
 -- Where the rules hold, the check accepts.
--- Assumes nothing.
 use Prim.Native.Nat.{ℕ, zero, suc, _+_, _-_, _≤_, _<_}
 use native.Mathlib.Nat.{add-zero}
 use native.Mathlib.Omega.{arith}
@@ -10,10 +9,10 @@ use mathlib.Core.List.{List, [], _∷_}
 use lib.Dec.{leb, eqb}
 use lib.ListN.{length, getD}
 use borrow.Author.Tests.{le-leb, lt-ltb, eq-eqb, ne-eqb}
-use Rattle.isa.specs.Decode.{isImage}
-use Rattle.isa.specs.Sources.{names, vectorOf}
+use Rattle.isa.specs.Rom.{isImage}
+use Rattle.isa.specs.Sources.{isNamed, vectorOf}
 use Rattle.isa.specs.Displacement.{forwardOf}
-use Rattle.isa.specs.Flow.{flowOf}
+use Rattle.isa.specs.ControlFlow.{flowOf}
 use Rattle.isa.specs.declared.Source.{Source}
 use Rattle.isa.specs.declared.Source.the-variants.{Nmi, First, Second, Third, Fourth}
 use Rattle.isa.specs.declared.Flow.{Flow}
@@ -95,9 +94,9 @@ module _ (image certificate : List ℕ) (wired levels : ℕ) (rules : Rules imag
 
   source-passes : (s : Source) → sourceFound certificate wired s ≡ passes
   unfolding sourceFound
-  source-passes s = go (names wired s) refl
+  source-passes s = go (isNamed wired s) refl
     where
-      go : (w : Bool) → names wired s ≡ w → cond w (vectorFound certificate (vectorOf s) 3) passes ≡ passes
+      go : (w : Bool) → isNamed wired s ≡ w → cond w (vectorFound certificate (vectorOf s) 3) passes ≡ passes
       go true e = vector-passes (vectorOf s) 3 (rules .vectors s e)
       go false e = refl
 

@@ -1,5 +1,4 @@
 -- Findings that answer a list of questions: what proves "the first that applies is given" part by part.
--- Assumes nothing.
 use Prim.Native.Nat.{ℕ}
 use mathlib.Core.Path.{_≡_, refl}
 use mathlib.Core.Logic.{inl, inr}

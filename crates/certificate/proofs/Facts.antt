@@ -1,5 +1,4 @@
 -- Facts that several proofs cite: marks, tests, an image's length.
--- Assumes nothing.
 use Prim.Native.Nat.{ℕ, zero, suc, _+_, _-_, _≤_, _<_, _/_, _%_}
 use native.Mathlib.Omega.{arith}
 use mathlib.Core.Bool.{Bool, true, false, cond, _&&_, _||_, false≢true}
@@ -9,10 +8,14 @@ use mathlib.Core.Path.{_≡_, refl}
 use mathlib.Core.List.{List}
 use lib.Dec.{ltb, leb, eqb}
 use lib.ListN.{length, getD}
-use Rattle.isa.specs.Decode.{isImage, romAt, decodeAt}
+use Rattle.isa.specs.Decode as decode
+use Rattle.isa.specs.Rom.{isImage, romAt}
+use Rattle.isa.specs.Decode.{Answer, decodeAt}
+use Rattle.isa.specs.FlowAt as flowAt
+use Rattle.isa.specs.FlowAt.{Continuing, continuationFrom}
 use Rattle.isa.specs.Refusals.{Numbered, located}
 use Rattle.certificate.specs.Marks.{markAt, WellFormed, kindOf, lowest}
-use Rattle.certificate.specs.Check.{passes, fault, unless, decodedFound, markFound}
+use Rattle.certificate.specs.Check.{Found, passes, fault, unless, flowFound, decodedFound, markFound}
 
 -- a marked address: 14, then what decoding answers
 pub marked : (image certificate : List ℕ) (a mark : ℕ) → mark ≢ 0
@@ -20,6 +23,16 @@ pub marked : (image certificate : List ℕ) (a mark : ℕ) → mark ≢ 0
 unfolding markFound
 marked image certificate a zero n = absurd (n refl)
 marked image certificate a (suc m) n = refl
+
+-- what decoding answers is found by where its instruction continues alone
+abbrev pub continuationFound : List ℕ → (a mark : ℕ) → Continuing → Found
+continuationFound certificate a mark (flowAt.goes f next) = flowFound certificate a mark f next
+continuationFound certificate a mark (flowAt.refused refusal) = fault refusal
+
+pub by-continuation : (certificate : List ℕ) (a mark : ℕ) (answer : Answer) → decodedFound certificate a mark answer ≡ continuationFound certificate a mark (continuationFrom a answer)
+unfolding decodedFound
+by-continuation certificate a mark (decode.instruction i bytes cycles) = refl
+by-continuation certificate a mark (decode.refused refusal) = refl
 
 -- a finding does not both pass and fail
 pub not-both : {r : Numbered} → fault r ≡ passes → ⊥

@@ -1,5 +1,4 @@
 -- The check gives the first refusal that applies, and accepts where none does.
--- Assumes nothing.
 use Prim.Native.Nat.{ℕ, zero, suc, _+_, _-_, _<_}
 use native.Mathlib.Nat.{add-zero}
 use native.Mathlib.Omega.{arith}
@@ -11,11 +10,12 @@ use lib.Dec.{leb, ltb, eqb}
 use lib.ListN.{length, getD}
 use borrow.Author.Tests.{leb-true, leb-false, ltb-true, ltb-false, eqb-true, eqb-false}
 use Rattle.isa.specs.Decode as decode
-use Rattle.isa.specs.Decode.{Answer, isImage, decodeAt}
+use Rattle.isa.specs.Rom.{isImage}
+use Rattle.isa.specs.Decode.{Answer, decodeAt}
 use Rattle.isa.specs.Displacement.{forwardOf}
-use Rattle.isa.specs.Flow.{flowOf}
+use Rattle.isa.specs.ControlFlow.{flowOf}
 use Rattle.isa.specs.Refusals.{located}
-use Rattle.isa.specs.Sources.{names, namesOnlySources, vectorOf}
+use Rattle.isa.specs.Sources.{isNamed, namesOnlySources, vectorOf}
 use Rattle.isa.specs.declared.Flow.{Flow}
 use Rattle.isa.specs.declared.Flow.the-variants as flow
 use Rattle.isa.specs.declared.Source.{Source}
@@ -164,9 +164,9 @@ module _ (certificate : List ℕ) where
 
   source-decides : (wired : ℕ) (s : Source) → Decides (atSource certificate wired s ∷ []) (sourceFound certificate wired s)
   unfolding sourceFound vectorFound
-  source-decides wired s = go (names wired s) refl
+  source-decides wired s = go (isNamed wired s) refl
     where
-      go : (w : Bool) → names wired s ≡ w
+      go : (w : Bool) → isNamed wired s ≡ w
           → Decides (atSource certificate wired s ∷ []) (cond w (unless (eqb (kindAt certificate (vectorOf s)) 3) (located 18 (vectorOf s)) passes) passes)
       go true w =
           ask (atSource certificate wired s) (eqb (kindAt certificate (vectorOf s)) 3) passes

@@ -1,5 +1,4 @@
 -- The levels of the sources 1 to 4: the greatest of what each takes; and bounds by which sums of levels fit a byte.
--- Assumes nothing.
 use Prim.Native.Nat.{ℕ, _+_, _≤_, max}
 use native.Mathlib.Nat.{max-zero, zero-max, suc-max-suc, max-le}
 use native.Mathlib.Numerals.{one-add}
@@ -7,7 +6,7 @@ use native.Mathlib.Omega.{arith}
 use mathlib.Core.Path.{_≡_, refl, sym}
 use mathlib.Core.Bool.{Bool, true, false, cond}
 use mathlib.Core.List.{List, [], _∷_}
-use Rattle.isa.specs.Sources.{names, vectorOf}
+use Rattle.isa.specs.Sources.{isNamed, vectorOf}
 use Rattle.isa.specs.declared.Source.{Source}
 use Rattle.isa.specs.declared.Source.the-variants.{First, Second, Third, Fourth}
 use Rattle.certificate.specs.Marks.{needAt}
@@ -22,7 +21,7 @@ one-more false n ns = sym (zero-max (ifAny ns))
 one-source : (certificate : List ℕ) (wired : ℕ) (s : Source) (sources : List Source)
     → ifAny (wiredNeeds certificate wired (s ∷ sources)) ≡ max (levelsFor certificate wired s) (ifAny (wiredNeeds certificate wired sources))
 unfolding levelsFor
-one-source certificate wired s sources = one-more (names wired s) (needAt certificate (vectorOf s)) (wiredNeeds certificate wired sources)
+one-source certificate wired s sources = one-more (isNamed wired s) (needAt certificate (vectorOf s)) (wiredNeeds certificate wired sources)
 
 -- the definition by a list of needs is the greatest of four
 pub source-levels : (certificate : List ℕ) (wired : ℕ)
@@ -46,7 +45,7 @@ need-most certificate a e = omega arith
 
 pub levels-most : (certificate : List ℕ) (wired : ℕ) (s : Source) {r : ℕ} → r ≡ levelsFor certificate wired s → r ≤ 16
 unfolding levelsFor
-levels-most certificate wired s {r} e = go (names wired s) e
+levels-most certificate wired s {r} e = go (isNamed wired s) e
   where
     go : (w : Bool) → r ≡ cond w (1 + needAt certificate (vectorOf s)) 0 → r ≤ 16
     go true e = omega (arith, need-most certificate (vectorOf s) refl)

@@ -1,5 +1,4 @@
 -- Where the check accepts, the rules hold.
--- Assumes nothing.
 use Prim.Native.Nat.{ℕ, zero, suc, _+_, _-_, _≤_, _<_}
 use native.Mathlib.Nat.{add-zero}
 use native.Mathlib.Omega.{arith}
@@ -11,11 +10,12 @@ use lib.Dec.{leb, ltb, eqb}
 use lib.ListN.{length, getD}
 use borrow.Author.Tests.{leb-true, ltb-true, eqb-true}
 use Rattle.isa.specs.Decode as decode
-use Rattle.isa.specs.Decode.{Answer, isImage, romAt, decodeAt}
+use Rattle.isa.specs.Rom.{isImage, romAt}
+use Rattle.isa.specs.Decode.{Answer, decodeAt}
 use Rattle.isa.specs.Refusals.{Numbered, plain, located}
-use Rattle.isa.specs.Sources.{names, namesOnlySources, vectorOf}
+use Rattle.isa.specs.Sources.{isNamed, namesOnlySources, vectorOf}
 use Rattle.isa.specs.Displacement.{forwardOf}
-use Rattle.isa.specs.Flow.{flowOf}
+use Rattle.isa.specs.ControlFlow.{flowOf}
 use Rattle.isa.specs.declared.Flow.{Flow}
 use Rattle.isa.specs.declared.Flow.the-variants as flow
 use Rattle.isa.specs.declared.Source.{Source}
@@ -156,7 +156,7 @@ unfolding vectorFound
 vector-kind certificate vector kind e =
     eqb-true _ kind (unless-passes (eqb (kindAt certificate vector) kind) (located 18 vector) passes e .0)
 
-source-kind : (certificate : List ℕ) (wired : ℕ) (s : Source) → sourceFound certificate wired s ≡ passes → names wired s ≡ true
+source-kind : (certificate : List ℕ) (wired : ℕ) (s : Source) → sourceFound certificate wired s ≡ passes → isNamed wired s ≡ true
     → kindAt certificate (vectorOf s) ≡ 3
 unfolding sourceFound
 source-kind certificate wired s e w = vector-kind certificate (vectorOf s) 3 (rw w at e)

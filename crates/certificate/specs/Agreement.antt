@@ -1,5 +1,4 @@
 -- A certificate is accepted exactly when all the rules of document 01 hold.
--- Assumes nothing.
 use Prim.Native.Nat.{ℕ}
 use mathlib.Core.Path.{_≡_}
 use mathlib.Core.List.{List}

@@ -1,5 +1,4 @@
 -- Document 01's bench cases of the check: P11, P12, and the last item of "Bench cases".
--- Assumes nothing.
 use Prim.Native.Nat.{ℕ, _-_}
 use mathlib.Core.Path.{_≡_}
 use mathlib.Core.List.{List, [], _∷_}

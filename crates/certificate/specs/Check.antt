@@ -1,16 +1,16 @@
 -- What the certificate check answers (document 01, "Check"): the first refusal that applies, or the number of levels.
--- Assumes nothing.
 use Prim.Native.Nat.{ℕ, zero, suc, _-_}
 use mathlib.Core.Bool.{Bool, true, false, cond}
 use mathlib.Core.List.{List, [], _∷_}
 use lib.Dec.{leb, ltb, eqb}
 use lib.ListN.{length}
 use Rattle.isa.specs.Decode as decode
-use Rattle.isa.specs.Decode.{Answer, isImage, decodeAt}
+use Rattle.isa.specs.Rom.{isImage}
+use Rattle.isa.specs.Decode.{Answer, decodeAt}
 use Rattle.isa.specs.Displacement.{forwardOf}
-use Rattle.isa.specs.Flow.{flowOf}
+use Rattle.isa.specs.ControlFlow.{flowOf}
 use Rattle.isa.specs.Refusals.{Numbered, plain, located, numbered}
-use Rattle.isa.specs.Sources.{names, namesOnlySources, vectorOf}
+use Rattle.isa.specs.Sources.{isNamed, namesOnlySources, vectorOf}
 use Rattle.isa.specs.declared.Flow.{Flow}
 use Rattle.isa.specs.declared.Source.{Source}
 use Rattle.isa.specs.declared.Source.the-variants.{Nmi, First, Second, Third, Fourth}
@@ -83,7 +83,7 @@ vectorFound certificate vector kind = unless (eqb (kindAt certificate vector) ki
 
 -- "Each wired source's vector has kind 3."
 unfoldable pub sourceFound : List ℕ → (wired : ℕ) → Source → Found
-sourceFound certificate wired s = cond (names wired s) (vectorFound certificate (vectorOf s) 3) passes
+sourceFound certificate wired s = cond (isNamed wired s) (vectorFound certificate (vectorOf s) 3) passes
 
 -- "Then 18 vector kind, FFEh first, then sources upward"
 unfoldable pub vectorsFound : List ℕ → (wired : ℕ) → Found

@@ -1,9 +1,8 @@
 -- The levels that a certificate allows for (document 01, "The certificate": "Levels = ..").
--- Assumes nothing.
 use Prim.Native.Nat.{ℕ, _+_, max}
 use mathlib.Core.Bool.{cond}
 use mathlib.Core.List.{List, [], _∷_}
-use Rattle.isa.specs.Sources.{names, vectorOf}
+use Rattle.isa.specs.Sources.{isNamed, vectorOf}
 use Rattle.isa.specs.declared.Source.{Source}
 use Rattle.isa.specs.declared.Source.the-variants.{Nmi, First, Second, Third, Fourth}
 use Rattle.certificate.specs.Marks.{needAt}
@@ -12,7 +11,7 @@ use Rattle.certificate.specs.Marks.{needAt}
 abbrev pub wiredNeeds : List ℕ → (wired : ℕ) → List Source → List ℕ
 wiredNeeds certificate wired [] = []
 wiredNeeds certificate wired (s ∷ sources) =
-    cond (names wired s) (needAt certificate (vectorOf s) ∷ wiredNeeds certificate wired sources) (wiredNeeds certificate wired sources)
+    cond (isNamed wired s) (needAt certificate (vectorOf s) ∷ wiredNeeds certificate wired sources) (wiredNeeds certificate wired sources)
 
 -- "greatest need"
 abbrev pub greatest : List ℕ → ℕ
@@ -30,7 +29,7 @@ sourceLevels certificate wired = ifAny (wiredNeeds certificate wired (First ∷ 
 
 -- of one source: "(1 + need at FFCh) if NMI is wired"
 unfoldable pub levelsFor : List ℕ → (wired : ℕ) → Source → ℕ
-levelsFor certificate wired s = cond (names wired s) (1 + needAt certificate (vectorOf s)) 0
+levelsFor certificate wired s = cond (isNamed wired s) (1 + needAt certificate (vectorOf s)) 0
 
 -- "Levels = need at FFEh, plus (1 + greatest need among the wired sources 1 to 4) if any, plus (1 + need at FFCh) if NMI is wired."
 unfoldable pub levelsOf : List ℕ → (wired : ℕ) → ℕ

@@ -1,12 +1,11 @@
 -- The certificate's marks (document 01, "The certificate").
--- Assumes nothing.
 use Prim.Native.Nat.{ℕ, _-_, _/_, _%_, _≤_}
 use mathlib.Core.Bool.{cond, _&&_}
 use mathlib.Core.Logic.{_≢_}
 use mathlib.Core.List.{List}
 use lib.Dec.{leb}
 use lib.ListN.{length}
-use Rattle.isa.specs.Decode.{romAt}
+use Rattle.isa.specs.Rom.{romAt}
 use Rattle.isa.specs.declared.rom.RomByte.{RomByte}
 use Rattle.isa.specs.declared.rom.RomByte.the-variants.{Byte, Outside}
 

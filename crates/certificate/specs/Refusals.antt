@@ -1,5 +1,4 @@
 -- The check's refusals as questions, in document 01's order ("What each operation turns down", "Check").
--- Assumes nothing.
 use Prim.Native.Nat.{ℕ, zero, suc, _+_, _-_, _<_}
 use mathlib.Core.Path.{_≡_}
 use mathlib.Core.Logic.{_⊎_, _≢_}
@@ -9,9 +8,9 @@ use lib.ListN.{length}
 use Rattle.isa.specs.Decode as decode
 use Rattle.isa.specs.Decode.{Answer, decodeAt}
 use Rattle.isa.specs.Displacement.{forwardOf}
-use Rattle.isa.specs.Flow.{flowOf}
+use Rattle.isa.specs.ControlFlow.{flowOf}
 use Rattle.isa.specs.Refusals.{Numbered, plain, located}
-use Rattle.isa.specs.Sources.{names, namesOnlySources, vectorOf}
+use Rattle.isa.specs.Sources.{isNamed, namesOnlySources, vectorOf}
 use Rattle.isa.specs.declared.Flow.{Flow}
 use Rattle.isa.specs.declared.Flow.the-variants as flow
 use Rattle.isa.specs.declared.Source.{Source}
@@ -116,7 +115,7 @@ module _ (certificate : List ℕ) where
 
   -- "Each wired source's vector has kind 3."
   abbrev pub atSource : (wired : ℕ) → Source → Question
-  atSource wired s = asks (located 18 (vectorOf s)) ((names wired s ≡ true) × (kindAt certificate (vectorOf s) ≢ 3))
+  atSource wired s = asks (located 18 (vectorOf s)) ((isNamed wired s ≡ true) × (kindAt certificate (vectorOf s) ≢ 3))
 
   -- "Then 18 vector kind, FFEh first, then sources upward"
   abbrev pub atVectors : (wired : ℕ) → List Question

@@ -1,5 +1,4 @@
 -- The certificate's rules (document 01, "The certificate"), apart from how they are checked.
--- Assumes nothing.
 use Prim.Native.Nat.{ℕ, _+_, _≤_}
 use mathlib.Core.Path.{_≡_}
 use mathlib.Core.Logic.{_⊎_}
@@ -9,8 +8,8 @@ use lib.ListN.{length}
 use Rattle.isa.specs.Decode as decode
 use Rattle.isa.specs.Decode.{decodeAt}
 use Rattle.isa.specs.Displacement.{forwardOf}
-use Rattle.isa.specs.Flow.{flowOf}
-use Rattle.isa.specs.Sources.{names, namesOnlySources, vectorOf}
+use Rattle.isa.specs.ControlFlow.{flowOf}
+use Rattle.isa.specs.Sources.{isNamed, namesOnlySources, vectorOf}
 use Rattle.isa.specs.declared.Instruction.{Instruction}
 use Rattle.isa.specs.declared.Flow.{Flow}
 use Rattle.isa.specs.declared.Flow.the-variants as flow
@@ -72,7 +71,7 @@ pub record Rules (image certificate : List ℕ) (wired levels : ℕ) : Type 0 wh
   -- "FFEh has kind 1."
   pub start-up : kindAt certificate 0xFFE ≡ 1
   -- "Each wired source's vector has kind 3."
-  pub vectors : (s : Source) → names wired s ≡ true → kindAt certificate (vectorOf s) ≡ 3
+  pub vectors : (s : Source) → isNamed wired s ≡ true → kindAt certificate (vectorOf s) ≡ 3
   -- "Levels = .."
   pub counted : levels ≡ levelsOf certificate wired
   -- "At most 6."

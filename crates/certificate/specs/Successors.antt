@@ -1,5 +1,4 @@
 -- Where an instruction may stand and where it leads (document 01, "The certificate"), as the check goes by it.
--- Assumes nothing.
 use Prim.Native.Nat.{ℕ, _+_}
 use mathlib.Core.Bool.{Bool, true, cond, _&&_, _||_}
 use mathlib.Core.List.{List, [], _∷_}

@@ -10,21 +10,19 @@ use crate::successors::is_placed;
 use crate::successors::successors_of;
 use crate::vectors::check_vectors;
 use crate::vectors::levels_of;
-use isa::Decoded;
+use isa::Continuation;
 use isa::Flow;
 use isa::Refusal;
-use isa::decode::decode_in_range;
-use isa::displacement::forward;
+use isa::flow_at::flow_at;
 use isa::rom::is_image_length;
 use isa::sources::names_only_sources;
-use isa::successor::flow_of;
 use isa::table::timings;
 ghost use mathlib.Core.Path.{_≡_};
 ghost use mathlib.Core.Bool.{true};
 ghost use Prim.Native.Nat.{_≤_, _<_};
 ghost use lib.ListN.{length};
-ghost use Rattle.isa.specs.Map.{Timings};
-ghost use Rattle.isa.specs.Decode.{isImage};
+ghost use Rattle.isa.specs.Table.{Timings};
+ghost use Rattle.isa.specs.Rom.{isImage};
 ghost use Rattle.certificate.specs.Marks.{lowest};
 ghost use Rattle.certificate.specs.Check.{found, answered, flowFound, markFound, marksFound, rulesFound, verdict, checkOf};
 ghost use Rattle.certificate.specs.Levels.{levelsOf};
@@ -64,16 +62,9 @@ fn check_mark(
     if kind_of(mark) == 0 {
         return Finding::Fault(Refusal::MalformedMark(address));
     }
-    match decode_in_range(table, image, address) {
-        Decoded::Valid {
-            instruction,
-            length,
-            cycles: _,
-        } => {
-            let flow = flow_of(instruction, address);
-            check_flow(certificate, address, mark, flow, forward(address, length))
-        }
-        Decoded::Refused(refusal) => Finding::Fault(refusal),
+    match flow_at(table, image, address) {
+        Continuation::Valid { flow, next } => check_flow(certificate, address, mark, flow, next),
+        Continuation::Refused(refusal) => Finding::Fault(refusal),
     }
 }
 

@@ -1,2 +1,2 @@
-pub mod StaysFormed
+pub mod StaysWellFormed
 pub mod Stopped

@@ -1,5 +1,4 @@
 -- Where control stops, the stack is as it was.
--- Assumes nothing.
 use Prim.Native.Nat.{ℕ, _-_}
 use mathlib.Core.Path.{_≡_, refl}
 use mathlib.Core.Logic.{_⊎_, inl, inr}
@@ -10,9 +9,9 @@ use lib.Dec.{eqb}
 use Rattle.isa.specs.declared.Source.{Source}
 use Rattle.control.specs.declared.Control.{Control}
 use Rattle.control.specs.declared.Stop.the-variants as stop
-use Rattle.control.specs.Modes.{beneath}
+use Rattle.control.specs.Modes.{modeBeneath}
 use Rattle.control.specs.Stack.{Transferred, goesOn, stops, isFull, pushOf, popOf}
-use Rattle.control.specs.Moving.{atOf, inModeOf, thenAt, thenIn, callOf, endsStartUp, returnFromInterruptOf}
+use Rattle.control.specs.Transfers.{atOf, inModeOf, thenAt, thenIn, callOf, endsStartUp, returnFromInterruptOf}
 use Rattle.control.specs.Requests.{thenServe, takeOf}
 
 -- it goes on, or the stack is as it was
@@ -44,7 +43,7 @@ module _ (stack : List ℕ) (c : Control) where
   unfolding returnFromInterruptOf
   return-keeps next = by-test (endsStartUp c)
     where
-      by-test : (b : Bool) → Kept stack (cond b (goesOn stack (inModeOf (atOf c next) (beneath (c .mode)))) (thenIn (popOf stack c) (beneath (c .mode))))
+      by-test : (b : Bool) → Kept stack (cond b (goesOn stack (inModeOf (atOf c next) (modeBeneath (c .mode)))) (thenIn (popOf stack c) (modeBeneath (c .mode))))
       by-test true = inl refl
       by-test false = pop-keeps
 

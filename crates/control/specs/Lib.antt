@@ -1,5 +1,5 @@
 pub mod Modes
 pub mod Stack
-pub mod Moving
+pub mod Transfers
 pub mod Requests
-pub mod Forming
+pub mod WellFormed

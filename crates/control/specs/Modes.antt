@@ -1,16 +1,15 @@
 -- Modes (document 01, "Modes, stack, sleep").
--- Assumes nothing.
 use mathlib.Core.Bool.{Bool, true, false}
 use Rattle.control.specs.declared.Mode.{Mode}
 use Rattle.control.specs.declared.Mode.the-variants.{Reset, Normal, Interrupt, NmiOverNormal, NmiOverInterrupt}
 
 -- "RETI [..] returns to the mode beneath (normal from normal, interrupt and reset)"
-abbrev pub beneath : Mode → Mode
-beneath Reset = Normal
-beneath Normal = Normal
-beneath Interrupt = Normal
-beneath NmiOverNormal = Normal
-beneath NmiOverInterrupt = Interrupt
+abbrev pub modeBeneath : Mode → Mode
+modeBeneath Reset = Normal
+modeBeneath Normal = Normal
+modeBeneath Interrupt = Normal
+modeBeneath NmiOverNormal = Normal
+modeBeneath NmiOverInterrupt = Interrupt
 
 abbrev pub isReset : Mode → Bool
 isReset Reset = true

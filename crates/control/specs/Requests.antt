@@ -1,9 +1,8 @@
 -- Requests: which one a step takes, and what taking it does (document 01, "Modes, stack, sleep").
--- Assumes nothing.
 use Prim.Native.Nat.{ℕ}
 use mathlib.Core.Bool.{Bool, true, false, cond, _&&_}
 use mathlib.Core.List.{List}
-use Rattle.isa.specs.Sources.{names, vectorOf}
+use Rattle.isa.specs.Sources.{isNamed, vectorOf}
 use Rattle.isa.specs.declared.Source.{Source}
 use Rattle.isa.specs.declared.Source.the-variants.{Nmi, First, Second, Third, Fourth}
 use Rattle.control.specs.declared.Mode.{Mode}
@@ -15,24 +14,24 @@ use Rattle.control.specs.declared.Stop.the-variants as stop
 use Rattle.control.specs.Stack.{Transferred, stops, isFull, pushOf}
 
 -- "NMI is taken in normal and interrupt mode, the others in normal mode with their enable bit set"
-abbrev pub takes : Mode → (enabled : Bool) → Source → Bool
-takes Normal enabled Nmi = true
-takes Normal enabled First = enabled
-takes Normal enabled Second = enabled
-takes Normal enabled Third = enabled
-takes Normal enabled Fourth = enabled
-takes Interrupt enabled Nmi = true
-takes Interrupt enabled First = false
-takes Interrupt enabled Second = false
-takes Interrupt enabled Third = false
-takes Interrupt enabled Fourth = false
-takes Reset enabled source = false
-takes NmiOverNormal enabled source = false
-takes NmiOverInterrupt enabled source = false
+abbrev pub canTake : Mode → (enabled : Bool) → Source → Bool
+canTake Normal enabled Nmi = true
+canTake Normal enabled First = enabled
+canTake Normal enabled Second = enabled
+canTake Normal enabled Third = enabled
+canTake Normal enabled Fourth = enabled
+canTake Interrupt enabled Nmi = true
+canTake Interrupt enabled First = false
+canTake Interrupt enabled Second = false
+canTake Interrupt enabled Third = false
+canTake Interrupt enabled Fourth = false
+canTake Reset enabled source = false
+canTake NmiOverNormal enabled source = false
+canTake NmiOverInterrupt enabled source = false
 
 -- the request byte asks for a source that can be taken now
 abbrev pub isTaken : Mode → (enabled : Bool) → (request : ℕ) → Source → Bool
-isTaken mode enabled request source = names request source && takes mode enabled source
+isTaken mode enabled request source = isNamed request source && canTake mode enabled source
 
 -- "the lowest number wins"
 unfoldable pub requestedOf : Mode → (enabled : Bool) → (request : ℕ) → Requested

@@ -1,5 +1,4 @@
 -- The stack of six return addresses: the one push and the one pop (document 01, "Modes, stack, sleep" and "Step").
--- Assumes nothing.
 use Prim.Native.Nat.{ℕ, zero, suc, _+_, _-_}
 use mathlib.Core.Bool.{Bool, cond}
 use mathlib.Core.List.{List, [], _∷_}

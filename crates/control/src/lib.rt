@@ -1,7 +1,7 @@
 // Control: the program counter, the stack of return addresses, the mode, sleep, and requests. Nothing here knows data bytes or flags.
-pub mod forming;
-pub mod interrupts;
-pub mod moving;
+pub mod requests;
+pub mod transfers;
+pub mod well_formed;
 
 use isa::Source;
 

@@ -1,5 +1,4 @@
 -- What each instruction does to data space and to the flag pair in use (the manual's instruction pages; document 01, "Flags by the manual").
--- Assumes nothing.
 use Prim.Native.Nat.{ℕ}
 use mathlib.Core.Bool.{Bool, true, false}
 use mathlib.Core.List.{List}

@@ -1,11 +1,10 @@
 -- Data space and the ROM window (document 01, "Program space and data space").
--- Assumes nothing.
 use Prim.Native.Nat.{ℕ, _+_, _-_, _*_, _%_}
 use mathlib.Core.Bool.{Bool, cond}
 use mathlib.Core.List.{List}
 use lib.ListN.{getD, set}
 use lib.Dec.{ltb, leb}
-use Rattle.isa.specs.Decode.{romAt}
+use Rattle.isa.specs.Rom.{romAt}
 use Rattle.isa.specs.declared.rom.RomByte.{RomByte}
 use Rattle.isa.specs.declared.rom.RomByte.the-variants.{Byte, Outside}
 use Rattle.isa.specs.declared.Operand.{Operand}

@@ -4,7 +4,7 @@ use isa::Operand;
 use isa::rom::RomByte;
 use isa::rom::rom_byte;
 ghost use mathlib.Core.Path.{_≡_};
-ghost use Rattle.isa.specs.Decode.{romAt};
+ghost use Rattle.isa.specs.Rom.{romAt};
 ghost use Rattle.data.specs.Space.{shownOf, readOf, storeOf, addressOf, operandOf};
 
 // The byte of program space that the ROM window shows at an address, 0 where the image has none.

@@ -1,5 +1,4 @@
 -- A number beyond its range is refused as the one that stands in for it.
--- Assumes nothing.
 use Prim.Native.Nat.{ℕ}
 use mathlib.Core.Path.{_≡_, refl}
 use mathlib.Core.Bool.{Bool, true, false, cond}
@@ -9,7 +8,8 @@ use borrow.Author.Tests.{ltb-false, le-ltb}
 use lib.Dec.{eqb, ltb}
 use lib.ListN.{length}
 use Rattle.isa.specs.Refusals.{plain}
-use Rattle.isa.specs.Decode.{isImage, decodeAt}
+use Rattle.isa.specs.Rom.{isImage}
+use Rattle.isa.specs.Decode.{decodeAt}
 use Rattle.machine.specs.declared.Machine.{Machine}
 use Rattle.machine.specs.Step.{stepOf}
 use Rattle.certificate.specs.Levels.{levelsOf}

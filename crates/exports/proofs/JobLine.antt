@@ -1,5 +1,4 @@
 -- What the answer of a job's line says of its number and its buffer.
--- Assumes nothing.
 use Prim.Native.Nat.{ℕ, _≤_}
 use mathlib.Core.Path.{_≡_, refl, ap}
 use mathlib.Core.Bool.{Bool, true, false, cond}
@@ -7,7 +6,7 @@ use mathlib.Core.List.{List, _++_}
 use native.Mathlib.Omega.{arith}
 use lib.ListN.{length, drop}
 use Rattle.isa.specs.Refusals.{Numbered, plain, numbered}
-use Rattle.isa.specs.Encode.{Outcome, wrote, refused}
+use Rattle.isa.specs.Write.{Outcome, wrote, refused}
 use Rattle.isa.specs.declared.Refusal.{Refusal}
 use Rattle.jobs.specs.declared.Answered.{Answered}
 use Rattle.jobs.specs.declared.Answered.the-variants.{Line, Refused}

@@ -1,5 +1,4 @@
 -- An answer whose number is not 0 leaves the lent buffer.
--- Assumes nothing.
 use Prim.Native.Nat.{ℕ, _%_}
 use mathlib.Core.Path.{_≡_, refl}
 use mathlib.Core.Bool.{Bool, true, false, cond, not, _&&_}
@@ -11,7 +10,8 @@ use Rattle.isa.specs.Refusals.{Numbered, plain}
 use Rattle.isa.specs.RoundTrip.{Bytes}
 use Rattle.isa.specs.Decode.{decodeAt}
 use Rattle.isa.specs.Decode as decode
-use Rattle.isa.specs.Encode.{Outcome, wrote, encodeOf, outcome, bufferAfter}
+use Rattle.isa.specs.Write.{Outcome, wrote, outcome, bufferAfter}
+use Rattle.isa.specs.Encode.{encodeOf}
 use Rattle.isa.specs.Encode as encode
 use Rattle.isa.specs.declared.Encoded.{Encoded}
 use Rattle.isa.proofs.WriteEffects.{write-effects}

@@ -1,5 +1,4 @@
 -- A run is turned down exactly where one of its own refusals applies.
--- Assumes nothing.
 use Prim.Native.Nat.{ℕ}
 use mathlib.Core.Path.{_≡_, refl}
 use mathlib.Core.Bool.{Bool, true, false, not, _&&_}
@@ -8,7 +7,7 @@ use lib.Dec.{leb}
 use lib.ListN.{length}
 use Rattle.isa.specs.Refusals.{plain}
 use Rattle.isa.specs.RoundTrip.{Bytes}
-use Rattle.isa.specs.Decode.{isImage}
+use Rattle.isa.specs.Rom.{isImage}
 use Rattle.machine.specs.declared.Machine.{Machine}
 use Rattle.machine.specs.State.{unless, isWellFormed, Ended, done, refused}
 use Rattle.machine.specs.Run.{refusedRun, stepsOf, requestsFit, runOf}

@@ -1,12 +1,11 @@
 -- Answers as one number: bits 0 to 7 the refusal's or stop's number (0: none), bits 8 to 23 its address, bits 24 to 55 a value.
--- Assumes nothing.
 use Prim.Native.Nat.{ℕ, _+_, _*_}
 use mathlib.Core.Bool.{Bool, true, false, cond}
 use mathlib.Core.List.{List}
 use lib.ListN.{length}
 use lib.Dec.{ltb}
 use Rattle.isa.specs.Refusals.{Numbered, plain, located}
-use Rattle.isa.specs.Decode.{isImage}
+use Rattle.isa.specs.Rom.{isImage}
 use Rattle.isa.specs.Encode as encode
 use Rattle.machine.specs.State.{Ended}
 use Rattle.machine.specs.State as state

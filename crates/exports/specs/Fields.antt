@@ -1,6 +1,5 @@
 -- An instruction as a row of fields: form, operand kind, value low and high, second value, bit number, displacement; decoding adds
 -- length, cycles and a zero.
--- Assumes nothing.
 use Prim.Native.Nat.{ℕ, zero, suc, _+_, _*_}
 use mathlib.Core.Bool.{Bool, true, false, cond, _&&_}
 use mathlib.Core.List.{List, [], _∷_, _++_}

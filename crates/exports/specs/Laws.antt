@@ -1,5 +1,4 @@
 -- What callers may rely on: packing and unpacking undo each other, an answer's parts can be read back, and a refusal leaves what was lent.
--- Assumes nothing.
 use Prim.Native.Nat.{ℕ, _<_, _/_, _%_}
 use mathlib.Core.Path.{_≡_}
 use mathlib.Core.Bool.{true, not, _&&_}
@@ -8,7 +7,7 @@ use lib.Dec.{leb}
 use lib.IntN.{ℤ, pos}
 use lib.ListN.{length, take}
 use Rattle.isa.specs.RoundTrip.{Bytes}
-use Rattle.isa.specs.Decode.{isImage}
+use Rattle.isa.specs.Rom.{isImage}
 use Rattle.isa.specs.Encode.{inField}
 use Rattle.isa.specs.declared.Instruction.{Instruction}
 use Rattle.isa.specs.declared.Instruction.the-variants as I

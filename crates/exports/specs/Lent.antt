@@ -1,5 +1,4 @@
 -- What each exported function answers, and what it leaves in the buffers that it is lent.
--- Assumes nothing.
 use Prim.Native.Nat.{ℕ, _/_, _%_}
 use mathlib.Core.Bool.{cond, _&&_}
 use mathlib.Core.List.{List, [], _∷_, _++_}
@@ -8,7 +7,8 @@ use lib.Dec.{leb}
 use Rattle.isa.specs.Refusals.{plain}
 use Rattle.isa.specs.Decode.{decodeAt}
 use Rattle.isa.specs.Decode as decode
-use Rattle.isa.specs.Encode.{encodeOf, outcome, bufferAfter}
+use Rattle.isa.specs.Write.{outcome, bufferAfter}
+use Rattle.isa.specs.Encode.{encodeOf}
 use Rattle.machine.specs.State.{HostStore, resetOf, hostStoreOf}
 use Rattle.machine.specs.Step.{Step, stepOf}
 use Rattle.machine.specs.Run.{Run, runOf}

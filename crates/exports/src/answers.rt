@@ -9,7 +9,7 @@ use machine::Ending;
 use machine::StepAnswer;
 ghost use mathlib.Core.Path.{_≡_};
 ghost use Rattle.isa.specs.Refusals.{numbered};
-ghost use Rattle.isa.specs.Encode.{outcomeOf};
+ghost use Rattle.isa.specs.Write.{outcomeOf};
 ghost use Rattle.machine.specs.State.{endedOf};
 ghost use Rattle.machine.specs.Step.{answerOf};
 ghost use Rattle.certificate.specs.Check.{answered};

@@ -1,5 +1,4 @@
 -- What decoding can refuse at an address of program space: 4 and 5, with that address.
--- Assumes nothing.
 use Prim.Native.Nat.{ℕ, _<_}
 use native.Mathlib.Omega.{arith}
 use mathlib.Core.Path.{_≡_, refl}
@@ -9,8 +8,10 @@ use mathlib.Core.List.{List}
 use lib.ListN.{length}
 use borrow.Author.Tests.{lt-ltb}
 use Rattle.isa.specs.Decode as decode
-use Rattle.isa.specs.Decode.{Answer, isImage, romAt, operandAt, withForm, withSecond, withFirst, withOpcode, decodeAt}
-use Rattle.isa.specs.Map.{entryOf, bytesOf, formOf}
+use Rattle.isa.specs.Rom.{isImage, romAt, operandAt}
+use Rattle.isa.specs.Decode.{Answer, withForm, withSecond, withFirst, withOpcode, decodeAt}
+use Rattle.isa.specs.Table.{bytesOf}
+use Rattle.isa.specs.Map.{entryOf, formOf}
 use Rattle.isa.specs.Refusals.{Numbered, located}
 use Rattle.isa.specs.declared.Instruction.{Instruction}
 use Rattle.isa.specs.declared.Form.{Form}

@@ -1,9 +1,10 @@
 -- The bench cases that speak of decoding, and the places where the manual misleads, by computation.
--- Assumes nothing.
 use mathlib.Core.Path.{refl}
-use Rattle.isa.specs.Map.{entryOf, bytesOf, cyclesOf, formOf, formAs}
-use Rattle.isa.specs.Decode.{romAt, operandAt, decodeAt}
-use Rattle.isa.specs.Flow.{flowOf}
+use Rattle.isa.specs.Table.{bytesOf, cyclesOf}
+use Rattle.isa.specs.Map.{entryOf, formOf, formAs}
+use Rattle.isa.specs.Rom.{romAt, operandAt}
+use Rattle.isa.specs.Decode.{decodeAt}
+use Rattle.isa.specs.ControlFlow.{flowOf}
 use Rattle.isa.specs.Cases.{DecodingCases}
 
 pub decoding-cases : DecodingCases

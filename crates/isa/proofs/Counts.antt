@@ -1,10 +1,10 @@
 -- The map's counts and its undefined opcodes, each computed over all 256 opcodes.
--- Assumes nothing.
 use mathlib.Core.Path.{_≡_, refl}
 use mathlib.Core.Bool.{true, cond}
 use Prim.Native.Nat.{ℕ, _<_}
 use lib.Dec.{T, eqb, eqb→eq}
-use Rattle.isa.specs.Map.{entryOf, bytesOf, cyclesOf, formOf, formAs}
+use Rattle.isa.specs.Table.{bytesOf, cyclesOf}
+use Rattle.isa.specs.Map.{entryOf, formOf, formAs}
 use Rattle.isa.specs.Counts.{Counts, UndefinedListed, isUndefined, member, undefinedOpcodes}
 use Rattle.isa.proofs.Finite.{all, at, eqB, eqB→eq}
 

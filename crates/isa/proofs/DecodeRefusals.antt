@@ -1,5 +1,4 @@
 -- Decoding refuses by document 01's numbers, in its order, and nowhere else.
--- Assumes nothing.
 use mathlib.Core.Path.{_≡_, refl, sym, _∙_}
 use mathlib.Core.Bool.{Bool, true, false}
 use mathlib.Core.List.{List}
@@ -13,8 +12,10 @@ use Rattle.isa.specs.declared.rom.RomByte.{RomByte}
 use Rattle.isa.specs.declared.rom.RomByte.the-variants.{Byte, Outside}
 use Rattle.isa.specs.Refusals.{Numbered, located}
 use Rattle.isa.specs.Displacement.{forwardOf}
-use Rattle.isa.specs.Map.{entryOf, bytesOf, formOf}
-use Rattle.isa.specs.Decode.{romAt, operandAt, refused, withForm, withSecond, withFirst, decodeAt}
+use Rattle.isa.specs.Table.{bytesOf}
+use Rattle.isa.specs.Map.{entryOf, formOf}
+use Rattle.isa.specs.Rom.{romAt, operandAt}
+use Rattle.isa.specs.Decode.{refused, withForm, withSecond, withFirst, decodeAt}
 use Rattle.isa.specs.Counts.{isUndefined, member, undefinedOpcodes}
 use Rattle.isa.specs.DecodeRefusals.{Opcode, Cut, DecodeRefusals}
 use Rattle.isa.proofs.Column.{pick}

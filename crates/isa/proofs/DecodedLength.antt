@@ -1,10 +1,10 @@
 -- The length that decoding answers is that of the instruction's form.
--- Assumes nothing.
 use Prim.Native.Nat.{ℕ}
 use mathlib.Core.Path.{_≡_, refl, sym, _∙_}
 use Rattle.isa.specs.declared.Form.{Form}
 use Rattle.isa.specs.declared.Form.the-variants.{Is, Undefined}
-use Rattle.isa.specs.Map.{Source, rr, short, [X], [Y], Entry, JRNZ, JRNC, JRZ, JRC, CALL, JP, JRR, JRS, RES, SET, LD-A, LD-to, INC, DEC, ADD, SUB, AND, CP, LDI-A, LDI-rr, ADDI, SUBI, ANDI, CPI, COM, RLC, RET, RETI, STOP, WAIT, #, entryOf, bytesOf, formAs, formOf}
+use Rattle.isa.specs.Table.{bytesOf}
+use Rattle.isa.specs.Map.{Addressing, rr, short, [X], [Y], Entry, JRNZ, JRNC, JRZ, JRC, CALL, JP, JRR, JRS, RES, SET, LD-A, LD-to, INC, DEC, ADD, SUB, AND, CP, LDI-A, LDI-rr, ADDI, SUBI, ANDI, CPI, COM, RLC, RET, RETI, STOP, WAIT, #, entryOf, formAs, formOf}
 use Rattle.isa.specs.Lengths.{lengthOf, DecodedLength}
 use Rattle.isa.proofs.Reading.{Read, reading}
 
@@ -14,7 +14,7 @@ Long n (Is i) = n ≡ lengthOf i
 Long n Undefined = Unit {0}
 
 -- on a data operand the length goes by the operand, whatever the instruction
-by-source : (source : Source) (k f s : ℕ) → Long (bytesOf (LD-A source)) (formAs (LD-A source) k f s)
+by-source : (source : Addressing) (k f s : ℕ) → Long (bytesOf (LD-A source)) (formAs (LD-A source) k f s)
 unfolding bytesOf formAs
 by-source rr k f s = refl
 by-source (short r) k f s = refl

@@ -1,5 +1,4 @@
 -- The instructions that all go on at the next address, by the numbers of their cases: for a match whose last arm takes them together.
--- Assumes nothing.
 use Prim.Native.Nat.{ℕ}
 use mathlib.Core.Path.{_≡_, refl}
 use mathlib.Core.List.{List, [], _∷_}
@@ -9,7 +8,7 @@ use Rattle.isa.specs.declared.Instruction.{Instruction}
 use Rattle.isa.proofs.Instruction.{the-type}
 use Rattle.isa.specs.declared.Instruction.the-variants as I
 use Rattle.isa.specs.declared.Flow.the-variants as flow
-use Rattle.isa.specs.Flow.{flowOf}
+use Rattle.isa.specs.ControlFlow.{flowOf}
 
 -- the tags of the other instructions, which all continue at the next address
 abbrev pub others : List ℕ

@@ -1,5 +1,4 @@
 -- Writing and decoding undo one another in an image.
--- Assumes nothing.
 use mathlib.Core.Path.{_≡_, refl, sym, ap, _∙_}
 use mathlib.Core.Bool.{Bool, true, false}
 use mathlib.Core.List.{List, [], _∷_}
@@ -10,11 +9,13 @@ use lib.Dec.{ltb}
 use lib.ListN.{length, getD, take, length-take, List·getD-eq-default}
 use lib.Seq.{getD-take}
 use Rattle.isa.specs.declared.Encoded.{Encoded}
-use Rattle.isa.specs.declared.Encoded.the-variants.{One, Two, Three, Beyond}
+use Rattle.isa.specs.declared.Encoded.the-variants.{One, Two, Three, Unencodable}
 use Rattle.isa.specs.declared.rom.RomByte.the-variants.{Byte}
 use Rattle.isa.specs.Displacement.{forwardOf}
-use Rattle.isa.specs.Map.{entryOf, bytesOf}
-use Rattle.isa.specs.Decode.{romAt, operandAt, decodeAt}
+use Rattle.isa.specs.Table.{bytesOf}
+use Rattle.isa.specs.Map.{entryOf}
+use Rattle.isa.specs.Rom.{romAt, operandAt}
+use Rattle.isa.specs.Decode.{decodeAt}
 use Rattle.isa.specs.Encode.{encodeOf, bytes}
 use Rattle.isa.specs.RoundTrip.{Holds, WrittenDecodes, DecodedWrites}
 use Rattle.isa.proofs.Column.{pick}
@@ -22,11 +23,11 @@ use Rattle.isa.proofs.Finite.{bounded}
 use Rattle.isa.proofs.Reading.{Read, reading, rom-byte, operand-byte}
 use Rattle.isa.proofs.RoundTrip.{decodes-back, writes-back}
 
-some : (e : Encoded) → (e ≡ Beyond → ⊥) → 0 < length (bytes e)
+some : (e : Encoded) → (e ≡ Unencodable → ⊥) → 0 < length (bytes e)
 some (One a) n = omega arith
 some (Two a b) n = omega arith
 some (Three a b c) n = omega arith
-some Beyond n = absurd (n refl)
+some Unencodable n = absurd (n refl)
 
 -- an operand byte of an instruction that stands in the image: 0 past its end
 operand-held :

@@ -2,6 +2,7 @@ pub mod Finite
 pub mod Column
 pub mod Prefix
 pub mod GoesOn
+pub mod EntryFlow
 pub mod Reading
 pub mod AtAddress
 pub mod DecodedLength

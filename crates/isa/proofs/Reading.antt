@@ -1,5 +1,4 @@
 -- What decoding has read where it answers an instruction: the law that takes `decodeAt` apart.
--- Assumes nothing.
 use mathlib.Core.Path.{_≡_, refl}
 use mathlib.Core.Bool.{Bool, true, false, cond}
 use mathlib.Core.List.{List}
@@ -15,8 +14,10 @@ use Rattle.isa.specs.declared.rom.RomByte.{RomByte}
 use Rattle.isa.specs.declared.rom.RomByte.the-variants.{Byte, Outside}
 use Rattle.isa.specs.Refusals.{Numbered, plain}
 use Rattle.isa.specs.Displacement.{forwardOf}
-use Rattle.isa.specs.Map.{entryOf, bytesOf, formOf}
-use Rattle.isa.specs.Decode.{isImage, romAt, operandAt, Answer, instruction, refused, withForm, withSecond, withFirst, withOpcode, decodeAt}
+use Rattle.isa.specs.Table.{bytesOf}
+use Rattle.isa.specs.Map.{entryOf, formOf}
+use Rattle.isa.specs.Rom.{isImage, romAt, operandAt}
+use Rattle.isa.specs.Decode.{Answer, instruction, refused, withForm, withSecond, withFirst, withOpcode, decodeAt}
 use Rattle.isa.specs.RoundTrip.{Bytes}
 
 -- the opcode k and the operand bytes f and s at an address, from which the map makes the instruction

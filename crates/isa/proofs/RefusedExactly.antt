@@ -1,5 +1,4 @@
 -- Writing refuses with 8 exactly the instructions that no image holds.
--- Assumes nothing.
 use mathlib.Core.Path.{_≡_, refl, sym, ap, _∙_}
 use mathlib.Core.Logic.{_⊎_, inl, inr, ⊎-elim}
 use mathlib.Core.Bool.{Bool, true, false, cond, _&&_}
@@ -15,13 +14,15 @@ use Rattle.isa.specs.declared.Operand.the-variants.{Direct, Short, Throu
 use Rattle.isa.specs.declared.Instruction.{Instruction}
 use Rattle.isa.specs.declared.Instruction.the-variants as I
 use Rattle.isa.specs.declared.Encoded.{Encoded}
-use Rattle.isa.specs.declared.Encoded.the-variants.{One, Two, Three, Beyond}
+use Rattle.isa.specs.declared.Encoded.the-variants.{One, Two, Three, Unencodable}
 use Rattle.isa.specs.declared.rom.RomByte.the-variants.{Byte}
 use Rattle.isa.specs.Refusals.{plain}
 use Rattle.isa.specs.Displacement.{modulo, forwardOf}
-use Rattle.isa.specs.Map.{formOf, formAs, entryOf, bytesOf}
-use Rattle.isa.specs.Decode.{isImage, romAt}
-use Rattle.isa.specs.Encode.{encodeOf, bytes, inField, withByte, withBytes, shortJump, extendedJump, withBit, bitJump, bitDirect, onData, onShort, wrote, refused, outcome}
+use Rattle.isa.specs.Table.{bytesOf}
+use Rattle.isa.specs.Map.{formOf, formAs, entryOf}
+use Rattle.isa.specs.Rom.{isImage, romAt}
+use Rattle.isa.specs.Write.{wrote, refused, outcome}
+use Rattle.isa.specs.Encode.{encodeOf, bytes, inField, withByte, withBytes, shortJump, extendedJump, withBit, bitJump, bitDirect, onData, onShort}
 use Rattle.isa.specs.Counts.{isUndefined}
 use Rattle.isa.specs.Cases.{placed}
 use Rattle.isa.specs.RoundTrip.{Bytes, Holds, Undecoded, RefusedExactly}
@@ -36,7 +37,7 @@ unfolding bytesOf entryOf formOf formAs
 no-bytes k f s h e = rw e at (at (λ k. cond (eqb (bytesOf (entryOf k)) 0) (isUndefined (formOf k f s)) true) 256 tt k h)
 
 -- what is refused was not decoded
-beyond-undecoded : (i : Instruction) → encodeOf i ≡ Beyond → Undecoded i
+beyond-undecoded : (i : Instruction) → encodeOf i ≡ Unencodable → Undecoded i
 beyond-undecoded i e image all a n c q =
     let r : Read image a i n = reading image a i n c q in
     let hk : r .k < 256 = rom-byte image all a (r .k) (r .opcode) in
@@ -54,7 +55,7 @@ cons-bytes a bs h hs (suc j) = hs j
 one-byte : (a : ℕ) → a < 256 → Bytes (a ∷ [])
 one-byte a h = cons-bytes a [] h nil-bytes
 
-chosen-bytes : (b : Bool) (e : Encoded) → (b ≡ true → Bytes (bytes e)) → Bytes (bytes (cond b e Beyond))
+chosen-bytes : (b : Bool) (e : Encoded) → (b ≡ true → Bytes (bytes e)) → Bytes (bytes (cond b e Unencodable))
 chosen-bytes true e h = h refl
 chosen-bytes false e h = nil-bytes
 
@@ -155,7 +156,7 @@ few-bytes : (e : Encoded) → length (bytes e) ≤ 3
 few-bytes (One a) = omega arith
 few-bytes (Two a b) = omega arith
 few-bytes (Three a b c) = omega arith
-few-bytes Beyond = omega arith
+few-bytes Unencodable = omega arith
 
 placed-length : (bs : List ℕ) → length bs ≤ 3 → length (placed 0 bs) ≡ 4096
 placed-length bs h = simp (length-append, length-replicate) (omega arith)
@@ -173,13 +174,13 @@ placed-holds bs h j m =
     (rom-of-4K (placed 0 bs) (placed-length bs h) j (omega arith) ∙ ap Byte (List·getD-append bs (replicate (4096 - 0 - length bs) 0) 0 j m))
 
 -- an instruction that is not refused stands in that image
-beyond-or-not : (e : Encoded) → (e ≡ Beyond) ⊎ (e ≡ Beyond → ⊥)
+beyond-or-not : (e : Encoded) → (e ≡ Unencodable) ⊎ (e ≡ Unencodable → ⊥)
 beyond-or-not (One a) = inr (λ e. let z : _≡_ {A = ℕ} 0 1 = cc in omega arith)
 beyond-or-not (Two a b) = inr (λ e. let z : _≡_ {A = ℕ} 0 1 = cc in omega arith)
 beyond-or-not (Three a b c) = inr (λ e. let z : _≡_ {A = ℕ} 0 1 = cc in omega arith)
-beyond-or-not Beyond = inl refl
+beyond-or-not Unencodable = inl refl
 
-undecoded-beyond : (i : Instruction) → Undecoded i → encodeOf i ≡ Beyond
+undecoded-beyond : (i : Instruction) → Undecoded i → encodeOf i ≡ Unencodable
 undecoded-beyond i never =
     let bs : List ℕ = bytes (encodeOf i) in
     let few : length bs ≤ 3 = few-bytes (encodeOf i) in
@@ -194,12 +195,12 @@ fitted-not-8 : (b : Bool) (n : ℕ) → cond b (wrote n) (refused (plain 9)) ≡
 fitted-not-8 true n e = let z : _≡_ {A = ℕ} 0 1 = cc in omega arith
 fitted-not-8 false n e = let z : _≡_ {A = ℕ} 9 8 = cc in omega arith
 
-refused-beyond : (e : Encoded) (size : ℕ) → outcome e size ≡ refused (plain 8) → e ≡ Beyond
+refused-beyond : (e : Encoded) (size : ℕ) → outcome e size ≡ refused (plain 8) → e ≡ Unencodable
 unfolding outcome
 refused-beyond (One a) size q = absurd (fitted-not-8 (leb 1 size) 1 q)
 refused-beyond (Two a b) size q = absurd (fitted-not-8 (leb 2 size) 2 q)
 refused-beyond (Three a b c) size q = absurd (fitted-not-8 (leb 3 size) 3 q)
-refused-beyond Beyond size q = refl
+refused-beyond Unencodable size q = refl
 
 pub refused-exactly : RefusedExactly
 unfolding outcome

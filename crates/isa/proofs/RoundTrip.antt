@@ -1,5 +1,4 @@
 -- Writing and decoding undo one another, over an opcode and the two bytes that follow.
--- Assumes nothing.
 use mathlib.Core.Path.{_≡_, refl, ap, _∙_}
 use mathlib.Core.Logic.{_⊎_, inl, inr, ⊎-elim}
 use mathlib.Core.Bool.{Bool, true, false, cond, _&&_}
@@ -18,9 +17,10 @@ use Rattle.isa.specs.declared.Instruction.the-variants as I
 use Rattle.isa.specs.declared.Form.{Form}
 use Rattle.isa.specs.declared.Form.the-variants.{Is, Undefined}
 use Rattle.isa.specs.declared.Encoded.{Encoded}
-use Rattle.isa.specs.declared.Encoded.the-variants.{One, Two, Three, Beyond}
+use Rattle.isa.specs.declared.Encoded.the-variants.{One, Two, Three, Unencodable}
 use Rattle.isa.specs.Displacement.{modulo, shortDisplacement, longDisplacement, signed}
-use Rattle.isa.specs.Map.{formOf, formAs, entryOf, bytesOf, extended}
+use Rattle.isa.specs.Table.{bytesOf}
+use Rattle.isa.specs.Map.{formOf, formAs, entryOf, extended}
 use Rattle.isa.specs.Encode.{encodeOf, bytes, inField, withByte, withBytes, shortJump, extendedJump, withBit, bitJump, bitDirect, onData, onShort}
 use Rattle.isa.proofs.Column.{Each, pick, pick8, pick16, rows}
 use Rattle.isa.proofs.Finite.{at, atSigned, eqZ, eqZ→eq, eqB, eqB→eq, sameN}
@@ -35,10 +35,10 @@ Says e i = Makes (getD (bytes e) 0 0) (getD (bytes e) 1 0) (getD (bytes e) 2 0) 
 
 -- an encoding says its instruction unless it is refused
 abbrev Back : Encoded → Instruction → Type 0
-Back e i = (e ≡ Beyond → ⊥) → Says e i
+Back e i = (e ≡ Unencodable → ⊥) → Says e i
 
 -- a choice by a test: the first where it holds, else a refusal
-chosen : (b : Bool) (e : Encoded) (i : Instruction) → (b ≡ true → Back e i) → Back (cond b e Beyond) i
+chosen : (b : Bool) (e : Encoded) (i : Instruction) → (b ≡ true → Back e i) → Back (cond b e Unencodable) i
 chosen true e i h n = h refl n
 chosen false e i h n = absurd (n refl)
 
@@ -229,7 +229,7 @@ module _ (f s : ℕ) (hf : f < 256) (hs : s < 256) where
 
   bit-again :
       (k : ℕ) →
-      bytes (cond (inField 8 (longDisplacement s)) (withBytes k f (modulo 256 (longDisplacement s))) Beyond) ≡ k ∷ f ∷ s ∷ []
+      bytes (cond (inField 8 (longDisplacement s)) (withBytes k f (modulo 256 (longDisplacement s))) Unencodable) ≡ k ∷ f ∷ s ∷ []
   bit-again k = rw (long-fits s hs, long-again s hs, one-fits, lt-ltb s 256 hs)
 
   -- column by column; a row with operand bytes by their tests

@@ -1,5 +1,4 @@
 -- What writing answers and does to the buffer, by the three lengths and the refusal.
--- Assumes nothing.
 use mathlib.Core.Path.{_≡_, refl, _∙_}
 use mathlib.Core.Bool.{Bool, true, false, cond}
 use mathlib.Core.List.{List, _++_}
@@ -10,10 +9,11 @@ use lib.Dec.{leb}
 use lib.ListN.{length, take, drop}
 use lib.Seq.{take-at, drop-at}
 use Rattle.isa.specs.Refusals.{Numbered, plain}
-use Rattle.isa.specs.Encode.{Outcome, bytes, wrote, refused, outcome, bufferAfter}
+use Rattle.isa.specs.Write.{Outcome, wrote, refused, outcome, bufferAfter}
+use Rattle.isa.specs.Encode.{bytes}
 use Rattle.isa.specs.WriteEffects.{WriteEffects}
 use Rattle.isa.specs.declared.Encoded.{Encoded}
-use Rattle.isa.specs.declared.Encoded.the-variants.{One, Two, Three, Beyond}
+use Rattle.isa.specs.declared.Encoded.the-variants.{One, Two, Three, Unencodable}
 
 -- bytes that fit or not, by the test
 module _ (bs buffer : List ℕ) where
@@ -40,28 +40,28 @@ unfolding outcome
 too-short (One a) size h = rw (lt-leb 1 size h)
 too-short (Two a b) size h = rw (lt-leb 2 size h)
 too-short (Three a b c) size h = rw (lt-leb 3 size h)
-too-short Beyond size h = absurd (omega arith)
+too-short Unencodable size h = absurd (omega arith)
 
-fits : (e : Encoded) (size : ℕ) → (e ≡ Beyond → ⊥) → length (bytes e) ≤ size → outcome e size ≡ wrote (length (bytes e))
+fits : (e : Encoded) (size : ℕ) → (e ≡ Unencodable → ⊥) → length (bytes e) ≤ size → outcome e size ≡ wrote (length (bytes e))
 unfolding outcome
 fits (One a) size n h = rw (le-leb 1 size h)
 fits (Two a b) size n h = rw (le-leb 2 size h)
 fits (Three a b c) size n h = rw (le-leb 3 size h)
-fits Beyond size n h = absurd (n refl)
+fits Unencodable size n h = absurd (n refl)
 
 untouched : (e : Encoded) (buffer : List ℕ) (r : Numbered) → outcome e (length buffer) ≡ refused r → bufferAfter e buffer ≡ buffer
 unfolding outcome bufferAfter
 untouched (One a) buffer r q = kept (bytes (One a)) buffer (leb 1 (length buffer)) r q
 untouched (Two a b) buffer r q = kept (bytes (Two a b)) buffer (leb 2 (length buffer)) r q
 untouched (Three a b c) buffer r q = kept (bytes (Three a b c)) buffer (leb 3 (length buffer)) r q
-untouched Beyond buffer r q = rw (le-leb 0 (length buffer) (omega arith))
+untouched Unencodable buffer r q = rw (le-leb 0 (length buffer) (omega arith))
 
 from-first : (e : Encoded) (buffer : List ℕ) (n : ℕ) → outcome e (length buffer) ≡ wrote n → take n (bufferAfter e buffer) ≡ bytes e
 unfolding outcome bufferAfter
 from-first (One a) buffer n q = first (bytes (One a)) buffer (leb 1 (length buffer)) n q
 from-first (Two a b) buffer n q = first (bytes (Two a b)) buffer (leb 2 (length buffer)) n q
 from-first (Three a b c) buffer n q = first (bytes (Three a b c)) buffer (leb 3 (length buffer)) n q
-from-first Beyond buffer n q = cc
+from-first Unencodable buffer n q = cc
 
 others-stay :
     (e : Encoded) (buffer : List ℕ) (n : ℕ) → outcome e (length buffer) ≡ wrote n → drop n (bufferAfter e buffer) ≡ drop n buffer
@@ -69,7 +69,7 @@ unfolding outcome bufferAfter
 others-stay (One a) buffer n q = rest (bytes (One a)) buffer (leb 1 (length buffer)) n q
 others-stay (Two a b) buffer n q = rest (bytes (Two a b)) buffer (leb 2 (length buffer)) n q
 others-stay (Three a b c) buffer n q = rest (bytes (Three a b c)) buffer (leb 3 (length buffer)) n q
-others-stay Beyond buffer n q = cc
+others-stay Unencodable buffer n q = cc
 
 pub write-effects : WriteEffects
 unfolding outcome

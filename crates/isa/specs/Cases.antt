@@ -1,5 +1,4 @@
 -- The bench cases that speak of decoding, and the places where the manual misleads (document 01, "Bench cases" and "The opcode map").
--- Assumes nothing.
 use Prim.Native.Nat.{ℕ, _-_}
 use mathlib.Core.Path.{_≡_}
 use mathlib.Core.Bool.{true, false}
@@ -9,7 +8,7 @@ use lib.ListN.{length, replicate}
 use Rattle.isa.specs.Displacement.{longDisplacement}
 use Rattle.isa.specs.Map.{formOf}
 use Rattle.isa.specs.Decode.{instruction, decodeAt}
-use Rattle.isa.specs.Flow.{flowOf}
+use Rattle.isa.specs.ControlFlow.{flowOf}
 use Rattle.isa.specs.declared.Operand.the-variants.{Direct}
 use Rattle.isa.specs.declared.Instruction.{Instruction}
 use Rattle.isa.specs.declared.Instruction.the-variants as I

@@ -1,11 +1,11 @@
 -- The opcode map's counts, and the opcodes that it leaves undefined (document 01, "The opcode map").
--- Assumes nothing.
 use Prim.Native.Nat.{ℕ, zero, suc, _+_, _<_}
 use mathlib.Core.Path.{_≡_}
 use mathlib.Core.Bool.{Bool, true, false, cond, not, _||_}
 use mathlib.Core.List.{List, [], _∷_}
 use lib.Dec.{eqb}
-use Rattle.isa.specs.Map.{entryOf, bytesOf, cyclesOf, formOf}
+use Rattle.isa.specs.Table.{bytesOf, cyclesOf}
+use Rattle.isa.specs.Map.{entryOf, formOf}
 use Rattle.isa.specs.declared.Form.{Form}
 use Rattle.isa.specs.declared.Form.the-variants.{Is, Undefined}
 

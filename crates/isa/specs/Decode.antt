@@ -1,13 +1,13 @@
 -- Decoding at a program address of an image (document 01, "Program space and data space" and "Decode at an address").
--- Assumes nothing.
-use Prim.Native.Nat.{ℕ, _+_, _-_}
-use mathlib.Core.Bool.{Bool, cond, _||_}
+use Prim.Native.Nat.{ℕ}
+use mathlib.Core.Bool.{cond}
 use mathlib.Core.List.{List}
-use lib.Dec.{eqb, ltb, leb}
-use lib.ListN.{length, getD}
+use lib.Dec.{ltb}
+use lib.ListN.{length}
 use Rattle.isa.specs.Refusals.{Numbered, plain, located, numbered}
-use Rattle.isa.specs.Displacement.{forwardOf}
-use Rattle.isa.specs.Map.{entryOf, bytesOf, cyclesOf, formOf}
+use Rattle.isa.specs.Rom.{isImage, romAt, operandAt}
+use Rattle.isa.specs.Table.{bytesOf, cyclesOf}
+use Rattle.isa.specs.Map.{entryOf, formOf}
 use Rattle.isa.specs.declared.Instruction.{Instruction}
 use Rattle.isa.specs.declared.Form.{Form}
 use Rattle.isa.specs.declared.Form.the-variants.{Is, Undefined}
@@ -25,22 +25,6 @@ pub data Answer : Type 0 where
 abbrev pub answerOf : Decoded → Answer
 answerOf (Valid i bytes cycles) = instruction i bytes cycles
 answerOf (Refused r) = refused (numbered r)
-
--- "An image is 2048 bytes (800h to FFFh) or 4096 bytes (000h to FFFh)."
-abbrev pub isImage : ℕ → Bool
-isImage n = eqb n 2048 || eqb n 4096
-
--- the ROM byte at a program address: the last byte of the image, of either length, stands at FFFh
-unfoldable pub romAt : List ℕ → ℕ → RomByte
-romAt image address =
-    cond (ltb address 4096)
-    (cond (leb 4096 (address + length image)) (Byte (getD image (address + length image - 4096) 0)) Outside)
-    Outside
-
--- "an operand byte after FFFh is the one at 000h": the byte at an offset from the opcode, and 0 where the instruction is shorter
-unfoldable pub operandAt : List ℕ → ℕ → ℕ → ℕ → RomByte
-operandAt image address offset bytes =
-    cond (ltb offset bytes) (romAt image (forwardOf address offset)) (Byte 0)
 
 -- "5 undefined opcode"
 abbrev pub withForm : ℕ → ℕ → Form → Answer

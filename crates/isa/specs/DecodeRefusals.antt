@@ -1,5 +1,4 @@
 -- When decoding refuses, and with which number (document 01, "What each operation turns down").
--- Assumes nothing.
 use Prim.Native.Nat.{ℕ, _<_, _≤_}
 use mathlib.Core.Path.{_≡_}
 use mathlib.Core.Bool.{true, false}
@@ -7,8 +6,10 @@ use mathlib.Core.List.{List}
 use lib.ListN.{length}
 use Rattle.isa.specs.Refusals.{Numbered, plain, located}
 use Rattle.isa.specs.Displacement.{forwardOf}
-use Rattle.isa.specs.Map.{entryOf, bytesOf}
-use Rattle.isa.specs.Decode.{isImage, romAt, refused, decodeAt}
+use Rattle.isa.specs.Table.{bytesOf}
+use Rattle.isa.specs.Map.{entryOf}
+use Rattle.isa.specs.Rom.{isImage, romAt}
+use Rattle.isa.specs.Decode.{refused, decodeAt}
 use Rattle.isa.specs.Counts.{undefinedOpcodes, member}
 use Rattle.isa.specs.declared.rom.RomByte.the-variants.{Byte, Outside}
 

@@ -1,5 +1,4 @@
 -- The bytes of each instruction, by the opcodes of the manual's pages, and writing them (document 01, "Write an instruction").
--- Assumes nothing.
 use mathlib.Core.Path.{_≡_}
 use Prim.Native.Nat.{ℕ, _+_, _-_, _*_, _/_, _%_, _^_}
 use mathlib.Core.Bool.{Bool, true, false, cond, _&&_}
@@ -15,7 +14,7 @@ use Rattle.isa.specs.declared.Operand.the-variants.{Direct, Short, Throu
 use Rattle.isa.specs.declared.Instruction.{Instruction}
 use Rattle.isa.specs.declared.Instruction.the-variants as I
 use Rattle.isa.specs.declared.Encoded.{Encoded}
-use Rattle.isa.specs.declared.Encoded.the-variants.{One, Two, Three, Beyond}
+use Rattle.isa.specs.declared.Encoded.the-variants.{One, Two, Three, Unencodable}
 use Rattle.isa.specs.declared.Written.{Written}
 use Rattle.isa.specs.declared.Written.the-variants.{Done, Refused}
 
@@ -25,40 +24,40 @@ inField bits d = ltb (mag d) (2 ^ (bits - 1))
 
 -- an opcode with one operand byte, and with two; "8 operand beyond its field": the field is a byte
 abbrev pub withByte : ℕ → ℕ → Encoded
-withByte opcode first = cond (ltb first 256) (Two opcode first) Beyond
+withByte opcode first = cond (ltb first 256) (Two opcode first) Unencodable
 
 abbrev pub withBytes : ℕ → ℕ → ℕ → Encoded
-withBytes opcode first second = cond (ltb first 256 && ltb second 256) (Three opcode first second) Beyond
+withBytes opcode first second = cond (ltb first 256 && ltb second 256) (Three opcode first second) Unencodable
 
 -- a short jump: the displacement in the top five bits
 abbrev pub shortJump : ℕ → ℤ → Encoded
-shortJump base d = cond (inField 5 d) (One (modulo 32 d * 8 + base)) Beyond
+shortJump base d = cond (inField 5 d) (One (modulo 32 d * 8 + base)) Unencodable
 
 -- CALL or JP: the target's lowest digit is the opcode's high one, its upper two are the second byte
 abbrev pub extendedJump : ℕ → ℕ → Encoded
-extendedJump base target = cond (ltb target 4096) (Two (target % 16 * 16 + base) (target / 16)) Beyond
+extendedJump base target = cond (ltb target 4096) (Two (target % 16 * 16 + base) (target / 16)) Unencodable
 
 -- an opcode with a bit number: its three bits reversed stand at the top
 abbrev pub withBit : ℕ → ℕ → ℕ
 withBit base bit = (bit % 2 * 4 + bit / 2 % 2 * 2 + bit / 4) * 32 + base
 
 abbrev pub bitJump : ℕ → ℕ → ℕ → ℤ → Encoded
-bitJump base bit address d = cond (ltb bit 8 && inField 8 d) (withBytes (withBit base bit) address (modulo 256 d)) Beyond
+bitJump base bit address d = cond (ltb bit 8 && inField 8 d) (withBytes (withBit base bit) address (modulo 256 d)) Unencodable
 
 abbrev pub bitDirect : ℕ → ℕ → ℕ → Encoded
-bitDirect base bit address = cond (ltb bit 8) (withByte (withBit base bit) address) Beyond
+bitDirect base bit address = cond (ltb bit 8) (withByte (withBit base bit) address) Unencodable
 
 -- an instruction on a data operand, by its opcodes for (X), (Y) and rr; "of a kind the map lacks for it": a short operand
 abbrev pub onData : ℕ → ℕ → ℕ → Operand → Encoded
 onData x y rr (Direct address) = withByte rr address
-onData x y rr (Short register) = Beyond
+onData x y rr (Short register) = Unencodable
 onData x y rr ThroughX = One x
 onData x y rr ThroughY = One y
 
 -- the same with a short operand too, by the opcode for X
 abbrev pub onShort : ℕ → ℕ → ℕ → ℕ → Operand → Encoded
 onShort short x y rr (Direct address) = withByte rr address
-onShort short x y rr (Short register) = cond (ltb register 4) (One (register * 64 + short)) Beyond
+onShort short x y rr (Short register) = cond (ltb register 4) (One (register * 64 + short)) Unencodable
 onShort short x y rr ThroughX = One x
 onShort short x y rr ThroughY = One y
 
@@ -100,35 +99,4 @@ abbrev pub bytes : Encoded → List ℕ
 bytes (One a) = a ∷ []
 bytes (Two a b) = a ∷ b ∷ []
 bytes (Three a b c) = a ∷ b ∷ c ∷ []
-bytes Beyond = []
-
--- what writing answers: how many bytes were written, or a refusal
-pub data Outcome : Type 0 where
-  wrote : (count : ℕ) → Outcome
-  refused : Numbered → Outcome
-
--- the program's answer by document 01's numbers
-abbrev pub outcomeOf : Written → Outcome
-outcomeOf (Done n) = wrote n
-outcomeOf (Refused r) = refused (numbered r)
-
--- "9 buffer shorter than the instruction"
-abbrev fitted : List ℕ → ℕ → Outcome
-fitted bs size = cond (leb (length bs) size) (wrote (length bs)) (refused (plain 9))
-
--- by the encoding and the buffer's length; 8 comes before 9
-
-unfoldable pub outcome : Encoded → ℕ → Outcome
-outcome (One a) size = fitted (bytes (One a)) size
-outcome (Two a b) size = fitted (bytes (Two a b)) size
-outcome (Three a b c) size = fitted (bytes (Three a b c)) size
-outcome Beyond size = refused (plain 8)
-
--- "It is written from the buffer's first byte; bytes after it stay": untouched where they do not fit or there are none
-unfoldable pub bufferAfter : Encoded → List ℕ → List ℕ
-bufferAfter e buffer = cond (leb (length (bytes e)) (length buffer)) (bytes e ++ drop (length (bytes e)) buffer) buffer
-
--- what writing an encoding into a buffer does: its answer, and the buffer after it
-pub record Wrote (e : Encoded) (before after : List ℕ) (r : Written) : Type 0 where
-  pub answer : outcomeOf r ≡ outcome e (length before)
-  pub buffer : after ≡ bufferAfter e before
+bytes Unencodable = []

@@ -1,5 +1,4 @@
 -- The length of each form in bytes: one, and one more for each operand byte; and that decoding answers with it.
--- Assumes nothing.
 use Prim.Native.Nat.{ℕ}
 use mathlib.Core.Path.{_≡_}
 use mathlib.Core.List.{List}

@@ -1,9 +1,13 @@
 pub mod Displacement
 pub mod Map
 pub mod Refusals
+pub mod Rom
+pub mod Table
 pub mod Decode
 pub mod Encode
-pub mod Flow
+pub mod Write
+pub mod ControlFlow
+pub mod FlowAt
 pub mod Sources
 pub mod Lengths
 pub mod RoundTrip

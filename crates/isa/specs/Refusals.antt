@@ -1,5 +1,4 @@
 -- Refusals by document 01's numbers ("What each operation turns down").
--- Assumes nothing.
 use Prim.Native.Nat.{ℕ}
 use Rattle.isa.specs.declared.Number.{Number}
 use Rattle.isa.specs.declared.Number.the-variants.{Plain, Located}

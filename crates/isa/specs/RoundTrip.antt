@@ -1,5 +1,4 @@
 -- Writing and decoding undo one another (document 01, "The opcode map" and "Write an instruction").
--- Assumes nothing.
 use Prim.Native.Nat.{ℕ, _<_}
 use mathlib.Core.Path.{_≡_}
 use mathlib.Core.Logic.{_↔_}
@@ -8,11 +7,14 @@ use mathlib.Core.List.{List}
 use lib.ListN.{length, getD}
 use Rattle.isa.specs.Refusals.{plain}
 use Rattle.isa.specs.Displacement.{forwardOf}
-use Rattle.isa.specs.Map.{entryOf, cyclesOf}
-use Rattle.isa.specs.Decode.{isImage, romAt, instruction, decodeAt}
-use Rattle.isa.specs.Encode.{encodeOf, bytes, refused, outcome}
+use Rattle.isa.specs.Table.{cyclesOf}
+use Rattle.isa.specs.Map.{entryOf}
+use Rattle.isa.specs.Rom.{isImage, romAt}
+use Rattle.isa.specs.Decode.{instruction, decodeAt}
+use Rattle.isa.specs.Write.{refused, outcome}
+use Rattle.isa.specs.Encode.{encodeOf, bytes}
 use Rattle.isa.specs.declared.Instruction.{Instruction}
-use Rattle.isa.specs.declared.Encoded.the-variants.{Beyond}
+use Rattle.isa.specs.declared.Encoded.the-variants.{Unencodable}
 use Rattle.isa.specs.declared.rom.RomByte.the-variants.{Byte}
 
 -- every element is a byte: what a slice of u8 holds
@@ -27,7 +29,7 @@ Holds image a bs = (j : ℕ) → j < length bs → romAt image (forwardOf a j) �
 -- its bytes stand, and with the length and the cycles of its opcode
 abbrev pub WrittenDecodes : Type 0
 WrittenDecodes =
-    (i : Instruction) → (encodeOf i ≡ Beyond → ⊥) →
+    (i : Instruction) → (encodeOf i ≡ Unencodable → ⊥) →
     (image : List ℕ) → isImage (length image) ≡ true →
     (a : ℕ) → a < 4096 → Holds image a (bytes (encodeOf i)) →
     decodeAt image a ≡ instruction i (length (bytes (encodeOf i))) (cyclesOf (entryOf (getD (bytes (encodeOf i)) 0 0)))

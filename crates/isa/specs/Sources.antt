@@ -1,5 +1,4 @@
 -- Interrupt sources (document 01, "Modes, stack, sleep").
--- Assumes nothing.
 use Prim.Native.Nat.{ℕ, _/_, _%_, _^_}
 use mathlib.Core.Bool.{Bool}
 use lib.Dec.{eqb, ltb}
@@ -15,8 +14,8 @@ bitOf Third = 3
 bitOf Fourth = 4
 
 -- the byte has the source's bit
-abbrev pub names : ℕ → Source → Bool
-names byte source = eqb (byte / 2 ^ bitOf source % 2) 1
+abbrev pub isNamed : ℕ → Source → Bool
+isNamed byte source = eqb (byte / 2 ^ bitOf source % 2) 1
 
 -- "11 (bit 5, 6 or 7 set in a request byte)": the byte has none of them
 abbrev pub namesOnlySources : ℕ → Bool

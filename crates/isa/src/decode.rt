@@ -2,7 +2,7 @@
 use crate::Decoded;
 use crate::Form;
 use crate::Refusal;
-use crate::decoding::form;
+use crate::map::form;
 use crate::rom::RomByte;
 use crate::rom::is_image_length;
 use crate::rom::operand_byte;
@@ -10,8 +10,9 @@ use crate::rom::rom_byte;
 use crate::table::timing_of;
 use crate::table::timings;
 ghost use mathlib.Core.Path.{_≡_};
-ghost use Rattle.isa.specs.Map.{Timings};
-ghost use Rattle.isa.specs.Decode.{answerOf, decodeAt, romAt, withOpcode};
+ghost use Rattle.isa.specs.Table.{Timings};
+ghost use Rattle.isa.specs.Rom.{romAt};
+ghost use Rattle.isa.specs.Decode.{answerOf, decodeAt, withOpcode};
 
 // The instruction at an address of the program space of an image that has a valid length: for whoever has tested both once and
 // decodes much.

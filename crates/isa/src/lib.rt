@@ -1,14 +1,15 @@
 // The ST62 instruction set: its forms, the opcode map's table, decoding and writing, where an instruction may continue,
 // and the interrupt sources with their vectors.
+pub mod control_flow;
 pub mod decode;
-pub mod decoding;
 pub mod displacement;
-pub mod encoding;
+pub mod encode;
+pub mod flow_at;
 pub mod lengths;
+pub mod map;
 pub mod refusals;
 pub mod rom;
 pub mod sources;
-pub mod successor;
 pub mod table;
 pub mod write;
 
@@ -114,7 +115,7 @@ pub enum Encoded {
     One(u8),
     Two(u8, u8),
     Three(u8, u8, u8),
-    Beyond,
+    Unencodable,
 }
 
 // The answer of writing an instruction: how many bytes were written.
@@ -143,6 +144,12 @@ pub enum Flow {
     ReturnFromInterrupt,
     // At the next address, asleep.
     Sleep,
+}
+
+// Where the instruction at a program address continues, with the address after it.
+pub enum Continuation {
+    Valid { flow: Flow, next: u16 },
+    Refused(Refusal),
 }
 
 // What may ask for a service, in the order of a request byte's bits 0 to 4: NMI and sources 1 to 4.

@@ -1,7 +1,7 @@
 // The image's bytes by program address.
 use crate::displacement::forward;
 ghost use mathlib.Core.Path.{_≡_};
-ghost use Rattle.isa.specs.Decode.{isImage, romAt, operandAt};
+ghost use Rattle.isa.specs.Rom.{isImage, romAt, operandAt};
 
 pub enum RomByte {
     Byte(u8),

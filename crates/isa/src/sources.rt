@@ -1,7 +1,7 @@
 // Interrupt sources: their bits in a request byte or a wired byte, and their vectors.
 use crate::Source;
 ghost use mathlib.Core.Path.{_≡_};
-ghost use Rattle.isa.specs.Sources.{namesOnlySources, names, vectorOf};
+ghost use Rattle.isa.specs.Sources.{namesOnlySources, isNamed, vectorOf};
 
 // The address where the program begins after a reset.
 pub const RESET_VECTOR: u16 = 0xFFE;
@@ -15,7 +15,7 @@ pub fn names_only_sources(byte: u8) -> bool
 
 // Whether a byte has the bit of a source.
 pub fn names(byte: u8, source: Source) -> bool
-    ensures { λ r. ⌜ r ≡ names byte source ⌝ }
+    ensures { λ r. ⌜ r ≡ isNamed byte source ⌝ }
 {
     match source {
         Source::Nmi => byte % 2 == 1,

@@ -3,8 +3,9 @@ use crate::Encoded;
 use crate::Instruction;
 use crate::Refusal;
 use crate::Written;
-use crate::encoding::encode;
-ghost use Rattle.isa.specs.Encode.{encodeOf, Wrote};
+use crate::encode::encode;
+ghost use Rattle.isa.specs.Write.{Wrote};
+ghost use Rattle.isa.specs.Encode.{encodeOf};
 
 fn write_one(buffer: &mut [u8], a: u8) -> Written
     ensures { λ r. ⌜ Wrote (Encoded.One a) (now (buffer .entry)) (now (buffer .exit)) r ⌝ }
@@ -47,6 +48,6 @@ pub fn write(instruction: Instruction, buffer: &mut [u8]) -> Written
         Encoded::One(a) => write_one(buffer, a),
         Encoded::Two(a, b) => write_two(buffer, a, b),
         Encoded::Three(a, b, c) => write_three(buffer, a, b, c),
-        Encoded::Beyond => Written::Refused(Refusal::OperandRange),
+        Encoded::Unencodable => Written::Refused(Refusal::OperandRange),
     }
 }

@@ -2,7 +2,7 @@
 use isa::Flow;
 use isa::Instruction;
 use isa::Operand;
-use isa::successor::flow_of;
+use isa::control_flow::flow_of;
 use text::put;
 use text::put_address;
 use text::put_data;

@@ -1,5 +1,4 @@
 -- Every address of an answer is below 1000h: those of the marks, and of the vectors.
--- Assumes nothing.
 use Prim.Native.Nat.{ℕ, zero, suc, _+_, _<_, _≤_}
 use native.Mathlib.Omega.{arith}
 use mathlib.Core.Path.{_≡_, sym, subst}

@@ -1,5 +1,4 @@
 -- A job put together from a wired byte, an image and a certificate is taken apart into them.
--- Assumes nothing.
 use Prim.Native.Nat.{ℕ, _+_, _-_, _/_, _≤_}
 use native.Mathlib.Omega.{arith}
 use native.Mathlib.Nat.{div-add-mod'}

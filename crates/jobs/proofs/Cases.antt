@@ -1,5 +1,4 @@
 -- P11 and P12, printed: the check's answer, and the text of it.
--- Assumes nothing.
 use mathlib.Core.Path.{refl, ap, _∙_}
 use mathlib.Core.Logic.{inl}
 use mathlib.Core.List.{[], _∷_}

@@ -1,5 +1,4 @@
 -- What a caller of `answer::answer` may do with its answer.
--- Assumes nothing.
 use Prim.Native.Nat.{ℕ, _≤_}
 use native.Mathlib.Omega.{arith}
 use mathlib.Core.Path.{_≡_, sym, ap, _∙_}
@@ -8,7 +7,7 @@ use mathlib.Core.List.{List, _++_}
 use lib.ListN.{length, drop, length-append}
 use borrow.Author.Tests.{le-leb}
 use Rattle.isa.specs.Refusals.{plain}
-use Rattle.isa.specs.Encode.{wrote, refused}
+use Rattle.isa.specs.Write.{wrote, refused}
 use Rattle.jobs.specs.declared.Answered.{Answered}
 use Rattle.jobs.specs.declared.Answered.the-variants.{Line}
 use Rattle.jobs.specs.Answers.{Answers, fits, outcomeOf, SixteenBytesAreEnough}

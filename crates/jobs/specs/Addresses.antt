@@ -1,5 +1,4 @@
 -- Three hexadecimal digits state the whole address.
--- Assumes nothing.
 use Prim.Native.Nat.{ℕ, _<_}
 use mathlib.Core.Path.{_≡_}
 use mathlib.Core.List.{List}

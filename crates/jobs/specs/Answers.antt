@@ -1,5 +1,4 @@
 -- What answering a job does to the buffer that its line is written to.
--- Assumes nothing.
 use Prim.Native.Nat.{ℕ, _≤_}
 use mathlib.Core.Path.{_≡_}
 use mathlib.Core.Bool.{Bool, cond}
@@ -7,7 +6,7 @@ use mathlib.Core.List.{List, _++_}
 use lib.Dec.{leb}
 use lib.ListN.{length, drop}
 use Rattle.isa.specs.Refusals.{plain, numbered}
-use Rattle.isa.specs.Encode.{Outcome, wrote, refused}
+use Rattle.isa.specs.Write.{Outcome, wrote, refused}
 use Rattle.jobs.specs.declared.Answered.{Answered}
 use Rattle.jobs.specs.declared.Answered.the-variants.{Line, Refused}
 

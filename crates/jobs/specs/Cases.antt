@@ -1,5 +1,4 @@
 -- Document 01's P11 and P12: "the job program prints exactly ..".
--- Assumes nothing.
 use Prim.Native.Nat.{ℕ, _+_, _/_, _%_}
 use mathlib.Core.Path.{_≡_}
 use mathlib.Core.Logic.{_⊎_}

@@ -1,5 +1,4 @@
 -- The line that an answer is printed as, in ASCII (document 01, P11 and P12).
--- Assumes nothing.
 use Prim.Native.Nat.{ℕ, zero, suc, _+_, _-_, _/_, _%_}
 use mathlib.Core.Bool.{cond}
 use mathlib.Core.List.{List, [], _∷_, _++_}

@@ -1,5 +1,4 @@
 -- A text in the making, as the program's contracts speak of it.
--- Assumes nothing.
 use Prim.Native.Nat.{ℕ, _+_, _≤_}
 use mathlib.Core.Path.{_≡_}
 use mathlib.Core.List.{List, _++_}

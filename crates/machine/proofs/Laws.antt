@@ -1,5 +1,4 @@
 -- Laws of steps and runs that callers use.
--- Assumes nothing.
 use Prim.Native.Nat.{ℕ, zero, suc, _+_, _≤_, _<_}
 use mathlib.Core.Path.{_≡_, refl, sym, ap, _∙_}
 use mathlib.Core.Logic.{_≢_}
@@ -14,14 +13,14 @@ use Rattle.data.specs.Effect.{effectOf}
 use Rattle.isa.specs.Refusals.{Numbered}
 use Rattle.isa.specs.RoundTrip.{Bytes}
 use Rattle.isa.specs.Displacement.{forwardOf}
-use Rattle.isa.specs.Flow.{flowOf}
+use Rattle.isa.specs.ControlFlow.{flowOf}
 use Rattle.isa.specs.Sources.{namesOnlySources}
-use Rattle.isa.specs.Decode.{isImage}
+use Rattle.isa.specs.Rom.{isImage}
 use Rattle.isa.specs.declared.Instruction.{Instruction}
 use Rattle.isa.specs.declared.Flow.the-variants as flow
 use Rattle.control.specs.declared.Mode.{Mode}
 use Rattle.control.specs.declared.Mode.the-variants.{Reset, Normal, Interrupt, NmiOverNormal, NmiOverInterrupt}
-use Rattle.control.specs.Moving.{advanceOf}
+use Rattle.control.specs.Transfers.{advanceOf}
 use Rattle.machine.specs.declared.Machine.{Machine}
 use Rattle.machine.specs.declared.FlagPairs.{FlagPairs}
 use Rattle.machine.specs.Pairs.{pairOf, withNmi, withPairOf}
@@ -33,7 +32,7 @@ use Rattle.machine.specs.Run.{Run, runAt, joinedBy, joinedOf, continuedB
 use Rattle.machine.specs.Laws.{IsStop, Does, stops, takes, idles, executes, pairNumber, OtherPairsKept, GoesOn, DataGoesOn, StopsOnly, RunEndsByStop, followedBy, RunIsSteps}
 use Rattle.machine.proofs.StepDoes.{step-does, Tested, refuses, passes, step-tested}
 use Rattle.machine.proofs.Steps.{step-advances, fits-at, next-step}
-use Rattle.machine.proofs.Formed.{stays-well-formed}
+use Rattle.machine.proofs.StaysWellFormed.{stays-well-formed}
 
 -- a pair that was stored is that of the mode alone
 other-than-nmi : (p : FlagPairs) (f : Flags) (b : Mode) → 3 ≢ pairNumber b → pairOf (withNmi p f) b ≡ pairOf p b

@@ -1,6 +1,6 @@
 pub mod PairTests
 pub mod Stops
 pub mod StepDoes
-pub mod Formed
+pub mod StaysWellFormed
 pub mod Steps
 pub mod Laws

@@ -1,5 +1,4 @@
 -- What a step does: the one walk through its definition. Later laws go by the cases of `Does`.
--- Assumes nothing.
 use Prim.Native.Nat.{ℕ, _<_}
 use mathlib.Core.Path.{_≡_, refl}
 use mathlib.Core.Logic.{_⊎_, inl, inr, ⊎-elim}
@@ -9,7 +8,8 @@ use native.Mathlib.Omega.{arith}
 use lib.ListN.{length}
 use Rattle.isa.specs.Refusals.{Numbered, plain, located}
 use Rattle.isa.specs.Sources.{namesOnlySources}
-use Rattle.isa.specs.Decode.{isImage, decodeAt}
+use Rattle.isa.specs.Rom.{isImage}
+use Rattle.isa.specs.Decode.{decodeAt}
 use Rattle.isa.specs.Decode as decode
 use Rattle.isa.specs.declared.Instruction.{Instruction}
 use Rattle.isa.specs.declared.Source.{Source}
@@ -19,7 +19,7 @@ use Rattle.control.specs.declared.Stop.the-variants as stop
 use Rattle.control.specs.declared.Requested.{Requested}
 use Rattle.control.specs.declared.Requested.the-variants.{Nothing, Taken}
 use Rattle.control.specs.Requests.{requestedOf, takeOf}
-use Rattle.control.proofs.StaysFormed.{formed-exactly}
+use Rattle.control.proofs.StaysWellFormed.{formed-exactly}
 use Rattle.machine.specs.declared.Machine.{Machine}
 use Rattle.machine.specs.State.{unless, isWellFormed}
 use Rattle.machine.specs.Step.{Step, doneOf, refusedOf, stoppedOf, takenBy, takenOf, completedOf, executedOf, decodedOf, unrequestedOf, respondOf, enabledOf, advancedOf, stepOf}

@@ -1,5 +1,4 @@
 -- A run step by step.
--- Assumes nothing.
 use Prim.Native.Nat.{ℕ, zero, suc, _+_, _-_, _<_, _≤_}
 use mathlib.Core.Path.{_≡_, refl, sym, ap, _∙_}
 use mathlib.Core.Bool.{Bool, true, false, _&&_}
@@ -11,7 +10,8 @@ use borrow.Author.Count.{below-more}
 use lib.ListN.{getD, length, replicate, List·getD-eq-default}
 use Rattle.isa.specs.Refusals.{Numbered}
 use Rattle.isa.specs.Sources.{namesOnlySources}
-use Rattle.isa.specs.Decode.{isImage, decodeAt}
+use Rattle.isa.specs.Rom.{isImage}
+use Rattle.isa.specs.Decode.{decodeAt}
 use Rattle.machine.specs.declared.Machine.{Machine}
 use Rattle.machine.specs.State.{isWellFormed, Ended, done, refused}
 use Rattle.machine.specs.Step.{Step, Answer, doneOf, refusedOf, decodedOf, unrequestedOf, advancedOf, stepOf}

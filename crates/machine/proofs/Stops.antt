@@ -1,5 +1,4 @@
 -- What a step makes of a stop: the machine as it was.
--- Assumes nothing.
 use Prim.Native.Nat.{ℕ}
 use mathlib.Core.Path.{_≡_, refl, sym, ap, _∙_}
 use mathlib.Core.Logic.{_⊎_, inl, inr, ⊎-elim}
@@ -7,7 +6,7 @@ use mathlib.Core.List.{List}
 use native.Mathlib.Omega.{arith}
 use Rattle.alu.specs.declared.Flags.{Flags}
 use Rattle.data.specs.Effect.{Data, dataOf, effectOf}
-use Rattle.isa.specs.Flow.{flowOf}
+use Rattle.isa.specs.ControlFlow.{flowOf}
 use Rattle.isa.specs.Refusals.{located}
 use Rattle.isa.specs.declared.Instruction.{Instruction}
 use Rattle.isa.specs.declared.Instruction.the-variants as I
@@ -16,7 +15,7 @@ use Rattle.control.specs.declared.Stop.{Stop}
 use Rattle.control.specs.declared.Stop.the-variants as stop
 use Rattle.control.specs.declared.Transfer.{Transfer}
 use Rattle.control.specs.Stack.{Transferred, transferOf, popOf}
-use Rattle.control.specs.Moving.{callOf, returnFromInterruptOf, advanceOf}
+use Rattle.control.specs.Transfers.{callOf, returnFromInterruptOf, advanceOf}
 use Rattle.control.proofs.Stopped.{call-keeps, pop-keeps, return-keeps}
 use Rattle.control.proofs.Stopped as control
 use Rattle.machine.specs.declared.Machine.{Machine}

@@ -1,13 +1,12 @@
 -- One instruction: its effect on data and flags, and where its flow takes control. The two do not look at each other, but for the
 -- condition of a branch.
--- Assumes nothing.
 use Prim.Native.Nat.{ℕ}
 use mathlib.Core.Bool.{Bool, true, false, not}
 use mathlib.Core.List.{List}
 use Rattle.alu.specs.Alu.{bitOf}
 use Rattle.data.specs.Space.{readOf}
 use Rattle.data.specs.Effect.{Data, dataOf, effectOf}
-use Rattle.isa.specs.Flow.{flowOf}
+use Rattle.isa.specs.ControlFlow.{flowOf}
 use Rattle.isa.specs.declared.Instruction.{Instruction}
 use Rattle.isa.specs.declared.Condition.{Condition}
 use Rattle.isa.specs.declared.Condition.the-variants.{Zero, Carry, Bit}
@@ -16,7 +15,7 @@ use Rattle.isa.specs.declared.Flow.the-variants as flow
 use Rattle.control.specs.declared.Control.{Control}
 use Rattle.control.specs.declared.Stop.{Stop}
 use Rattle.control.specs.Stack.{Transferred}
-use Rattle.control.specs.Moving.{advanceOf}
+use Rattle.control.specs.Transfers.{advanceOf}
 use Rattle.machine.specs.declared.Executed.{Executed}
 
 -- a flag or a bit is the value at which a branch jumps

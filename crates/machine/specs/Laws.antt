@@ -1,6 +1,5 @@
 -- What callers may rely on of step, run, host store and reset: claims about the definitions (document 01, "Modes, stack, sleep" and
 -- "What each operation turns down").
--- Assumes nothing.
 use Prim.Native.Nat.{ℕ, _+_, _≤_}
 use mathlib.Core.Path.{_≡_}
 use mathlib.Core.Logic.{_⊎_, _≢_}
@@ -10,8 +9,9 @@ use lib.ListN.{length, drop}
 use Rattle.isa.specs.Refusals.{Numbered, plain, located}
 use Rattle.isa.specs.RoundTrip.{Bytes}
 use Rattle.isa.specs.Displacement.{forwardOf}
-use Rattle.isa.specs.Flow.{flowOf}
-use Rattle.isa.specs.Decode.{isImage, decodeAt}
+use Rattle.isa.specs.ControlFlow.{flowOf}
+use Rattle.isa.specs.Rom.{isImage}
+use Rattle.isa.specs.Decode.{decodeAt}
 use Rattle.isa.specs.Decode as decode
 use Rattle.isa.specs.declared.Instruction.{Instruction}
 use Rattle.isa.specs.declared.Flow.the-variants as flow
@@ -21,7 +21,7 @@ use Rattle.control.specs.declared.Mode.the-variants.{Reset, Normal, Interrupt, 
 use Rattle.control.specs.declared.Requested.the-variants.{Nothing, Taken}
 use Rattle.control.specs.declared.Stop.the-variants as stop
 use Rattle.control.specs.Stack.{Transferred}
-use Rattle.control.specs.Moving.{atOf}
+use Rattle.control.specs.Transfers.{atOf}
 use Rattle.control.specs.Requests.{requestedOf, takeOf}
 use Rattle.machine.specs.declared.Machine.{Machine}
 use Rattle.machine.specs.Pairs.{pairOf, withPairOf}

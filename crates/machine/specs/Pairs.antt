@@ -1,5 +1,4 @@
 -- The flag pair of a mode (document 01, "Modes, stack, sleep").
--- Assumes nothing.
 use mathlib.Core.Bool.{Bool, true, false}
 use Rattle.alu.specs.declared.Flags.{Flags}
 use Rattle.control.specs.declared.Mode.{Mode}

@@ -1,5 +1,4 @@
 -- A run (document 01, "Modes, stack, sleep" and "Run").
--- Assumes nothing.
 use Prim.Native.Nat.{ℕ, zero, suc, _+_}
 use mathlib.Core.Bool.{Bool, true, cond, _&&_}
 use mathlib.Core.List.{List}
@@ -7,7 +6,7 @@ use lib.ListN.{getD, length}
 use lib.Dec.{leb}
 use Rattle.isa.specs.Refusals.{Numbered, plain}
 use Rattle.isa.specs.Sources.{namesOnlySources}
-use Rattle.isa.specs.Decode.{isImage}
+use Rattle.isa.specs.Rom.{isImage}
 use Rattle.machine.specs.declared.Machine.{Machine}
 use Rattle.machine.specs.declared.Report.{Report}
 use Rattle.machine.specs.declared.Progress.{Progress}

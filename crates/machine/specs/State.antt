@@ -1,5 +1,4 @@
 -- The machine as a whole: reset, a fresh machine, host store (document 01, "Modes, stack, sleep" and "What each operation turns down").
--- Assumes nothing.
 use Prim.Native.Nat.{ℕ}
 use mathlib.Core.Bool.{Bool, true, false, _&&_, not}
 use mathlib.Core.List.{List}
@@ -12,7 +11,7 @@ use Rattle.data.specs.Space.{storeOf}
 use Rattle.data.specs.Effect.{Data, dataOf}
 use Rattle.control.specs.declared.Mode.the-variants.{Reset}
 use Rattle.control.specs.declared.Control.{Control}
-use Rattle.control.specs.Forming.{wellFormed}
+use Rattle.control.specs.WellFormed.{wellFormed}
 use Rattle.machine.specs.declared.FlagPairs.{FlagPairs}
 use Rattle.machine.specs.declared.Machine.{Machine}
 use Rattle.machine.specs.declared.Ending.{Ending}

@@ -1,5 +1,4 @@
 -- One step (document 01, "Modes, stack, sleep" and "Step").
--- Assumes nothing.
 use Prim.Native.Nat.{ℕ}
 use mathlib.Core.Bool.{Bool, true, false, cond}
 use mathlib.Core.List.{List}
@@ -8,7 +7,8 @@ use Rattle.alu.specs.Alu.{bitOf}
 use Rattle.isa.specs.Refusals.{Numbered, plain, located, numbered}
 use Rattle.isa.specs.Displacement.{forwardOf}
 use Rattle.isa.specs.Sources.{namesOnlySources}
-use Rattle.isa.specs.Decode.{isImage, decodeAt}
+use Rattle.isa.specs.Rom.{isImage}
+use Rattle.isa.specs.Decode.{decodeAt}
 use Rattle.isa.specs.Decode as decode
 use Rattle.isa.specs.declared.Instruction.{Instruction}
 use Rattle.isa.specs.declared.Source.{Source}

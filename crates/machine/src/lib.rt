@@ -1,9 +1,10 @@
 // The ST62 machine: control beside the stack, flags and data bytes; step, run, reset and host store.
-mod executing;
+mod advance;
+mod execute;
 mod pairs;
-pub mod running;
+pub mod run;
 pub mod state;
-mod stepping;
+pub mod step;
 
 use alu::Flags;
 use control::Control;

@@ -6,7 +6,7 @@ use crate::Stored;
 use alu::Flags;
 use control::Control;
 use control::Mode;
-use control::forming::is_well_formed;
+use control::well_formed::is_well_formed;
 use isa::Refusal;
 use isa::sources::RESET_VECTOR;
 ghost use mathlib.Core.Path.{_≡_};

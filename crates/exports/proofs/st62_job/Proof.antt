@@ -1,5 +1,4 @@
 -- `st62_job` meets its contract.
--- Assumes nothing.
 use borrow.Author.Needs.{needs}
 use native.Mathlib.Omega.{arith}
 use Rattle.exports.specs.Lent.{jobLent}

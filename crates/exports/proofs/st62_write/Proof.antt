@@ -1,5 +1,4 @@
 -- `st62_write` meets its contract.
--- Assumes nothing.
 use borrow.Author.Needs.{needs}
 use Rattle.exports.specs.Lent.{writeLent}
 use Rattle.exports.proofs.st62_write.Statement.{statement}

@@ -1,5 +1,4 @@
 -- `isa_cases::holds` meets its contract. The loop's invariant: `place` is at most 4; the measure is what is left of 4.
--- Assumes nothing.
 use Prim.Native.Nat.{_≤_, _-_}
 use borrow.Author.Needs.{needs}
 use Rattle.isa_cases.proofs.holds.Statement.{statement}

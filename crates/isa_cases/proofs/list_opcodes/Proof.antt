@@ -1,5 +1,4 @@
 -- `isa_cases::list_opcodes` meets its contract. The loop's invariant: `opcode` is at most 256; the measure is what is left of 256.
--- Assumes nothing.
 use Prim.Native.Nat.{_≤_, _-_}
 use borrow.Author.Needs.{needs}
 use Rattle.isa_cases.proofs.list_opcodes.Statement.{statement}

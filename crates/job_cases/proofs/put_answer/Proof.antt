@@ -1,5 +1,4 @@
 -- `put_answer` is safe: a line that was written lies within the buffer.
--- Assumes nothing.
 use mathlib.Core.Path.{sym}
 use lib.Seq.{length-take-le}
 use borrow.Author.Needs.{needs}

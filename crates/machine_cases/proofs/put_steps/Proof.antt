@@ -1,5 +1,4 @@
 -- `put_steps` is safe and ends. The loop's invariant: `i` is at most the number of steps.
--- Assumes nothing.
 use Prim.Native.Nat.{_≤_, _-_}
 use borrow.Author.Needs.{needs}
 use Rattle.machine_cases.proofs.put_steps.Statement.{statement}

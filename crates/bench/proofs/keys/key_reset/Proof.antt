@@ -1,5 +1,4 @@
 -- `bench::keys::key_reset` meets its contract: it begins as the other keys do, by `Lent.antt`'s `asked`, and stores the whole answer.
--- Assumes nothing.
 use mathlib.Core.Path.{_≡_, refl, ap}
 use Prim.Native.Nat.{ℕ}
 use mathlib.Core.List.{[], _∷_, List}

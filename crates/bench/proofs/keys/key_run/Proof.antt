@@ -1,5 +1,4 @@
 -- `bench::keys::key_run` meets its contract: its statements are walked by `Lent.antt`'s `asked` and `answers`. Here stand what the operation is passed, what it asks, and where the locals stand.
--- Assumes nothing.
 use mathlib.Core.Path.{_≡_, refl}
 use Prim.Native.Nat.{ℕ, _<_, _^_}
 use mathlib.Core.List.{[], _∷_, List}
@@ -41,10 +40,10 @@ use Rattle.machine.proofs.Machine as T
 use Rattle.machine.proofs.Ran.Laws as S′
 use Rattle.machine.proofs.Report as O
 use Rattle.machine.proofs.Report.Laws as O′
-use Rattle.machine.proofs.running.run as run-op
-use Rattle.machine.proofs.running.run.Symbol as run-def
-use Rattle.machine.proofs.running.run.Symbol.{name as #machine·running·run}
-use Rattle.machine.proofs.running.run.Met as run-thm
+use Rattle.machine.proofs.run.run as run-op
+use Rattle.machine.proofs.run.run.Symbol as run-def
+use Rattle.machine.proofs.run.run.Symbol.{name as #machine·running·run}
+use Rattle.machine.proofs.run.run.Met as run-thm
 use Rattle.bench.proofs.keys.key_run.Key.{name as #bench·keys·key-run}
 use Rattle.bench.proofs.keys.key_run as key
 use Rattle.bench.proofs.keys.key_run.Statement as stated

@@ -1,5 +1,4 @@
 -- `bench::keys::key_step` meets its contract: its statements are walked by `Lent.antt`'s `asked` and `answers`. Here stand what the operation is passed, what it asks, and where the locals stand.
--- Assumes nothing.
 use mathlib.Core.Path.{_≡_, refl}
 use Prim.Native.Nat.{ℕ, _<_, _^_}
 use mathlib.Core.List.{[], _∷_, List}
@@ -41,10 +40,10 @@ use Rattle.machine.proofs.Machine as T
 use Rattle.machine.proofs.Stepped.Laws as S′
 use Rattle.machine.proofs.StepAnswer as O
 use Rattle.machine.proofs.StepAnswer.Laws as O′
-use Rattle.machine.proofs.running.step as step
-use Rattle.machine.proofs.running.step.Symbol as step-def
-use Rattle.machine.proofs.running.step.Symbol.{name as #machine·running·step}
-use Rattle.machine.proofs.running.step.Met as step-thm
+use Rattle.machine.proofs.run.step as step
+use Rattle.machine.proofs.run.step.Symbol as step-def
+use Rattle.machine.proofs.run.step.Symbol.{name as #machine·running·step}
+use Rattle.machine.proofs.run.step.Met as step-thm
 use Rattle.bench.proofs.keys.key_step.Key.{name as #bench·keys·key-step}
 use Rattle.bench.proofs.keys.key_step as key
 use Rattle.bench.proofs.keys.key_step.Statement as stated

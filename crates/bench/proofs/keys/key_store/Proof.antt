@@ -1,5 +1,4 @@
 -- `bench::keys::key_store` meets its contract: its statements are walked by `Lent.antt`'s `asked` and `answers`. Here stand what the operation is passed, what it asks, and where the locals stand.
--- Assumes nothing.
 use mathlib.Core.Path.{_≡_, refl}
 use Prim.Native.Nat.{ℕ, _<_, _^_}
 use mathlib.Core.List.{[], _∷_, List}

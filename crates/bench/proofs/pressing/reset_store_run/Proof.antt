@@ -1,6 +1,5 @@
 -- `bench::pressing::reset_store_run` meets its contract: its statements are walked, and each key that it presses by `Held.antt`'s `pressed`. Here stand what each key is passed, and where the locals stand.
 -- All that the proof knows of the keys is that each meets its contract.
--- Assumes nothing.
 use mathlib.Core.Path.{_≡_, refl, ap, _∙_}
 use Prim.Native.Nat.{ℕ, _<_, _^_}
 use mathlib.Core.List.{[], _∷_, List}

@@ -1,5 +1,4 @@
 -- `check::check` meets its contract: 1, 13 and 11, then the rules.
--- Assumes nothing.
 use native.Mathlib.Omega.{arith}
 use mathlib.Core.Path.{sym, _∙_}
 use lib.ListN.{length}

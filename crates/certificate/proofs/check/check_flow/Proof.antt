@@ -1,5 +1,4 @@
 -- `check::check_flow` meets its contract: the tests 15, 16 and 17 in their order.
--- Assumes nothing.
 use borrow.Author.Tests.{not-true, not-false}
 use Rattle.certificate.specs.Check.{flowFound}
 use borrow.Author.Needs.{needs}

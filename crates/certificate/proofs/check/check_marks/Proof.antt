@@ -1,5 +1,4 @@
 -- `check::check_marks` meets its contract: what the whole certificate finds is what its marks from index i on find.
--- Assumes nothing.
 use Prim.Native.Nat.{ℕ, suc, _+_, _-_, _≤_, _<_}
 use native.Mathlib.Nat.{add-zero}
 use native.Mathlib.Numerals.{add-one}

@@ -1,5 +1,4 @@
 -- `check::check_rules` meets its contract: the marks and the vectors, then 19.
--- Assumes nothing.
 use borrow.Author.Tests.{le-leb, lt-leb}
 use borrow.Author.Needs.{needs}
 use Rattle.certificate.proofs.check.check_rules.Statement.{statement}

@@ -1,5 +1,4 @@
 -- `marks::need_at` meets its contract: its calls.
--- Assumes nothing.
 use Rattle.certificate.specs.Marks.{needAt}
 use borrow.Author.Needs.{needs}
 use Rattle.certificate.proofs.marks.need_at.Statement.{statement}

@@ -1,5 +1,4 @@
 -- `successors::all_have_kind` meets its contract: successor by successor.
--- Assumes nothing.
 use mathlib.Core.Bool.{and-true}
 use borrow.Author.Needs.{needs}
 use Rattle.certificate.specs.Successors.{allHaveKind}

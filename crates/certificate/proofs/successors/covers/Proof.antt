@@ -1,5 +1,4 @@
 -- `successors::covers` meets its contract: its call.
--- Assumes nothing.
 use borrow.Author.Needs.{needs}
 use Rattle.certificate.proofs.successors.covers.Statement.{statement}
 use Rattle.certificate.proofs.successors.covers.Tie as tie

@@ -1,5 +1,4 @@
 -- `successors::is_placed` meets its contract: RET, RETI, and the flows that stand anywhere.
--- Assumes nothing.
 use Prim.Native.Nat.{ℕ}
 use mathlib.Core.List.{List, [], _∷_}
 use mathlib.Core.Bool.{true}

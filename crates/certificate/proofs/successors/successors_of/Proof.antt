@@ -1,5 +1,4 @@
 -- `successors::successors_of` meets its contract: by the flow.
--- Assumes nothing.
 use borrow.Author.Tests.{eq-eqb, ne-eqb}
 use Rattle.certificate.specs.Successors.{successorsOf}
 use borrow.Author.Needs.{needs}

@@ -1,5 +1,4 @@
 -- `vectors::check_source` meets its contract: by whether the source is wired.
--- Assumes nothing.
 use Rattle.certificate.specs.Check.{sourceFound}
 use borrow.Author.Needs.{needs}
 use Rattle.certificate.proofs.vectors.check_source.Statement.{statement}

@@ -1,5 +1,4 @@
 -- `vectors::check_vector` meets its contract: by the kind.
--- Assumes nothing.
 use borrow.Author.Tests.{eq-eqb, ne-eqb}
 use Rattle.certificate.specs.Check.{vectorFound}
 use borrow.Author.Needs.{needs}

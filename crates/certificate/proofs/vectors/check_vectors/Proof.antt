@@ -1,5 +1,4 @@
 -- `vectors::check_vectors` meets its contract: its calls.
--- Assumes nothing.
 use Rattle.certificate.specs.Check.{vectorsFound}
 use borrow.Author.Needs.{needs}
 use Rattle.certificate.proofs.vectors.check_vectors.Statement.{statement}

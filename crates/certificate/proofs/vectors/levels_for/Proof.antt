@@ -1,5 +1,4 @@
 -- `vectors::levels_for` meets its contract: by whether the source is wired.
--- Assumes nothing.
 use native.Mathlib.Omega.{arith}
 use Rattle.certificate.specs.Levels.{levelsFor}
 use Rattle.certificate.proofs.Services.{need-most}

@@ -1,5 +1,4 @@
 -- `vectors::levels_of` meets its contract: its calls, and bounds by which the sums fit.
--- Assumes nothing.
 use native.Mathlib.Omega.{arith}
 use Rattle.certificate.specs.Levels.{levelsOf}
 use Rattle.certificate.proofs.Services.{need-most, levels-most, sources-most}

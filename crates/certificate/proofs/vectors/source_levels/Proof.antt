@@ -1,5 +1,4 @@
 -- `vectors::source_levels` meets its contract: its calls.
--- Assumes nothing.
 use Rattle.certificate.proofs.Services.{source-levels}
 use borrow.Author.Needs.{needs}
 use Rattle.certificate.proofs.vectors.source_levels.Statement.{statement}

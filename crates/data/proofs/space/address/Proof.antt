@@ -1,5 +1,4 @@
 -- `space::address` meets its contract.
--- Assumes nothing.
 use borrow.Author.Needs.{needs}
 use Rattle.data.specs.Space.{addressOf}
 use Rattle.data.proofs.space.address.Statement.{statement}

@@ -1,5 +1,4 @@
 -- `space::operand` meets its contract.
--- Assumes nothing.
 use borrow.Author.Needs.{needs}
 use Rattle.data.specs.Space.{operandOf}
 use Rattle.data.proofs.space.operand.Statement.{statement}

@@ -1,5 +1,4 @@
 -- `space::shown` meets its contract.
--- Assumes nothing.
 use borrow.Author.Needs.{needs}
 use Rattle.data.proofs.space.shown.Statement.{statement}
 use Rattle.data.proofs.space.shown.Tie as tie

@@ -1,5 +1,4 @@
 -- `space::store` meets its contract.
--- Assumes nothing.
 use borrow.Author.Needs.{needs}
 use borrow.Author.Tests.{lt-ltb, le-ltb, le-leb, lt-leb}
 use Rattle.data.specs.Space.{storeOf}

@@ -1,5 +1,4 @@
 -- `answers::check_word` meets its contract.
--- Assumes nothing.
 use borrow.Author.Needs.{needs}
 use Rattle.exports.proofs.answers.check_word.Statement.{statement}
 use Rattle.exports.proofs.answers.check_word.Tie as tie

@@ -1,5 +1,4 @@
 -- `answers::ending_word` meets its contract.
--- Assumes nothing.
 use borrow.Author.Needs.{needs}
 use Rattle.exports.proofs.answers.ending_word.Statement.{statement}
 use Rattle.exports.proofs.answers.ending_word.Tie as tie

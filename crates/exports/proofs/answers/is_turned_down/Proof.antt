@@ -1,5 +1,4 @@
 -- `answers::is_turned_down` meets its contract.
--- Assumes nothing.
 use borrow.Author.Needs.{needs}
 use Rattle.exports.proofs.answers.is_turned_down.Statement.{statement}
 use Rattle.exports.proofs.answers.is_turned_down.Tie as tie

@@ -1,5 +1,4 @@
 -- `answers::refused` meets its contract.
--- Assumes nothing.
 use native.Mathlib.Omega.{arith}
 use borrow.Author.Needs.{needs}
 use Rattle.exports.proofs.answers.refused.Statement.{statement}

@@ -1,5 +1,4 @@
 -- `answers::step_word` meets its contract.
--- Assumes nothing.
 use borrow.Author.Needs.{needs}
 use Rattle.exports.proofs.answers.step_word.Statement.{statement}
 use Rattle.exports.proofs.answers.step_word.Tie as tie

@@ -1,5 +1,4 @@
 -- `answers::untyped` meets its contract.
--- Assumes nothing.
 use borrow.Author.Needs.{needs}
 use Rattle.exports.proofs.answers.untyped.Statement.{statement}
 use Rattle.exports.proofs.answers.untyped.Tie as tie

@@ -1,5 +1,4 @@
 -- `answers::write_word` meets its contract.
--- Assumes nothing.
 use borrow.Author.Needs.{needs}
 use Rattle.exports.proofs.answers.write_word.Statement.{statement}
 use Rattle.exports.proofs.answers.write_word.Tie as tie

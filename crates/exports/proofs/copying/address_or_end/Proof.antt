@@ -1,5 +1,4 @@
 -- `copying::address_or_end` meets its contract.
--- Assumes nothing.
 use borrow.Author.Tests.{lt-ltb, le-ltb}
 use borrow.Author.Needs.{needs}
 use Rattle.exports.proofs.copying.address_or_end.Statement.{statement}

@@ -1,5 +1,4 @@
 -- `copying::byte_or` meets its contract.
--- Assumes nothing.
 use borrow.Author.Tests.{lt-ltb, le-ltb}
 use borrow.Author.Needs.{needs}
 use Rattle.exports.proofs.copying.byte_or.Statement.{statement}

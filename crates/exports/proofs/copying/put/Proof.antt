@@ -1,5 +1,4 @@
 -- `copying::put` meets its contract. The loop's invariant: the first i bytes of the part are pasted in.
--- Assumes nothing.
 use Prim.Native.Nat.{_+_, _≤_, _<_, _-_}
 use mathlib.Core.Path.{_≡_, refl}
 use native.Mathlib.Omega.{arith}

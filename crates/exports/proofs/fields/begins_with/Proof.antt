@@ -1,5 +1,4 @@
 -- `fields::begins_with` meets its contract. The loop's invariant: `same` is the answer for the first i bytes.
--- Assumes nothing.
 use Prim.Native.Nat.{_≤_, _-_}
 use mathlib.Core.Path.{_≡_, refl, _∙_}
 use mathlib.Core.Logic.{⊎-elim}

@@ -1,5 +1,4 @@
 -- `fields::bit_jump` meets its contract.
--- Assumes nothing.
 use borrow.Author.Needs.{needs}
 use Rattle.isa.proofs.Finite.{kept}
 use Rattle.exports.proofs.fields.bit_jump.Statement.{statement}

@@ -1,5 +1,4 @@
 -- `fields::candidate` meets its contract.
--- Assumes nothing.
 use mir.Syntax.{w8}
 use mir.Val.{SFits}
 use borrow.Author.Needs.{needs}

@@ -1,5 +1,4 @@
 -- `fields::fields_of` meets its contract.
--- Assumes nothing.
 use mathlib.Core.Path.{ap, _∙_}
 use mir.Syntax.{w8}
 use mir.Val.{SFits}

@@ -1,5 +1,4 @@
 -- `fields::jump` meets its contract.
--- Assumes nothing.
 use borrow.Author.Needs.{needs}
 use Rattle.isa.proofs.Finite.{kept}
 use Rattle.exports.proofs.fields.jump.Statement.{statement}

@@ -1,5 +1,4 @@
 -- `fields::of_form` meets its contract. A form past the others is beyond their list.
--- Assumes nothing.
 use Prim.Native.Nat.{ℕ, zero, suc, _≤_, zero-le}
 use mathlib.Core.Path.{_≡_}
 use native.Mathlib.Omega.{arith}

@@ -1,5 +1,4 @@
 -- `fields::on` meets its contract.
--- Assumes nothing.
 use borrow.Author.Needs.{needs}
 use Rattle.exports.proofs.fields.on.Statement.{statement}
 use Rattle.exports.proofs.fields.on.Tie as tie

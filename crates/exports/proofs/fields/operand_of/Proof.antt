@@ -1,5 +1,4 @@
 -- `fields::operand_of` meets its contract.
--- Assumes nothing.
 use borrow.Author.Tests.{ne-eqb}
 use Rattle.exports.specs.Fields.{operandBy}
 use Rattle.exports.proofs.fields.operand_of.Statement.{statement}

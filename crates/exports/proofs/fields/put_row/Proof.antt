@@ -1,5 +1,4 @@
 -- `fields::put_row` meets its contract.
--- Assumes nothing.
 use mathlib.Core.Path.{refl, sym}
 use mathlib.Core.List.{[], _∷_}
 use borrow.Author.Needs.{needs}

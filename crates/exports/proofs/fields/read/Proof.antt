@@ -1,5 +1,4 @@
 -- `fields::read` meets its contract.
--- Assumes nothing.
 use borrow.Author.Tests.{le-leb, lt-leb}
 use borrow.Author.Needs.{needs}
 use Rattle.exports.specs.Fields.{unpackedInstruction}

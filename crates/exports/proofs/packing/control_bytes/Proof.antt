@@ -1,5 +1,4 @@
 -- `packing::control_bytes` meets its contract.
--- Assumes nothing.
 use borrow.Author.Needs.{needs}
 use Rattle.exports.specs.States.{controlBytes}
 use Rattle.exports.proofs.packing.control_bytes.Statement.{statement}

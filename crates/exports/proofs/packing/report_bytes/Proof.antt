@@ -1,5 +1,4 @@
 -- `packing::report_bytes` meets its contract.
--- Assumes nothing.
 use borrow.Author.Needs.{needs}
 use Rattle.exports.specs.Lent.{reportBytes}
 use Rattle.exports.proofs.packing.report_bytes.Statement.{statement}

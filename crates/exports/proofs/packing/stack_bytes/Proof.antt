@@ -1,5 +1,4 @@
 -- `packing::stack_bytes` meets its contract.
--- Assumes nothing.
 use borrow.Author.Needs.{needs}
 use Rattle.exports.specs.States.{stackBytes}
 use Rattle.exports.proofs.packing.stack_bytes.Statement.{statement}

@@ -1,5 +1,4 @@
 -- `states::control_of` meets its contract.
--- Assumes nothing.
 use borrow.Author.Needs.{needs}
 use Rattle.exports.specs.States.{controlAt}
 use Rattle.exports.proofs.states.control_of.Statement.{statement}

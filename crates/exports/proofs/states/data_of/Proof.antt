@@ -1,5 +1,4 @@
 -- `states::data_of` meets its contract. The loop's invariant: the first i bytes are the state's.
--- Assumes nothing.
 use Prim.Native.Nat.{_≤_, _<_, _-_}
 use mathlib.Core.Path.{_≡_, refl, sym, _∙_}
 use native.Mathlib.Omega.{arith}

@@ -1,5 +1,4 @@
 -- `states::is_typed` meets its contract.
--- Assumes nothing.
 use borrow.Author.Tests.{eq-eqb, ne-eqb, le-leb, lt-leb}
 use borrow.Author.Needs.{needs}
 use Rattle.exports.specs.States.{isTyped}

@@ -1,5 +1,4 @@
 -- `states::mode_of` meets its contract.
--- Assumes nothing.
 use borrow.Author.Tests.{ne-eqb}
 use Rattle.exports.specs.States.{modeOf}
 use Rattle.exports.proofs.states.mode_of.Statement.{statement}

@@ -1,5 +1,4 @@
 -- `states::pairs_of` meets its contract.
--- Assumes nothing.
 use borrow.Author.Needs.{needs}
 use Rattle.exports.specs.States.{pairsAt}
 use Rattle.exports.proofs.states.pairs_of.Statement.{statement}

@@ -1,5 +1,4 @@
 -- `states::stack_of` meets its contract.
--- Assumes nothing.
 use borrow.Author.Needs.{needs}
 use Rattle.exports.specs.States.{stackAt}
 use Rattle.exports.proofs.states.stack_of.Statement.{statement}

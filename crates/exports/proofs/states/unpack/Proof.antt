@@ -1,5 +1,4 @@
 -- `states::unpack` meets its contract.
--- Assumes nothing.
 use borrow.Author.Needs.{needs}
 use Rattle.exports.specs.States.{machineAt}
 use Rattle.exports.proofs.states.unpack.Statement.{statement}

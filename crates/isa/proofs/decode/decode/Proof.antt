@@ -1,5 +1,4 @@
 -- `decode::decode` meets its contract.
--- Assumes nothing.
 use borrow.Author.Needs.{needs}
 use borrow.Author.Tests.{lt-ltb, le-ltb, not-true, not-false}
 use Rattle.isa.specs.Decode.{decodeAt}

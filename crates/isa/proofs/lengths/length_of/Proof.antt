@@ -1,5 +1,4 @@
 -- `lengths::length_of` meets its contract.
--- Assumes nothing.
 use borrow.Author.Needs.{needs}
 use Rattle.isa.proofs.lengths.length_of.Statement.{statement}
 use Rattle.isa.proofs.lengths.length_of.Tie as tie

@@ -1,5 +1,4 @@
 -- `refusals::number_of` meets its contract.
--- Assumes nothing.
 use borrow.Author.Needs.{needs}
 use Rattle.isa.proofs.refusals.number_of.Statement.{statement}
 use Rattle.isa.proofs.refusals.number_of.Tie as tie

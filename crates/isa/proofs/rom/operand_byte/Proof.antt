@@ -1,8 +1,7 @@
 -- `rom::operand_byte` meets its contract.
--- Assumes nothing.
 use borrow.Author.Needs.{needs}
 use borrow.Author.Tests.{lt-ltb, le-ltb}
-use Rattle.isa.specs.Decode.{operandAt}
+use Rattle.isa.specs.Rom.{operandAt}
 use Rattle.isa.proofs.rom.operand_byte.Statement.{statement}
 use Rattle.isa.proofs.rom.operand_byte.Tie as tie
 

@@ -1,5 +1,4 @@
 -- `sources::names` meets its contract.
--- Assumes nothing.
 use borrow.Author.Needs.{needs}
 use native.Mathlib.Nat.{div-one}
 use Rattle.isa.proofs.sources.names.Statement.{statement}

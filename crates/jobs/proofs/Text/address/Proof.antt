@@ -1,5 +1,4 @@
 -- `Text::address` meets its contract.
--- Assumes nothing.
 use borrow.Author.Needs.{needs}
 use Rattle.jobs.proofs.Appending.{both}
 use Rattle.jobs.proofs.Text.address.Statement.{statement}

@@ -1,5 +1,4 @@
 -- `Text::decimal` meets its contract: a byte has one digit, two or three.
--- Assumes nothing.
 use Prim.Native.Nat.{_/_, _%_}
 use native.Mathlib.Omega.{arith}
 use mathlib.Core.Path.{_≡_}

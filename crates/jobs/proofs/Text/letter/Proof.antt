@@ -1,5 +1,4 @@
 -- `Text::letter` meets its contract.
--- Assumes nothing.
 use Prim.Native.Nat.{_<_}
 use native.Mathlib.Numerals.{add-one}
 use lib.Seq.{take-suc-set}

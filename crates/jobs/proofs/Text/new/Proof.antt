@@ -1,5 +1,4 @@
 -- `Text::new` meets its contract.
--- Assumes nothing.
 use borrow.Author.Needs.{needs}
 use Rattle.jobs.proofs.Appending.{begun}
 use Rattle.jobs.proofs.Text.new.Statement.{statement}

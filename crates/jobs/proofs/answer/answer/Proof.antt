@@ -1,5 +1,4 @@
 -- `answer::answer` meets its contract.
--- Assumes nothing.
 use borrow.Author.Needs.{needs}
 use Rattle.jobs.proofs.answer.answer.Statement.{statement}
 use Rattle.jobs.proofs.answer.answer.Tie as tie

@@ -1,5 +1,4 @@
 -- `answer::write_text` meets its contract.
--- Assumes nothing.
 use Prim.Native.Nat.{_<_, _≤_}
 use mathlib.Core.Path.{sym}
 use lib.ListN.{length}

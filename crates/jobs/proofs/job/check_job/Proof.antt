@@ -1,5 +1,4 @@
 -- `job::check_job` meets its contract: 20, 21, 22, then the check of the parts.
--- Assumes nothing.
 use native.Mathlib.Omega.{arith}
 use mathlib.Core.Path.{_≡_, sym, _∙_}
 use mathlib.Core.Bool.{true}

@@ -1,5 +1,4 @@
 -- `job::check_parts` meets its contract.
--- Assumes nothing.
 use Prim.Native.Nat.{_+_, _-_}
 use native.Mathlib.Omega.{arith}
 use mathlib.Core.Path.{_≡_}

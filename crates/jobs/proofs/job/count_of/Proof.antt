@@ -1,5 +1,4 @@
 -- `job::count_of` meets its contract.
--- Assumes nothing.
 use native.Mathlib.Omega.{arith}
 use borrow.Author.Needs.{needs}
 use Rattle.jobs.proofs.job.count_of.Statement.{statement}

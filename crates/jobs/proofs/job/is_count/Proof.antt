@@ -1,5 +1,4 @@
 -- `job::is_count` meets its contract.
--- Assumes nothing.
 use borrow.Author.Tests.{eq-eqb, ne-eqb}
 use Rattle.jobs.proofs.job.is_count.Statement.{statement}
 use Rattle.jobs.proofs.job.is_count.Tie as tie

@@ -1,5 +1,4 @@
 -- `line::line_of` meets its contract.
--- Assumes nothing.
 use native.Mathlib.Omega.{arith}
 use borrow.Author.Needs.{needs}
 use Rattle.jobs.specs.Lines.{lineOf}

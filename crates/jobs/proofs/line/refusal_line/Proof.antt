@@ -1,5 +1,4 @@
 -- `line::refusal_line` meets its contract.
--- Assumes nothing.
 use native.Mathlib.Omega.{arith}
 use borrow.Author.Needs.{needs}
 use Rattle.jobs.specs.Lines.{lineOf}

@@ -1,5 +1,4 @@
 -- `texts::glyph_of` meets its contract.
--- Assumes nothing.
 use borrow.Author.Needs.{needs}
 use borrow.Author.Tests.{lt-ltb, le-ltb}
 use Rattle.jobs.proofs.texts.glyph_of.Statement.{statement}

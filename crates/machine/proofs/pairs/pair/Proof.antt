@@ -1,5 +1,4 @@
 -- `pairs::pair` meets its contract.
--- Assumes nothing.
 use borrow.Author.Needs.{needs}
 use mathlib.Core.Path.{sym, _∙_}
 use Rattle.machine.proofs.PairTests.{normal-is, interrupt-is, nmi-pair}

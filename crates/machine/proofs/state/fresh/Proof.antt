@@ -1,5 +1,4 @@
 -- `state::fresh` meets its contract.
--- Assumes nothing.
 use borrow.Author.Needs.{needs}
 use Rattle.machine.specs.State.{freshOf}
 use Rattle.machine.proofs.state.fresh.Statement.{statement}

@@ -1,5 +1,4 @@
 -- `state::host_store` meets its contract.
--- Assumes nothing.
 use borrow.Author.Needs.{needs}
 use borrow.Author.Tests.{lt-ltb, le-ltb, le-leb, lt-leb, not-true, not-false}
 use Rattle.machine.specs.State.{hostStoreOf}

@@ -1,5 +1,4 @@
 -- `state::reset` meets its contract.
--- Assumes nothing.
 use borrow.Author.Needs.{needs}
 use mathlib.Core.Path.{refl}
 use Rattle.machine.specs.State.{resetOf}

@@ -1,5 +1,4 @@
 -- `state::stored` meets its contract.
--- Assumes nothing.
 use borrow.Author.Needs.{needs}
 use Rattle.machine.proofs.state.stored.Statement.{statement}
 use Rattle.machine.proofs.state.stored.Tie as tie

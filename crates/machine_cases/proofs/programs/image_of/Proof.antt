@@ -1,5 +1,4 @@
 -- `programs::image_of` is safe and ends. The loop's invariant: `i` is at most the code's length.
--- Assumes nothing.
 use Prim.Native.Nat.{_≤_, _-_}
 use borrow.Author.Needs.{needs}
 use lib.ListN.{length}

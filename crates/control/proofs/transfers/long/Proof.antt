@@ -1,0 +1,38 @@
+-- `transfers::long` meets its contract.
+use borrow.Author.Needs.{needs}
+use mathlib.Core.Path.{ap, _∙_}
+use Rattle.control.proofs.transfers.long.Statement.{statement}
+use Rattle.control.proofs.transfers.long.Tie as tie
+
+forward-requires : tie.Need-forward-requires
+forward-requires c κs = search needs
+
+target-requires : tie.Need-target-requires
+target-requires c κs = search needs
+
+at-requires : tie.Need-at-requires
+at-requires c κs = search needs
+
+returns : tie.Need-returns
+returns c = rw (c .at .ensures, c .before .target .ensures, c .before .before .forward .ensures, c .before .before .before .if1 .taken) (search needs)
+
+forward-requires-2 : tie.Need-forward-requires-2
+forward-requires-2 c κs = search needs
+
+at-requires-2 : tie.Need-at-requires-2
+at-requires-2 c κs = search needs
+
+returns-2 : tie.Need-returns-2
+returns-2 c = rw (c .at2 .ensures, c .before .forward2 .ensures, c .before .before .if1 .left)
+
+pub long-spec : {M : Type 1} → statement M
+long-spec =
+    tie.close
+    (tie.spec
+    forward-requires
+    target-requires
+    at-requires
+    returns
+    forward-requires-2
+    at-requires-2
+    returns-2)

@@ -1,0 +1,19 @@
+-- `effect::and` meets its contract.
+use borrow.Author.Needs.{needs}
+use Rattle.data.proofs.effect.and.Statement.{statement}
+use Rattle.data.proofs.effect.and.Tie as tie
+
+accumulator-requires : tie.Need-accumulator-requires
+accumulator-requires c κs = search needs
+
+anded-requires : tie.Need-anded-requires
+anded-requires c κs = search needs
+
+put-requires : tie.Need-put-requires
+put-requires c κs = search needs
+
+returns : tie.Need-returns
+returns c = rw (c .put .ensures, c .before .before .anded .ensures, c .before .before .before .accumulator .ensures)
+
+pub and-spec : {M : Type 1} → statement M
+and-spec = tie.close (tie.spec accumulator-requires anded-requires put-requires returns)

@@ -1,0 +1,19 @@
+-- `effect::decrement` meets its contract.
+use borrow.Author.Needs.{needs}
+use Rattle.data.proofs.effect.decrement.Statement.{statement}
+use Rattle.data.proofs.effect.decrement.Tie as tie
+
+read-requires : tie.Need-read-requires
+read-requires c κs = search needs
+
+decremented-requires : tie.Need-decremented-requires
+decremented-requires c κs = search needs
+
+put-requires : tie.Need-put-requires
+put-requires c κs = search needs
+
+returns : tie.Need-returns
+returns c = rw (c .put .ensures, c .before .before .decremented .ensures, c .before .before .before .read .ensures)
+
+pub decrement-spec : {M : Type 1} → statement M
+decrement-spec = tie.close (tie.spec read-requires decremented-requires put-requires returns)

@@ -1,0 +1,19 @@
+-- `effect::increment` meets its contract.
+use borrow.Author.Needs.{needs}
+use Rattle.data.proofs.effect.increment.Statement.{statement}
+use Rattle.data.proofs.effect.increment.Tie as tie
+
+read-requires : tie.Need-read-requires
+read-requires c κs = search needs
+
+incremented-requires : tie.Need-incremented-requires
+incremented-requires c κs = search needs
+
+put-requires : tie.Need-put-requires
+put-requires c κs = search needs
+
+returns : tie.Need-returns
+returns c = rw (c .put .ensures, c .before .before .incremented .ensures, c .before .before .before .read .ensures)
+
+pub increment-spec : {M : Type 1} → statement M
+increment-spec = tie.close (tie.spec read-requires incremented-requires put-requires returns)

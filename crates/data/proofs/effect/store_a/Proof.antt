@@ -1,0 +1,19 @@
+-- `effect::store_a` meets its contract.
+use borrow.Author.Needs.{needs}
+use Rattle.data.proofs.effect.store_a.Statement.{statement}
+use Rattle.data.proofs.effect.store_a.Tie as tie
+
+accumulator-requires : tie.Need-accumulator-requires
+accumulator-requires c κs = search needs
+
+result-requires : tie.Need-result-requires
+result-requires c κs = search needs
+
+put-requires : tie.Need-put-requires
+put-requires c κs = search needs
+
+returns : tie.Need-returns
+returns c = rw (c .put .ensures, c .before .before .result .ensures, c .before .before .before .accumulator .ensures)
+
+pub store-a-spec : {M : Type 1} → statement M
+store-a-spec = tie.close (tie.spec accumulator-requires result-requires put-requires returns)

@@ -1,0 +1,19 @@
+-- `effect::subtract` meets its contract.
+use borrow.Author.Needs.{needs}
+use Rattle.data.proofs.effect.subtract.Statement.{statement}
+use Rattle.data.proofs.effect.subtract.Tie as tie
+
+accumulator-requires : tie.Need-accumulator-requires
+accumulator-requires c κs = search needs
+
+subtracted-requires : tie.Need-subtracted-requires
+subtracted-requires c κs = search needs
+
+put-requires : tie.Need-put-requires
+put-requires c κs = search needs
+
+returns : tie.Need-returns
+returns c = rw (c .put .ensures, c .before .before .subtracted .ensures, c .before .before .before .accumulator .ensures)
+
+pub subtract-spec : {M : Type 1} → statement M
+subtract-spec = tie.close (tie.spec accumulator-requires subtracted-requires put-requires returns)

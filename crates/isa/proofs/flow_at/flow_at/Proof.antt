@@ -1,0 +1,121 @@
+-- `flow_at::flow_at` meets its contract: decoding's refusals, then where the form continues.
+use borrow.Author.Needs.{needs}
+use mathlib.Core.Path.{sym, _∙_}
+use Rattle.isa.proofs.EntryFlow.{undefined, continues}
+use Rattle.isa.proofs.flow_at.flow_at.Statement.{statement}
+use Rattle.isa.proofs.flow_at.flow_at.Tie as tie
+
+rom-byte-requires : tie.Need-rom-byte-requires
+rom-byte-requires c κs = search needs
+
+enum-known-opcode : tie.Need-enum-known-opcode
+enum-known-opcode c = search needs
+
+enum-told : tie.Need-enum-told
+enum-told c = search needs
+
+returns : tie.Need-returns
+returns c = rw (← c .before .before .rom-byte .ensures, c .enum-told .given .1)
+
+timing-of-requires : tie.Need-timing-of-requires
+timing-of-requires c κs = search needs
+
+operand-byte-requires : tie.Need-operand-byte-requires
+operand-byte-requires c κs = search needs
+
+enum-known-first : tie.Need-enum-known-first
+enum-known-first c = search needs
+
+enum-told-2 : tie.Need-enum-told-2
+enum-told-2 c = search needs
+
+returns-2 : tie.Need-returns-2
+returns-2 c =
+    rw (
+      ← c .before .before .before .before .before .before .before .rom-byte .ensures,
+      c .before .before .before .before .before .opcode .given .1,
+      ← c .before .before .before .timing-of .ensures .0,
+      ← c .before .before .operand-byte .ensures,
+      c .enum-told2 .given .1,
+    )
+
+operand-byte-requires-2 : tie.Need-operand-byte-requires-2
+operand-byte-requires-2 c κs = search needs
+
+enum-known-second : tie.Need-enum-known-second
+enum-known-second c = search needs
+
+enum-told-3 : tie.Need-enum-told-3
+enum-told-3 c = search needs
+
+returns-3 : tie.Need-returns-3
+returns-3 c =
+    rw (
+      ← c .before .before .before .before .before .before .before .before .before .before .before .rom-byte .ensures,
+      c .before .before .before .before .before .before .before .before .before .opcode .given .1,
+      ← c .before .before .before .before .before .before .before .timing-of .ensures .0,
+      ← c .before .before .before .before .before .before .operand-byte .ensures,
+      c .before .before .before .before .first .given .1,
+      ← c .before .before .before .before .before .before .before .timing-of .ensures .0,
+      ← c .before .before .operand-byte2 .ensures,
+      c .enum-told3 .given .1,
+    )
+
+returns-4 : tie.Need-returns-4
+returns-4 c =
+    rw (
+      ← c .before .before .before .before .before .before .before .before .before .before .before .before .before .before .rom-byte .ensures,
+      c .before .before .before .before .before .before .before .before .before .before .before .before .opcode .given .1,
+      ← c .before .before .before .before .before .before .before .before .before .before .timing-of .ensures .0,
+      ← c .before .before .before .before .before .before .before .before .before .operand-byte .ensures,
+      c .before .before .before .before .before .before .before .first .given .1,
+      ← c .before .before .before .before .before .before .before .before .before .before .timing-of .ensures .0,
+      ← c .before .before .before .before .before .operand-byte2 .ensures,
+      c .before .before .before .second .given .1,
+      undefined _ _ _ (sym (c .before .before .before .before .before .before .before .before .before .before .timing-of .ensures .0) ∙ c .if1 .taken),
+    )
+
+flow-by-requires : tie.Need-flow-by-requires
+flow-by-requires c κs = search needs
+
+forward-requires : tie.Need-forward-requires
+forward-requires c κs = search needs
+
+returns-5 : tie.Need-returns-5
+returns-5 c =
+    rw (
+      ← c .before .before .before .before .before .before .before .before .before .before .before .before .before .before .before .before .rom-byte .ensures,
+      c .before .before .before .before .before .before .before .before .before .before .before .before .before .before .opcode .given .1,
+      ← c .before .before .before .before .before .before .before .before .before .before .before .before .timing-of .ensures .0,
+      ← c .before .before .before .before .before .before .before .before .before .before .before .operand-byte .ensures,
+      c .before .before .before .before .before .before .before .before .before .first .given .1,
+      ← c .before .before .before .before .before .before .before .before .before .before .before .before .timing-of .ensures .0,
+      ← c .before .before .before .before .before .before .before .operand-byte2 .ensures,
+      c .before .before .before .before .before .second .given .1,
+      c .before .flow-by .ensures,
+      c .forward .ensures,
+      c .before .before .before .before .before .before .before .before .before .before .before .before .timing-of .ensures .0,
+    )
+    (sym (continues _ _ _ _ (λ none. c .before .before .if1 .left (c .before .before .before .before .before .before .before .before .before .before .before .before .timing-of .ensures .0 ∙ none))))
+
+pub flow-at-spec : {M : Type 1} → statement M
+flow-at-spec =
+    tie.close
+    (tie.spec
+    rom-byte-requires
+    enum-known-opcode
+    enum-told
+    returns
+    timing-of-requires
+    operand-byte-requires
+    enum-known-first
+    enum-told-2
+    returns-2
+    operand-byte-requires-2
+    enum-known-second
+    enum-told-3
+    returns-3
+    returns-4
+    flow-by-requires
+    forward-requires
+    returns-5)

@@ -1,0 +1,104 @@
+// Where the instruction at an address continues, straight from its bytes: what decoding and `flow_of` say, without the instruction in
+// between. For whoever asks nothing else of many addresses.
+use crate::Condition;
+use crate::Continuation;
+use crate::Flow;
+use crate::Refusal;
+use crate::control_flow::long;
+use crate::control_flow::short;
+use crate::displacement::forward;
+use crate::displacement::long_displacement;
+use crate::displacement::short_displacement;
+use crate::map::bit_number;
+use crate::map::extended_target;
+use crate::rom::RomByte;
+use crate::rom::operand_byte;
+use crate::rom::rom_byte;
+use crate::table::timing_of;
+ghost use mathlib.Core.Path.{_≡_};
+ghost use Prim.Native.Nat.{ℕ, _%_};
+ghost use Rattle.isa.specs.Table.{Timings};
+ghost use Rattle.isa.specs.Map.{formOf};
+ghost use Rattle.isa.specs.Rom.{romAt};
+ghost use Rattle.isa.specs.Decode.{withOpcode};
+ghost use Rattle.isa.specs.FlowAt.{flowAs, continuationOf, continuationFrom};
+
+// Column 3: a branch on a bit, JRR in the even rows, JRS in the odd ones.
+fn column_3(opcode: u8, first: u8, second: u8, at: u16) -> Flow
+    requires { ⌜ opcode % 16 ≡ 3 ⌝ }
+    ensures { λ r. ⌜ r ≡ flowAs (formOf opcode first second) at ⌝ }
+{
+    let bit = bit_number(opcode);
+    let displacement = long_displacement(second);
+    if opcode / 16 % 2 == 0 {
+        let clear = Condition::Bit {
+            address: first,
+            bit,
+            value: false,
+        };
+        long(clear, at, displacement)
+    } else {
+        let set = Condition::Bit {
+            address: first,
+            bit,
+            value: true,
+        };
+        long(set, at, displacement)
+    }
+}
+
+// Column D: the returns, STOP and WAIT; the others go on at the next address.
+fn column_d(opcode: u8) -> Flow
+    requires { ⌜ opcode % 16 ≡ 13 ⌝ }
+    ensures { λ r. ⌜ ((first second at : ℕ) → r ≡ flowAs (formOf opcode first second) at) ⌝ }
+{
+    match opcode {
+        0x4D => Flow::ReturnFromInterrupt,
+        0x6D | 0xED => Flow::Sleep,
+        0xCD => Flow::Return,
+        _ => Flow::Next,
+    }
+}
+
+// Where an opcode with the two bytes that follow it continues.
+fn flow_by(opcode: u8, first: u8, second: u8, at: u16) -> Flow
+    ensures { λ r. ⌜ r ≡ flowAs (formOf opcode first second) at ⌝ }
+{
+    match opcode % 16 {
+        0 | 8 => short(Condition::Zero(false), at, short_displacement(opcode)),
+        2 | 10 => short(Condition::Carry(false), at, short_displacement(opcode)),
+        4 | 12 => short(Condition::Zero(true), at, short_displacement(opcode)),
+        6 | 14 => short(Condition::Carry(true), at, short_displacement(opcode)),
+        1 => Flow::Call(extended_target(opcode, first)),
+        9 => Flow::Jump(extended_target(opcode, first)),
+        3 => column_3(opcode, first, second, at),
+        13 => column_d(opcode),
+        _ => Flow::Next,
+    }
+}
+
+// Where the instruction at an address continues, of an image that has a valid length and an address of the program space: for whoever
+// has tested both once. An undefined opcode has length 0.
+pub fn flow_at(table: &[u8; 256], image: &[u8], address: u16) -> Continuation
+    requires { ⌜ Timings (now table) ⌝ }
+    ensures { λ r. ⌜ continuationOf r ≡ continuationFrom address (withOpcode (now (image .entry)) address (romAt (now (image .entry)) address)) ⌝ }
+{
+    let RomByte::Byte(opcode) = rom_byte(image, address) else {
+        return Continuation::Refused(Refusal::OutsideRom(address));
+    };
+    let timing = timing_of(table, opcode);
+    let RomByte::Byte(first) = operand_byte(image, address, 1, timing.length) else {
+        return Continuation::Refused(Refusal::OutsideRom(address));
+    };
+    let RomByte::Byte(second) = operand_byte(image, address, 2, timing.length) else {
+        return Continuation::Refused(Refusal::OutsideRom(address));
+    };
+    if timing.length == 0 {
+        return Continuation::Refused(Refusal::UndefinedOpcode(address));
+    }
+    let flow = flow_by(opcode, first, second, address);
+    Continuation::Valid {
+        flow,
+        next: forward(address, timing.length),
+    }
+}

@@ -1,0 +1,109 @@
+-- A machine that is well formed stays so under every operation.
+use Prim.Native.Nat.{ℕ, zero, suc, _<_}
+use mathlib.Core.Path.{_≡_, refl}
+use mathlib.Core.Bool.{Bool, true, false, not}
+use mathlib.Core.List.{List}
+use native.Mathlib.Omega.{arith}
+use lib.Dec.{leb}
+use lib.ListN.{length, getD, replicate}
+use Rattle.isa.specs.Displacement.{forwardOf}
+use Rattle.isa.specs.RoundTrip.{Bytes}
+use Rattle.isa.specs.ControlFlow.{flowOf}
+use Rattle.isa.specs.Refusals.{plain}
+use Rattle.isa.specs.Rom.{isImage}
+use Rattle.isa.proofs.Targets.{targets-in-range}
+use Rattle.control.specs.WellFormed.{Formed}
+use Rattle.control.specs.Requests.{takeOf}
+use Rattle.control.proofs.StaysWellFormed.{formed-exactly, stays-formed}
+use Rattle.machine.specs.declared.Machine.{Machine}
+use Rattle.machine.specs.Execute.{jumpsOf, executeOf}
+use Rattle.machine.specs.State.{unless, viewOf, isWellFormed, inWindow, withByte, hostStored, hostStoreOf, resetControl, resetOf, Ended, done, refused}
+use Rattle.machine.specs.Step.{Step, Answer, advancedOf, stepOf}
+use Rattle.machine.specs.Step as step
+use Rattle.machine.specs.Run.{Run, joinedBy, continuedBy, stepsOf, requestsFit, refusedRun, runOf}
+use Rattle.machine.specs.Laws.{executionAt, Does, stops, takes, idles, executes, StaysWellFormed}
+use Rattle.machine.proofs.StepDoes.{step-does, Tested, refuses, passes, step-tested}
+
+-- the machine after a step is well formed
+abbrev pub FormedStep : Step → Type 0
+FormedStep s = isWellFormed (s .machine) ≡ true
+
+module _ (image : List ℕ) (all : Bytes image) (m : Machine) (formed : isWellFormed m ≡ true) (request : ℕ) where
+  facts : Formed (m .stack) (m .control)
+  facts = formed-exactly .facts (m .stack) (m .control) formed
+
+  by-case : (s : Step) → Does image m request s → FormedStep s
+  unfolding executeOf
+  by-case _ (stops r is) = formed
+  by-case _ (takes source e none) =
+      formed-exactly .test _ _ (stays-formed .by-request (m .stack) (m .control) facts source)
+  by-case _ (idles none asleep) = formed
+  by-case _ (executes i bytes cycles none awake at goes) =
+      formed-exactly .test _ _
+      (stays-formed .by-flow (m .stack) (m .control) facts (flowOf i (m .control .pc)) (targets-in-range image all (m .control .pc) i bytes cycles at)
+      (jumpsOf image (viewOf m) (flowOf i (m .control .pc))) (forwardOf (m .control .pc) bytes) (omega arith))
+
+  advance-formed : isImage (length image) ≡ true → FormedStep (advancedOf image m request)
+  advance-formed size = by-case _ (step-does image m request size formed)
+
+  -- of what the program was handed
+  pub formed-step : isImage (length image) ≡ true → (s : Step) → s ≡ advancedOf image m request → FormedStep s
+  formed-step size s e = rw e (advance-formed size)
+
+  -- a step, refused or not
+  by-test : (s : Step) → Tested image m request s → FormedStep s
+  by-test _ (refuses r) = formed
+  by-test _ (passes size w) = advance-formed size
+
+  by-step : FormedStep (stepOf image m request)
+  by-step = by-test _ (step-tested image m request)
+
+-- a run, step by step
+module _ (image : List ℕ) (all : Bytes image) (requests : List ℕ) (m : Machine) (formed : isWellFormed m ≡ true) where
+  joined : (r : Run) (n : Machine) (a : Answer) → isWellFormed n ≡ true → isWellFormed (joinedBy r n a .machine) ≡ true
+  joined r n (step.done cycles) f = f
+  joined r n (step.refused reason) f = f
+
+  continued : (r : Run) (request : ℕ) (ending : Ended) → isWellFormed (r .machine) ≡ true → isWellFormed (continuedBy image r request ending .machine) ≡ true
+  continued r request done f = joined r (stepOf image (r .machine) request .machine) (stepOf image (r .machine) request .answer) (by-step image all (r .machine) f request)
+  continued r request (refused reason) f = f
+
+  by-steps : (n : ℕ) → isWellFormed (stepsOf image requests m n .machine) ≡ true
+  unfolding stepsOf
+  by-steps zero = formed
+  by-steps (suc n) = continued (stepsOf image requests m n) (getD requests n 0) (stepsOf image requests m n .report .ending) (by-steps n)
+
+  by-run : (n : ℕ) → isWellFormed (runOf image m requests n .machine) ≡ true
+  unfolding runOf
+  by-run n = by-tests (isImage (length image)) (isWellFormed m) (leb n 65535) (requestsFit requests n)
+    where
+      by-tests : (a b c d : Bool) → isWellFormed (unless a (refusedRun m (plain 1)) (unless b (refusedRun m (plain 2)) (unless c (refusedRun m (plain 12)) (unless d (refusedRun m (plain 11)) (stepsOf image requests m n)))) .machine) ≡ true
+      by-tests false b c d = formed
+      by-tests true false c d = formed
+      by-tests true true false d = formed
+      by-tests true true true false = formed
+      by-tests true true true true = by-steps n
+
+by-store : (m : Machine) → isWellFormed m ≡ true → (a value : ℕ) → isWellFormed (hostStoreOf m a value .machine) ≡ true
+unfolding hostStoreOf
+by-store m formed a value = by-tests (isWellFormed m) (not (inWindow a))
+  where
+    by-tests : (b c : Bool) → isWellFormed (unless b (hostStored m (refused (plain 2))) (unless c (hostStored m (refused (plain 10))) (hostStored (withByte m a value) done)) .machine) ≡ true
+    by-tests false c = formed
+    by-tests true false = formed
+    by-tests true true = formed
+
+by-reset : (m : Machine) → isWellFormed (resetOf m) ≡ true
+unfolding resetOf
+by-reset m =
+    formed-exactly .test (replicate 6 0) resetControl
+    (record { pc = omega arith; levels = omega arith; addresses = λ k h. absurd (omega arith) })
+
+pub stays-well-formed : StaysWellFormed
+stays-well-formed = record {
+  by-step = λ image all m formed request. by-step image all m formed request;
+  by-steps = by-steps;
+  by-run = λ image all m formed requests n. by-run image all requests m formed n;
+  by-store = by-store;
+  by-reset = by-reset;
+}

@@ -1,0 +1,95 @@
+-- `step::step` meets its contract.
+use borrow.Author.Needs.{needs}
+use mathlib.Core.Path.{sym, _∙_}
+use native.Mathlib.Omega.{arith}
+use borrow.Author.Tests.{not-true, not-false}
+use Rattle.machine.specs.Step.{stepOf}
+use Rattle.machine.proofs.Steps.{fit-one, one-step}
+use Rattle.machine.proofs.step.step.Statement.{statement}
+use Rattle.machine.proofs.step.step.Tie as tie
+
+is-image-length-requires : tie.Need-is-image-length-requires
+is-image-length-requires c κs = search needs
+
+refused-step-requires : tie.Need-refused-step-requires
+refused-step-requires c κs = search needs
+
+returns : tie.Need-returns
+unfolding stepOf
+returns c =
+    rw (
+      ← c .before .before .is-image-length .ensures,
+      not-true (c .before .before .is-image-length .result) (c .before .if1 .taken),
+    )
+    (c .refused-step .ensures)
+
+is-well-formed-requires : tie.Need-is-well-formed-requires
+is-well-formed-requires c κs = search needs
+
+refused-step-requires-2 : tie.Need-refused-step-requires-2
+refused-step-requires-2 c κs = search needs
+
+returns-2 : tie.Need-returns-2
+unfolding stepOf
+returns-2 c =
+    rw (
+      ← c .before .before .before .before .before .before .before .is-image-length .ensures,
+      not-false (c .before .before .before .before .before .before .before .is-image-length .result) (c .before .before .before .before .before .before .if1 .left),
+      ← c .before .before .is-well-formed .ensures,
+      not-true (c .before .before .is-well-formed .result) (c .before .if2 .taken),
+    )
+    (c .refused-step2 .ensures)
+
+names-only-sources-requires : tie.Need-names-only-sources-requires
+names-only-sources-requires c κs = search needs
+
+refused-step-requires-3 : tie.Need-refused-step-requires-3
+refused-step-requires-3 c κs = search needs
+
+returns-3 : tie.Need-returns-3
+unfolding stepOf
+returns-3 c =
+    rw (
+      ← c .before .before .before .before .before .before .before .before .before .is-image-length .ensures,
+      not-false (c .before .before .before .before .before .before .before .before .before .is-image-length .result) (c .before .before .before .before .before .before .before .before .if1 .left),
+      ← c .before .before .before .before .is-well-formed .ensures,
+      not-false (c .before .before .before .before .is-well-formed .result) (c .before .before .before .if2 .left),
+      ← c .before .before .names-only-sources .ensures,
+      not-true (c .before .before .names-only-sources .result) (c .before .if3 .taken),
+    )
+    (c .refused-step3 .ensures)
+
+slice-aggregate-on-copy : tie.Need-slice-aggregate-on-copy
+slice-aggregate-on-copy c = search needs
+
+on-copy-requires : tie.Need-on-copy-requires
+on-copy-requires c κs = (
+  omega arith,
+  sym (c .before .before .before .before .before .before .before .before .before .is-image-length .ensures) ∙ not-false _ (c .before .before .before .before .before .before .before .before .if1 .left),
+  sym (c .before .before .before .before .is-well-formed .ensures) ∙ not-false _ (c .before .before .before .if2 .left),
+  fit-one _ (sym (c .before .before .names-only-sources .ensures) ∙ not-false _ (c .before .if3 .left)),
+)
+
+step-answer-requires : tie.Need-step-answer-requires
+step-answer-requires c κs = c .before .before .on-copy .ensures .1
+
+returns-4 : tie.Need-returns-4
+returns-4 c = rw (c .step-answer .ensures) (one-step _ _ _ _ (c .before .before .before .on-copy .ensures .0))
+
+pub step-spec : {M : Type 1} → statement M
+step-spec =
+    tie.close
+    (tie.spec
+    is-image-length-requires
+    refused-step-requires
+    returns
+    is-well-formed-requires
+    refused-step-requires-2
+    returns-2
+    names-only-sources-requires
+    refused-step-requires-3
+    returns-3
+    slice-aggregate-on-copy
+    on-copy-requires
+    step-answer-requires
+    returns-4)
