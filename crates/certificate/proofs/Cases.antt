@@ -1,6 +1,8 @@
 -- Document 01's bench cases of the check, computed.
 use mathlib.Core.Path.{refl}
 use Rattle.isa.specs.Map
+use Rattle.isa.specs.Table
+use Rattle.isa.specs.Rom
 use Rattle.isa.specs.Decode
 use Rattle.isa.specs.ControlFlow
 use Rattle.certificate.specs.Marks
@@ -10,7 +12,7 @@ use Rattle.certificate.specs.Check.{checkOf, marksFound, markFound, deco
 use Rattle.certificate.specs.Cases.{CheckCases}
 
 pub check-cases : CheckCases
-unfolding checkOf marksFound markFound decodedFound flowFound vectorsFound sourceFound vectorFound Marks.markAt Marks.kindAt Marks.needAt Successors.placed Successors.successorsOf Successors.allHaveKind Successors.coversAll Levels.sourceLevels Levels.levelsFor Levels.levelsOf Map.entryOf Map.bytesOf Map.cyclesOf Map.formAs Map.formOf Decode.romAt Decode.operandAt Decode.decodeAt Flow.flowOf
+unfolding checkOf marksFound markFound decodedFound flowFound vectorsFound sourceFound vectorFound Marks.markAt Marks.kindAt Marks.needAt Successors.placed Successors.successorsOf Successors.allHaveKind Successors.coversAll Levels.sourceLevels Levels.levelsFor Levels.levelsOf Map.entryOf Table.bytesOf Table.cyclesOf Map.formAs Map.formOf Rom.romAt Rom.operandAt Decode.decodeAt ControlFlow.flowOf
 check-cases =
     record {
       p11 = refl;
