@@ -6,14 +6,14 @@ use mathlib.Core.Bool.{Bool, true, false, cond, not, _&&_}
 use mathlib.Core.List.{List, [], _∷_}
 use lib.Dec.{leb}
 use lib.ListN.{length, getD}
-use Rattle.isa.specs.Refusals.{plain}
+use Rattle.isa.specs.Refusals.{plain, Answer, Ended, done, refused, unless}
 use Rattle.isa.specs.Sources.{namesOnlySources}
 use Rattle.control.specs.declared.Mode.{Mode}
 use Rattle.machine.specs.declared.Machine.{Machine}
 use Rattle.machine.specs.State as state
-use Rattle.machine.specs.State.{unless, Ended, HostStore, withByte, inWindow, hostStoreOf, resetOf}
+use Rattle.machine.specs.State.{HostStore, withByte, inWindow, hostStoreOf, resetOf}
 use Rattle.machine.specs.Step as stepping
-use Rattle.machine.specs.Step.{Answer, stepOf}
+use Rattle.machine.specs.Step.{stepOf}
 use Rattle.machine.specs.Run.{Run, refusedRun, joinedBy, continuedBy, stepsOf, requestsFit, runOf}
 use Rattle.machine.proofs.Steps.{fits-at}
 use Rattle.certificate.specs.Rules.{Rules}
@@ -46,11 +46,11 @@ move-balances (moves.begins e) t b = b
 move-balances (moves.takes a w) t b = omega arith
 
 -- the machine after one more step of a run
-joined-machine : (r : Run) (m : Machine) (a : Answer) → joinedBy r m a .machine ≡ m
-joined-machine r m (stepping.done cycles) = refl
-joined-machine r m (stepping.refused n) = refl
+joined-machine : (r : Run) (m : Machine) (a : Answer ℕ) → joinedBy r m a .machine ≡ m
+joined-machine r m (done cycles) = refl
+joined-machine r m (refused n) = refl
 
-continued-machine : (image : List ℕ) (r : Run) (request : ℕ) (e : Ended) → e ≡ state.done
+continued-machine : (image : List ℕ) (r : Run) (request : ℕ) (e : Ended) → e ≡ done tt
     → continuedBy image r request e .machine ≡ stepOf image (r .machine) request .machine
 continued-machine image r request e q =
     rw q (joined-machine r (stepOf image (r .machine) request .machine) (stepOf image (r .machine) request .answer))
@@ -102,7 +102,7 @@ module _ (image certificate : List ℕ) (wired number : ℕ) (ok : Rules image c
     store-balances address value = rw (well-formed image certificate wired number ok m g) (by-test (not (inWindow address)))
       where
         stored : (outside : Bool) → HostStore
-        stored outside = unless outside (record { machine = m; ending = state.refused (plain 10) }) (record { machine = withByte m address value; ending = state.done })
+        stored outside = unless outside (record { machine = m; ending = refused (plain 10) }) (record { machine = withByte m address value; ending = (done tt) })
 
         by-test : (outside : Bool) → BalancesAt (stored outside .machine) t
         by-test true = b

@@ -7,12 +7,12 @@ use mathlib.Core.Bool.{Bool, true, false, not, false≢true}
 use mathlib.Core.List.{List, [], _∷_}
 use lib.Dec.{leb}
 use lib.ListN.{getD}
-use Rattle.isa.specs.Refusals.{plain}
+use Rattle.isa.specs.Refusals.{plain, done, refused, unless}
 use Rattle.isa.specs.Sources.{namesOnlySources}
 use Rattle.isa.specs.declared.Source.the-variants.{Nmi, First, Second, Third, Fourth}
 use Rattle.machine.specs.declared.Machine.{Machine}
 use Rattle.machine.specs.State as state
-use Rattle.machine.specs.State.{unless, HostStore, withByte, inWindow, hostStoreOf, resetOf}
+use Rattle.machine.specs.State.{HostStore, withByte, inWindow, hostStoreOf, resetOf}
 use Rattle.machine.specs.Step.{Step, stepOf}
 use Rattle.machine.specs.Run.{Run, refusedRun, stepsOf, requestsFit, runOf}
 use Rattle.machine.proofs.Steps.{fits-at}
@@ -55,7 +55,7 @@ module _ (image certificate : List ℕ) (wired number : ℕ) (ok : Rules image c
     store-kept address value = rw (well-formed image certificate wired number ok m g) (by-test (not (inWindow address)))
       where
         by-test : (outside : Bool)
-            → StoreKept (unless outside (record { machine = m; ending = state.refused (plain 10) }) (record { machine = withByte m address value; ending = state.done }))
+            → StoreKept (unless outside (record { machine = m; ending = refused (plain 10) }) (record { machine = withByte m address value; ending = (done tt) }))
         by-test true = (inr (record { ending = refl }), g)
         by-test false = (inl (record { refusal = refl; same = refl }), g)
 

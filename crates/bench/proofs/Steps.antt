@@ -8,11 +8,10 @@ use mathlib.Core.List.{List}
 use lib.Dec.{leb}
 use lib.ListN.{length, getD}
 use Rattle.isa.specs.Rom.{isImage}
-use Rattle.isa.specs.Refusals.{plain}
+use Rattle.isa.specs.Refusals.{plain, done, unless}
 use Rattle.isa.specs.Sources.{namesOnlySources}
 use Rattle.machine.specs.declared.Machine.{Machine}
 use Rattle.machine.specs.State as state
-use Rattle.machine.specs.State.{unless}
 use Rattle.machine.specs.Step.{refusedOf, stepOf}
 use Rattle.machine.specs.Run.{Run, refusedRun, continuedOf, stepsOf, requestsFit, runOf}
 use Rattle.machine.proofs.Steps.{step-advances}
@@ -32,7 +31,7 @@ FirstKnown requests n = (i : ℕ) → i < n → namesOnlySources (getD requests 
 
 -- n steps complete, and the machine has frames again
 pub record AllGo (certificate : List ℕ) (wired n : ℕ) (r : Run) : Type 0 where
-  pub ending : r .report .ending ≡ state.done
+  pub ending : r .report .ending ≡ done tt
   pub all : r .report .steps ≡ n
   pub framed : FramedMachine certificate wired (r .machine)
 

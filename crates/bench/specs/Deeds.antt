@@ -2,6 +2,7 @@
 use Prim.Native.Nat.{ℕ}
 use mathlib.Core.Bool.{cond}
 use mathlib.Core.List.{List}
+use Rattle.isa.specs.Refusals.{Answer, done, refused}
 use Rattle.isa.specs.Decode as decode
 use Rattle.isa.specs.Decode.{decodeAt}
 use Rattle.isa.specs.ControlFlow.{flowOf}
@@ -42,9 +43,9 @@ flowDeed c flow.ReturnFromInterrupt = cond (endsStartUp c) began left
 flowDeed c flow.Sleep = other
 
 -- "4 and 5 as in decoding": of what stands at PC
-unfoldable pub decodedDeed : Control → decode.Answer → Deed
-decodedDeed c (decode.instruction i bytes cycles) = flowDeed c (flowOf i (c .pc))
-decodedDeed c (decode.refused r) = other
+unfoldable pub decodedDeed : Control → Answer decode.Decoding → Deed
+decodedDeed c (done (decode.instruction i bytes cycles)) = flowDeed c (flowOf i (c .pc))
+decodedDeed c (refused r) = other
 
 -- "a sleeping step with nothing to take is idle"
 unfoldable pub unrequestedDeed : (image : List ℕ) → Control → Deed

@@ -5,7 +5,7 @@ use mathlib.Core.Path.{_≡_}
 use mathlib.Core.Logic.{_⊎_}
 use mathlib.Core.List.{List, [], _∷_}
 use lib.ListN.{length, getD}
-use Rattle.isa.specs.Refusals.{plain}
+use Rattle.isa.specs.Refusals.{plain, done, refused}
 use Rattle.control.specs.Stack.{inUse}
 use Rattle.machine.specs.declared.Machine.{Machine}
 use Rattle.machine.specs.State as state
@@ -26,17 +26,17 @@ levelsInUse m = length (returnAddresses m)
 
 -- a step is refused with a number: "a refused call leaves the machine as it was"
 pub record StepRefused (m : Machine) (number : ℕ) (s : Step) : Type 0 where
-  pub refusal : s .answer ≡ stepping.refused (plain number)
+  pub refusal : s .answer ≡ refused (plain number)
   pub same : s .machine ≡ m
 
 -- a step is done: it is not refused, and "no step ever stops", since a stop is an answer `refused` too
 pub record StepDone (s : Step) : Type 0 where
   pub cycles : ℕ
-  pub answer : s .answer ≡ stepping.done cycles
+  pub answer : s .answer ≡ done cycles
 
 -- a run is refused with a number: "these report 0 steps, 0 cycles", and the machine is as it was
 pub record RunRefused (m : Machine) (number : ℕ) (r : Run) : Type 0 where
-  pub refusal : r .report .ending ≡ state.refused (plain number)
+  pub refusal : r .report .ending ≡ refused (plain number)
   pub no-steps : r .report .steps ≡ 0
   pub no-cycles : r .report .cycles ≡ 0
   pub same : r .machine ≡ m
@@ -44,7 +44,7 @@ pub record RunRefused (m : Machine) (number : ℕ) (r : Run) : Type 0 where
 -- a run that is not refused
 pub record RunDone (image : List ℕ) (number : ℕ) (requests : List ℕ) (m : Machine) (n : ℕ) (r : Run) : Type 0 where
   -- it does not end early, and is its n single steps
-  pub ending : r .report .ending ≡ state.done
+  pub ending : r .report .ending ≡ done tt
   pub steps : r ≡ stepsOf image requests m n
   -- "every run not refused completes all the steps it was asked for"; "a run not refused reports n steps"
   pub all : r .report .steps ≡ n
@@ -55,12 +55,12 @@ pub record RunDone (image : List ℕ) (number : ℕ) (requests : List ℕ) (m : 
 
 -- a host store is refused with a number, and leaves the machine as it was
 pub record StoreRefused (m : Machine) (number : ℕ) (s : HostStore) : Type 0 where
-  pub refusal : s .ending ≡ state.refused (plain number)
+  pub refusal : s .ending ≡ refused (plain number)
   pub same : s .machine ≡ m
 
 -- a host store is done
 pub record StoreDone (s : HostStore) : Type 0 where
-  pub ending : s .ending ≡ state.done
+  pub ending : s .ending ≡ done tt
 
 -- "a step is refused only with 11, a run only with 12 or 11, a host store only with 10, and reset never"; else each is done
 abbrev pub Keeps : (image : List ℕ) → (number : ℕ) → Call → Machine → Type 0

@@ -4,13 +4,14 @@ use mathlib.Core.Path.{_≡_}
 use mathlib.Core.Bool.{Bool, true, false}
 use mathlib.Core.List.{List, [], _∷_}
 use lib.ListN.{getD, set, replicate}
+use Rattle.isa.specs.Refusals.{done}
 use Rattle.isa.specs.Cases.{placed}
 use Rattle.control.specs.declared.Mode.the-variants.{Normal}
 use Rattle.control.specs.Stack.{inUse}
 use Rattle.machine.specs.declared.Machine.{Machine}
 use Rattle.machine.specs.Pairs.{pairOf}
 use Rattle.machine.specs.State.{machineOf, clearedFlags}
-use Rattle.machine.specs.Step.{Step, done, stepOf}
+use Rattle.machine.specs.Step.{Step, stepOf}
 use Rattle.certificate.specs.Cases.{P11, P12}
 
 -- data bytes, all 0 but A and one cell

@@ -4,7 +4,8 @@ use mathlib.Core.Path.{_≡_, refl}
 use mathlib.Core.Logic.{inl, inr}
 use mathlib.Core.Bool.{Bool, true, false}
 use mathlib.Core.List.{List, [], _∷_, _++_}
-use Rattle.certificate.specs.Check.{Found, passes, fault, unless, andThen, verdict}
+use Rattle.isa.specs.Refusals.{unless}
+use Rattle.certificate.specs.Check.{Found, passes, fault, andThen, verdict}
 use Rattle.certificate.specs.Refusals.{Question, None, FirstApplies, Described}
 
 -- a finding answers questions: it passes where none applies, and is a fault with the first that does
@@ -29,7 +30,7 @@ skip q {qs} {f} not-so d = record { decided = skip-it q qs f not-so (d .decided)
 
 -- a test that answers a question, before others, which may take for granted that it passed
 pub ask : (q : Question) {qs : List Question} (t : Bool) (f : Found) → (t ≡ true → q .Applies → ⊥) → (t ≡ false → q .Applies)
-    → (t ≡ true → Decides qs f) → Decides (q ∷ qs) (unless t (q .refusal) f)
+    → (t ≡ true → Decides qs f) → Decides (q ∷ qs) (unless t (fault (q .refusal)) f)
 ask q true f not-so is-so more = skip q (not-so refl) (more refl)
 ask q false f not-so is-so more = record { decided = inl (is-so refl, refl) }
 

@@ -10,29 +10,29 @@ use lib.Dec.{ltb, leb, eqb}
 use lib.ListN.{length, getD}
 use Rattle.isa.specs.Decode as decode
 use Rattle.isa.specs.Rom.{isImage, romAt}
-use Rattle.isa.specs.Decode.{Answer, decodeAt}
+use Rattle.isa.specs.Decode.{Decoding, decodeAt}
 use Rattle.isa.specs.FlowAt as flowAt
 use Rattle.isa.specs.FlowAt.{Continuing, continuationFrom}
-use Rattle.isa.specs.Refusals.{Numbered, located}
+use Rattle.isa.specs.Refusals.{Numbered, located, Answer, done, refused, unless}
 use Rattle.certificate.specs.Marks.{markAt, WellFormed, kindOf, lowest}
-use Rattle.certificate.specs.Check.{Found, passes, fault, unless, flowFound, decodedFound, markFound}
+use Rattle.certificate.specs.Check.{Found, passes, fault, flowFound, decodedFound, markFound}
 
 -- a marked address: 14, then what decoding answers
 pub marked : (image certificate : List ℕ) (a mark : ℕ) → mark ≢ 0
-    → markFound image certificate a mark ≡ unless (ltb 0 (kindOf mark)) (located 14 a) (decodedFound certificate a mark (decodeAt image a))
+    → markFound image certificate a mark ≡ unless (ltb 0 (kindOf mark)) (fault (located 14 a)) (decodedFound certificate a mark (decodeAt image a))
 unfolding markFound
 marked image certificate a zero n = absurd (n refl)
 marked image certificate a (suc m) n = refl
 
 -- what decoding answers is found by where its instruction continues alone
-abbrev pub continuationFound : List ℕ → (a mark : ℕ) → Continuing → Found
-continuationFound certificate a mark (flowAt.goes f next) = flowFound certificate a mark f next
-continuationFound certificate a mark (flowAt.refused refusal) = fault refusal
+abbrev pub continuationFound : List ℕ → (a mark : ℕ) → Answer Continuing → Found
+continuationFound certificate a mark (done (flowAt.goes f next)) = flowFound certificate a mark f next
+continuationFound certificate a mark (refused refusal) = fault refusal
 
-pub by-continuation : (certificate : List ℕ) (a mark : ℕ) (answer : Answer) → decodedFound certificate a mark answer ≡ continuationFound certificate a mark (continuationFrom a answer)
+pub by-continuation : (certificate : List ℕ) (a mark : ℕ) (answer : Answer Decoding) → decodedFound certificate a mark answer ≡ continuationFound certificate a mark (continuationFrom a answer)
 unfolding decodedFound
-by-continuation certificate a mark (decode.instruction i bytes cycles) = refl
-by-continuation certificate a mark (decode.refused refusal) = refl
+by-continuation certificate a mark (done (decode.instruction i bytes cycles)) = refl
+by-continuation certificate a mark (refused refusal) = refl
 
 -- a finding does not both pass and fail
 pub not-both : {r : Numbered} → fault r ≡ passes → ⊥

@@ -11,10 +11,10 @@ use lib.ListN.{length, getD}
 use borrow.Author.Tests.{leb-true, leb-false, ltb-true, ltb-false, eqb-true, eqb-false}
 use Rattle.isa.specs.Decode as decode
 use Rattle.isa.specs.Rom.{isImage}
-use Rattle.isa.specs.Decode.{Answer, decodeAt}
+use Rattle.isa.specs.Decode.{Decoding, decodeAt}
 use Rattle.isa.specs.Displacement.{forwardOf}
 use Rattle.isa.specs.ControlFlow.{flowOf}
-use Rattle.isa.specs.Refusals.{located}
+use Rattle.isa.specs.Refusals.{located, Answer, done, refused, unless}
 use Rattle.isa.specs.Sources.{isNamed, namesOnlySources, vectorOf}
 use Rattle.isa.specs.declared.Flow.{Flow}
 use Rattle.isa.specs.declared.Flow.the-variants as flow
@@ -24,7 +24,7 @@ use Rattle.certificate.specs.declared.Successor.{Successor}
 use Rattle.certificate.specs.Marks.{markAt, Marked, kindOf, kindAt, needAt, lowest}
 use Rattle.certificate.specs.Successors.{placed, successorsOf, every, hasKind, allHaveKind, covers, coversAll}
 use Rattle.certificate.specs.Levels.{levelsOf}
-use Rattle.certificate.specs.Check.{passes, unless, flowFound, decodedFound, markFound, marksFound, vectorFound, sourceFound, vectorsFound, levelsFound, checkOf}
+use Rattle.certificate.specs.Check.{passes, fault, flowFound, decodedFound, markFound, marksFound, vectorFound, sourceFound, vectorsFound, levelsFound, checkOf}
 use Rattle.certificate.specs.Refusals.{Some, Misplaced, WrongKind, TooSmall, malformed, outsideRom, undefinedOpcode, misplacedReturn, successorKind, needTooSmall, atInstruction, atMark, atMarks, startUp, atSource, atVectors, imageLength, certificateLength, unknownSource, tooManyLevels, AnswersFirst}
 use Rattle.certificate.proofs.Facts.{well-formed, kind-of, mark-is, both-true, image-length, at-most-4096}
 use Rattle.isa.proofs.AtAddress.{AtAddress, at-address, defined}
@@ -102,14 +102,14 @@ module _ (certificate : List ℕ) where
       (λ s e. leb-false (needAt certificate (s .address) + s .levels) need e)
 
   -- 4, 5, 15, 16, 17 at a marked address, by what decoding answers
-  decoded-decides : (a : ℕ) (d : Answer) → AtAddress a d → Marked certificate a
+  decoded-decides : (a : ℕ) (d : Answer Decoding) → AtAddress a d → Marked certificate a
       → Decides (atInstruction certificate d a) (decodedFound certificate a (markAt certificate a) d)
   unfolding decodedFound flowFound kindAt needAt
-  decoded-decides a (decode.refused r) (inl e) n = record { decided = inl ((n, ap decode.refused e), e) }
-  decoded-decides a (decode.refused r) (inr e) n =
-      record { decided = inr ((λ p. let q = p .1 in let z : _≡_ {A = ℕ} 0 1 = cc in omega arith), inl ((n, ap decode.refused e), e)) }
-  decoded-decides a (decode.instruction i bytes cycles) w n =
-      let d = decode.instruction i bytes cycles in
+  decoded-decides a (refused r) (inl e) n = record { decided = inl ((n, ap refused e), e) }
+  decoded-decides a (refused r) (inr e) n =
+      record { decided = inr ((λ p. let q = p .1 in let z : _≡_ {A = ℕ} 0 1 = cc in omega arith), inl ((n, ap refused e), e)) }
+  decoded-decides a (done (decode.instruction i bytes cycles)) w n =
+      let d = done (decode.instruction i bytes cycles) in
       let kind = kindAt certificate a in
       let need = needAt certificate a in
       let successors = successorsOf (kindAt certificate a) (flowOf i a) (forwardOf a bytes) in
@@ -124,7 +124,7 @@ module _ (certificate : List ℕ) where
       (λ _. nothing)))))
 
   -- the questions of an unmarked address: none applies
-  unmarked-decides : (a : ℕ) (d : Answer) → markAt certificate a ≡ 0 → Decides (atMark certificate d a) passes
+  unmarked-decides : (a : ℕ) (d : Answer Decoding) → markAt certificate a ≡ 0 → Decides (atMark certificate d a) passes
   unmarked-decides a d e = record { decided = (λ p. p .0 e, (λ p. p .0 e, (λ p. p .0 e, (λ p. p .0 e, (λ p. p .0 e, (λ p. p .0 e, tt)))))) }
 
   -- the mark at an address
@@ -167,7 +167,7 @@ module _ (certificate : List ℕ) where
   source-decides wired s = go (isNamed wired s) refl
     where
       go : (w : Bool) → isNamed wired s ≡ w
-          → Decides (atSource certificate wired s ∷ []) (cond w (unless (eqb (kindAt certificate (vectorOf s)) 3) (located 18 (vectorOf s)) passes) passes)
+          → Decides (atSource certificate wired s ∷ []) (cond w (unless (eqb (kindAt certificate (vectorOf s)) 3) (fault (located 18 (vectorOf s))) passes) passes)
       go true w =
           ask (atSource certificate wired s) (eqb (kindAt certificate (vectorOf s)) 3) passes
           (λ t p. p .1 (eqb-true _ 3 t)) (λ t. (w, eqb-false _ 3 t)) (λ _. nothing)

@@ -11,8 +11,8 @@ use lib.ListN.{length, getD}
 use borrow.Author.Tests.{leb-true, ltb-true, eqb-true}
 use Rattle.isa.specs.Decode as decode
 use Rattle.isa.specs.Rom.{isImage, romAt}
-use Rattle.isa.specs.Decode.{Answer, decodeAt}
-use Rattle.isa.specs.Refusals.{Numbered, plain, located}
+use Rattle.isa.specs.Decode.{Decoding, decodeAt}
+use Rattle.isa.specs.Refusals.{Numbered, plain, located, Answer, done, refused, unless}
 use Rattle.isa.specs.Sources.{isNamed, namesOnlySources, vectorOf}
 use Rattle.isa.specs.Displacement.{forwardOf}
 use Rattle.isa.specs.ControlFlow.{flowOf}
@@ -24,12 +24,12 @@ use Rattle.isa.specs.declared.rom.RomByte.the-variants.{Byte, Outside}
 use Rattle.certificate.specs.Marks.{markIn, markAt, Marked, WellFormed, kindOf, kindAt, needAt, lowest}
 use Rattle.certificate.specs.Successors.{placed, successorsOf, allHaveKind, coversAll}
 use Rattle.certificate.specs.Levels.{levelsOf}
-use Rattle.certificate.specs.Check.{accepted, refused, Found, passes, fault, unless, andThen, flowFound, decodedFound, markFound, marksFound, vectorFound, sourceFound, vectorsFound, rulesFound, verdict, checkOf}
+use Rattle.certificate.specs.Check.{accepted, Found, passes, fault, andThen, flowFound, decodedFound, markFound, marksFound, vectorFound, sourceFound, vectorsFound, rulesFound, verdict, checkOf}
 use Rattle.certificate.proofs.Facts.{marked, not-both, well-formed, both-true, image-length, at-most-4096}
 use Rattle.certificate.specs.Rules.{Continues, EndsStartUp, FlowRule, Lawful, Rules}
 
 -- a test that passes
-unless-passes : (t : Bool) (r : Numbered) (more : Found) → unless t r more ≡ passes → (t ≡ true) × (more ≡ passes)
+unless-passes : (t : Bool) (r : Numbered) (more : Found) → unless t (fault r) more ≡ passes → (t ≡ true) × (more ≡ passes)
 unless-passes true r more e = (refl, e)
 unless-passes false r more e = absurd (not-both e)
 
@@ -143,12 +143,12 @@ lawful image certificate a n e =
     let s = unless-passes (ltb 0 (kindOf (markAt certificate a))) (located 14 a) _ (sym (marked image certificate a (markAt certificate a) n) ∙ e) in
     go (well-formed (markAt certificate a) (ltb-true 0 (kindOf (markAt certificate a)) (s .0))) (decodeAt image a) refl (s .1)
   where
-    go : WellFormed (markAt certificate a) → (d : Answer) → decodeAt image a ≡ d → decodedFound certificate a (markAt certificate a) d ≡ passes
+    go : WellFormed (markAt certificate a) → (d : Answer Decoding) → decodeAt image a ≡ d → decodedFound certificate a (markAt certificate a) d ≡ passes
         → Lawful image certificate a
-    go w (decode.instruction i bytes cycles) d e =
+    go w (done (decode.instruction i bytes cycles)) d e =
         let rule = flow-rule certificate a (flowOf i a) (forwardOf a bytes) e in
         record { mark = w; runs = record { instruction = i; bytes = bytes; cycles = cycles; decodes = d; rule = rule } }
-    go w (decode.refused r) d e = absurd (not-both e)
+    go w (refused r) d e = absurd (not-both e)
 
 -- the vectors
 vector-kind : (certificate : List ℕ) (vector kind : ℕ) → vectorFound certificate vector kind ≡ passes → kindAt certificate vector ≡ kind

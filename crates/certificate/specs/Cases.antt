@@ -4,8 +4,8 @@ use mathlib.Core.Path.{_≡_}
 use mathlib.Core.List.{List, [], _∷_}
 use lib.ListN.{replicate}
 use lib.Seq.{sets}
-use Rattle.isa.specs.Refusals.{plain, located}
-use Rattle.certificate.specs.Check.{accepted, refused, checkOf}
+use Rattle.isa.specs.Refusals.{plain, located, refused}
+use Rattle.certificate.specs.Check.{accepted, checkOf}
 
 -- a 2K image or certificate of 00h
 abbrev blank : List ℕ

@@ -6,10 +6,10 @@ use lib.Dec.{leb, ltb, eqb}
 use lib.ListN.{length}
 use Rattle.isa.specs.Decode as decode
 use Rattle.isa.specs.Rom.{isImage}
-use Rattle.isa.specs.Decode.{Answer, decodeAt}
+use Rattle.isa.specs.Decode.{Decoding, decodeAt}
 use Rattle.isa.specs.Displacement.{forwardOf}
 use Rattle.isa.specs.ControlFlow.{flowOf}
-use Rattle.isa.specs.Refusals.{Numbered, plain, located, numbered}
+use Rattle.isa.specs.Refusals.{Numbered, plain, located, numbered, Answer, done, refused, unless}
 use Rattle.isa.specs.Sources.{isNamed, namesOnlySources, vectorOf}
 use Rattle.isa.specs.declared.Flow.{Flow}
 use Rattle.isa.specs.declared.Source.{Source}
@@ -23,9 +23,11 @@ use Rattle.certificate.specs.Successors.{placed, successorsOf, allHaveKi
 use Rattle.certificate.specs.Levels.{levelsOf}
 
 -- the check's answer: "the number is Levels", or "A refusal is a number"
-pub data Verdict : Type 0 where
-  accepted : (levels : ℕ) → Verdict
-  refused : Numbered → Verdict
+abbrev pub Verdict : Type 0
+Verdict = Answer ℕ
+
+abbrev pub accepted : (levels : ℕ) → Verdict
+accepted levels = done levels
 
 -- the program's answer by document 01's numbers
 abbrev pub answered : Checked → Verdict
@@ -42,12 +44,7 @@ abbrev pub found : Finding → Found
 found Passes = passes
 found (Fault refusal) = fault (numbered refusal)
 
--- "The first that applies is given": the refusal where a test fails, and where it passes what the rest finds
-abbrev pub unless : Bool → Numbered → Found → Found
-unless true refusal more = more
-unless false refusal more = fault refusal
-
--- .. and the first of two parts
+-- "The first that applies is given": the first of two parts
 abbrev pub andThen : Found → Found → Found
 andThen passes more = more
 andThen (fault refusal) more = fault refusal
@@ -55,20 +52,20 @@ andThen (fault refusal) more = fault refusal
 -- "15 misplaced RET or RETI; 16 successor or CALL target outside ROM, unmarked or of wrong kind, malformed marks counting so; 17 need too small"
 unfoldable pub flowFound : List ℕ → (a mark : ℕ) → Flow → (next : ℕ) → Found
 flowFound certificate a mark flow next =
-    unless (placed (kindOf mark) flow) (located 15 a)
-    (unless (allHaveKind certificate (successorsOf (kindOf mark) flow next)) (located 16 a)
-    (unless (coversAll certificate (needOf mark) (successorsOf (kindOf mark) flow next)) (located 17 a) passes))
+    unless (placed (kindOf mark) flow) (fault (located 15 a))
+    (unless (allHaveKind certificate (successorsOf (kindOf mark) flow next)) (fault (located 16 a))
+    (unless (coversAll certificate (needOf mark) (successorsOf (kindOf mark) flow next)) (fault (located 17 a)) passes))
 
 -- "4, 5, 4": what decoding refuses
-unfoldable pub decodedFound : List ℕ → (a mark : ℕ) → Answer → Found
-decodedFound certificate a mark (decode.instruction i bytes cycles) = flowFound certificate a mark (flowOf i a) (forwardOf a bytes)
-decodedFound certificate a mark (decode.refused refusal) = fault refusal
+unfoldable pub decodedFound : List ℕ → (a mark : ℕ) → Answer Decoding → Found
+decodedFound certificate a mark (done (decode.instruction i bytes cycles)) = flowFound certificate a mark (flowOf i a) (forwardOf a bytes)
+decodedFound certificate a mark (refused refusal) = fault refusal
 
 -- "marked addresses .., at each: 14 malformed mark"
 unfoldable pub markFound : (image certificate : List ℕ) → (a mark : ℕ) → Found
 markFound image certificate a zero = passes
 markFound image certificate a (suc m) =
-    unless (ltb 0 (kindOf (suc m))) (located 14 a) (decodedFound certificate a (suc m) (decodeAt image a))
+    unless (ltb 0 (kindOf (suc m))) (fault (located 14 a)) (decodedFound certificate a (suc m) (decodeAt image a))
 
 -- "Then marked addresses upward": the marks of a part of the certificate, of which the first stands at address a
 unfoldable pub marksFound : (image certificate : List ℕ) → (a : ℕ) → List ℕ → Found
@@ -79,7 +76,7 @@ marksFound image certificate a (mark ∷ marks) =
 
 -- "18 vector kind": a vector that must have a kind
 unfoldable pub vectorFound : List ℕ → (vector kind : ℕ) → Found
-vectorFound certificate vector kind = unless (eqb (kindAt certificate vector) kind) (located 18 vector) passes
+vectorFound certificate vector kind = unless (eqb (kindAt certificate vector) kind) (fault (located 18 vector)) passes
 
 -- "Each wired source's vector has kind 3."
 unfoldable pub sourceFound : List ℕ → (wired : ℕ) → Source → Found
@@ -96,7 +93,7 @@ vectorsFound certificate wired =
 
 -- "19 more than six levels"
 abbrev pub levelsFound : List ℕ → (wired : ℕ) → Found
-levelsFound certificate wired = unless (leb (levelsOf certificate wired) 6) (plain 19) passes
+levelsFound certificate wired = unless (leb (levelsOf certificate wired) 6) (fault (plain 19)) passes
 
 -- "Then marked addresses upward .. Then 18 ..; 19 .."
 abbrev pub rulesFound : (image certificate : List ℕ) → (wired : ℕ) → Found
@@ -113,6 +110,6 @@ verdict levels (fault refusal) = refused refusal
 unfoldable pub checkOf : (image certificate : List ℕ) → (wired : ℕ) → Verdict
 checkOf image certificate wired =
     verdict (levelsOf certificate wired)
-    (unless (isImage (length image)) (plain 1)
-    (unless (eqb (length certificate) (length image)) (plain 13)
-    (unless (namesOnlySources wired) (plain 11) (rulesFound image certificate wired))))
+    (unless (isImage (length image)) (fault (plain 1))
+    (unless (eqb (length certificate) (length image)) (fault (plain 13))
+    (unless (namesOnlySources wired) (fault (plain 11)) (rulesFound image certificate wired))))

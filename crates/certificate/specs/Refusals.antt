@@ -6,10 +6,10 @@ use mathlib.Core.Bool.{true, false}
 use mathlib.Core.List.{List, [], _∷_, _++_}
 use lib.ListN.{length}
 use Rattle.isa.specs.Decode as decode
-use Rattle.isa.specs.Decode.{Answer, decodeAt}
+use Rattle.isa.specs.Decode.{Decoding, decodeAt}
 use Rattle.isa.specs.Displacement.{forwardOf}
 use Rattle.isa.specs.ControlFlow.{flowOf}
-use Rattle.isa.specs.Refusals.{Numbered, plain, located}
+use Rattle.isa.specs.Refusals.{Numbered, plain, located, Answer, done, refused}
 use Rattle.isa.specs.Sources.{isNamed, namesOnlySources, vectorOf}
 use Rattle.isa.specs.declared.Flow.{Flow}
 use Rattle.isa.specs.declared.Flow.the-variants as flow
@@ -19,7 +19,7 @@ use Rattle.certificate.specs.declared.Successor.{Successor}
 use Rattle.certificate.specs.Marks.{markAt, Marked, WellFormed, kindAt, needAt, lowest}
 use Rattle.certificate.specs.Successors.{successorsOf}
 use Rattle.certificate.specs.Levels.{levelsOf}
-use Rattle.certificate.specs.Check.{Verdict, accepted, refused, checkOf}
+use Rattle.certificate.specs.Check.{Verdict, accepted, checkOf}
 
 -- a refusal, and what makes it apply
 pub record Question : Type 1 where
@@ -56,9 +56,9 @@ Misplaced kind flow.ReturnFromInterrupt = (kind ≢ 1) × (kind ≢ 3)
 Misplaced kind flow.Sleep = ⊥
 
 -- "a defined instruction wholly in ROM" stands at a, by what decoding answers, and P holds of its flow and its next address
-abbrev pub Decodes : Answer → (a : ℕ) → (Flow → ℕ → Type 0) → Type 0
-Decodes (decode.instruction i bytes cycles) a P = P (flowOf i a) (forwardOf a bytes)
-Decodes (decode.refused r) a P = ⊥
+abbrev pub Decodes : Answer Decoding → (a : ℕ) → (Flow → ℕ → Type 0) → Type 0
+Decodes (done (decode.instruction i bytes cycles)) a P = P (flowOf i a) (forwardOf a bytes)
+Decodes (refused r) a P = ⊥
 
 module _ (certificate : List ℕ) where
   -- "outside ROM, unmarked or of wrong kind, malformed marks counting so"
@@ -74,34 +74,34 @@ module _ (certificate : List ℕ) where
   malformed a = asks (located 14 a) (Marked certificate a × (WellFormed (markAt certificate a) → ⊥))
 
   -- "4, 5, 4", the order of which is decoding's own: it answers with one of them
-  abbrev pub outsideRom : Answer → (a : ℕ) → Question
-  outsideRom d a = asks (located 4 a) (Marked certificate a × (d ≡ decode.refused (located 4 a)))
+  abbrev pub outsideRom : Answer Decoding → (a : ℕ) → Question
+  outsideRom d a = asks (located 4 a) (Marked certificate a × (d ≡ refused (located 4 a)))
 
   -- "5 undefined opcode"
-  abbrev pub undefinedOpcode : Answer → (a : ℕ) → Question
-  undefinedOpcode d a = asks (located 5 a) (Marked certificate a × (d ≡ decode.refused (located 5 a)))
+  abbrev pub undefinedOpcode : Answer Decoding → (a : ℕ) → Question
+  undefinedOpcode d a = asks (located 5 a) (Marked certificate a × (d ≡ refused (located 5 a)))
 
   -- "15 misplaced RET or RETI"
-  abbrev pub misplacedReturn : Answer → (a : ℕ) → Question
+  abbrev pub misplacedReturn : Answer Decoding → (a : ℕ) → Question
   misplacedReturn d a = asks (located 15 a) (Marked certificate a × Decodes d a (λ f next. Misplaced (kindAt certificate a) f))
 
   -- "16 successor or CALL target outside ROM, unmarked or of wrong kind"
-  abbrev pub successorKind : Answer → (a : ℕ) → Question
+  abbrev pub successorKind : Answer Decoding → (a : ℕ) → Question
   successorKind d a =
       asks (located 16 a) (Marked certificate a × Decodes d a (λ f next. Some WrongKind (successorsOf (kindAt certificate a) f next)))
 
   -- "17 need too small"
-  abbrev pub needTooSmall : Answer → (a : ℕ) → Question
+  abbrev pub needTooSmall : Answer Decoding → (a : ℕ) → Question
   needTooSmall d a =
       asks (located 17 a)
       (Marked certificate a × Decodes d a (λ f next. Some (TooSmall (needAt certificate a)) (successorsOf (kindAt certificate a) f next)))
 
   -- "4, 5, 4; 15 ..; 16 ..; 17 .."
-  abbrev pub atInstruction : Answer → (a : ℕ) → List Question
+  abbrev pub atInstruction : Answer Decoding → (a : ℕ) → List Question
   atInstruction d a = outsideRom d a ∷ undefinedOpcode d a ∷ misplacedReturn d a ∷ successorKind d a ∷ needTooSmall d a ∷ []
 
   -- "at each: 14 malformed mark; .."
-  abbrev pub atMark : Answer → (a : ℕ) → List Question
+  abbrev pub atMark : Answer Decoding → (a : ℕ) → List Question
   atMark d a = malformed a ∷ atInstruction d a
 
   -- "Then marked addresses upward": so many addresses, from a on
@@ -146,7 +146,7 @@ questions image certificate wired =
 
 -- "Accepted means that nothing under Check below applies; the number is Levels."; refused: the first that applies
 abbrev pub Described : List Question → (levels : ℕ) → Verdict → Type 0
-Described qs levels (accepted number) = None qs × (number ≡ levels)
+Described qs levels (done number) = None qs × (number ≡ levels)
 Described qs levels (refused r) = FirstApplies qs r
 
 -- every refusal that the check gives applies, and none before it in the order does; it accepts where none applies

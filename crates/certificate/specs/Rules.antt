@@ -5,6 +5,7 @@ use mathlib.Core.Logic.{_⊎_}
 use mathlib.Core.Bool.{true}
 use mathlib.Core.List.{List}
 use lib.ListN.{length}
+use Rattle.isa.specs.Refusals.{done}
 use Rattle.isa.specs.Decode as decode
 use Rattle.isa.specs.Decode.{decodeAt}
 use Rattle.isa.specs.Displacement.{forwardOf}
@@ -50,7 +51,7 @@ pub record Runs (image certificate : List ℕ) (a : ℕ) : Type 0 where
   pub instruction : Instruction
   pub bytes : ℕ
   pub cycles : ℕ
-  pub decodes : decodeAt image a ≡ decode.instruction instruction bytes cycles
+  pub decodes : decodeAt image a ≡ done (decode.instruction instruction bytes cycles)
   pub rule : FlowRule certificate a (flowOf instruction a) (forwardOf a bytes)
 
 -- at a marked address: a kind from 1 to 4, a need from 0 to 6, and an instruction that runs

@@ -7,13 +7,13 @@ use native.Mathlib.Omega.{arith}
 use borrow.Author.Tests.{ltb-false, le-ltb}
 use lib.Dec.{eqb, ltb}
 use lib.ListN.{length}
-use Rattle.isa.specs.Refusals.{plain}
+use Rattle.isa.specs.Refusals.{plain, unless}
 use Rattle.isa.specs.Rom.{isImage}
 use Rattle.isa.specs.Decode.{decodeAt}
 use Rattle.machine.specs.declared.Machine.{Machine}
 use Rattle.machine.specs.Step.{stepOf}
 use Rattle.certificate.specs.Levels.{levelsOf}
-use Rattle.certificate.specs.Check.{fault, unless, verdict, checkOf}
+use Rattle.certificate.specs.Check.{fault, verdict, checkOf}
 
 step-by : (image : List ℕ) (m : Machine) (n : ℕ) (b : Bool) → ltb n 256 ≡ b → stepOf image m (cond b n 255) ≡ stepOf image m n
 unfolding stepOf
@@ -24,7 +24,7 @@ pub step-beyond : (image : List ℕ) (m : Machine) (n : ℕ) → stepOf image m 
 step-beyond image m n = step-by image m n (ltb n 256) refl
 
 -- a refusal before the levels does not depend on them
-unwired : (a b : Bool) (n k : ℕ) → verdict n (unless a (plain 1) (unless b (plain 13) (fault (plain 11)))) ≡ verdict k (unless a (plain 1) (unless b (plain 13) (fault (plain 11))))
+unwired : (a b : Bool) (n k : ℕ) → verdict n (unless a (fault (plain 1)) (unless b (fault (plain 13)) (fault (plain 11)))) ≡ verdict k (unless a (fault (plain 1)) (unless b (fault (plain 13)) (fault (plain 11))))
 unwired true true n k = refl
 unwired true false n k = refl
 unwired false b n k = refl

@@ -6,24 +6,24 @@ use mathlib.Core.List.{List}
 use native.Mathlib.Omega.{arith}
 use lib.Dec.{leb}
 use lib.ListN.{length}
-use Rattle.isa.specs.Refusals.{Numbered, plain}
+use Rattle.isa.specs.Refusals.{Numbered, plain, Answer, done, refused, unless}
 use Rattle.isa.specs.RoundTrip.{Bytes}
 use Rattle.isa.specs.Decode.{decodeAt}
 use Rattle.isa.specs.Decode as decode
-use Rattle.isa.specs.Write.{Outcome, wrote, outcome, bufferAfter}
+use Rattle.isa.specs.Write.{outcome, bufferAfter}
 use Rattle.isa.specs.Encode.{encodeOf}
 use Rattle.isa.specs.Encode as encode
 use Rattle.isa.specs.declared.Encoded.{Encoded}
 use Rattle.isa.proofs.WriteEffects.{write-effects}
 use Rattle.machine.specs.declared.Machine.{Machine}
-use Rattle.machine.specs.State.{unless, isWellFormed, done, refused, hostStored, inWindow, withByte, hostStoreOf}
-use Rattle.machine.specs.Step.{Step, Answer, stepOf}
+use Rattle.machine.specs.State.{isWellFormed, hostStored, inWindow, withByte, hostStoreOf}
+use Rattle.machine.specs.Step.{Step, stepOf}
 use Rattle.machine.specs.Step as step
 use Rattle.machine.specs.Laws.{Does, stops, takes, idles, executes}
 use Rattle.machine.proofs.StepDoes.{step-does, Tested, refuses, passes, step-tested}
 use Rattle.exports.specs.declared.fields.Reading.{Reading}
 use Rattle.exports.specs.declared.fields.Reading.the-variants.{Is, Unreadable}
-use Rattle.exports.specs.Answers.{word, refusalWord, stepWord, outcomeWord}
+use Rattle.exports.specs.Answers.{word, refusalWord, answerWord}
 use Rattle.exports.specs.States.{Unpacked, typed, untyped, unpacked, packed}
 use Rattle.exports.specs.Fields.{unpackedInstruction}
 use Rattle.exports.specs.Lent.{lent, decodedLent, decodeLent, writeBy, writeLent, resetBy, resetLent, storedLent, storeBy, storeLent, stepBy, stepLent}
@@ -39,14 +39,14 @@ module _ (out : List ℕ) where
   with-room true n after k = absurd (k (done-number n))
   with-room false n after k = refl
 
-  decoded : (a : decode.Answer) → Leaves out (decodedLent out a)
+  decoded : (a : Answer decode.Decoding) → Leaves out (decodedLent out a)
   unfolding decodedLent
-  decoded (decode.instruction i bytes cycles) k = with-room (leb 10 (length out)) bytes _ k
-  decoded (decode.refused r) k = refl
+  decoded (done (decode.instruction i bytes cycles)) k = with-room (leb 10 (length out)) bytes _ k
+  decoded (refused r) k = refl
 
-  written : (e : Encoded) (o : Outcome) → outcome e (length out) ≡ o → Leaves out (lent (outcomeWord o) (bufferAfter e out))
-  written e (wrote n) is k = absurd (k (done-number n))
-  written e (encode.refused r) is k = write-effects .untouched e out r is
+  written : (e : Encoded) (o : Answer ℕ) → outcome e (length out) ≡ o → Leaves out (lent (answerWord o) (bufferAfter e out))
+  written e (done n) is k = absurd (k (done-number n))
+  written e (refused r) is k = write-effects .untouched e out r is
 
   read : (r : Reading) → Leaves out (writeBy out r)
   read (Is i) k = written (encodeOf i) (outcome (encodeOf i) (length out)) refl k
@@ -54,13 +54,13 @@ module _ (out : List ℕ) where
 
 -- a step that is refused or stops keeps the machine
 module _ (image : List ℕ) (m : Machine) (request : ℕ) where
-  does-keep : (t : Step) → Does image m request t → (r : Numbered) → t .answer ≡ step.refused r → t .machine ≡ m
+  does-keep : (t : Step) → Does image m request t → (r : Numbered) → t .answer ≡ refused r → t .machine ≡ m
   does-keep t (stops n is) r e = refl
   does-keep t (takes source asked room) r e = let z : _≡_ {A = ℕ} 0 1 = cc in absurd (omega arith)
   does-keep t (idles none asleep) r e = let z : _≡_ {A = ℕ} 0 1 = cc in absurd (omega arith)
   does-keep t (executes i bytes cycles none awake at room) r e = let z : _≡_ {A = ℕ} 0 1 = cc in absurd (omega arith)
 
-  tested-keep : (t : Step) → Tested image m request t → (r : Numbered) → t .answer ≡ step.refused r → t .machine ≡ m
+  tested-keep : (t : Step) → Tested image m request t → (r : Numbered) → t .answer ≡ refused r → t .machine ≡ m
   tested-keep t (refuses n) r e = refl
   tested-keep t (passes size formed) r e = does-keep t (step-does image m request size formed) r e
 
@@ -69,10 +69,10 @@ module _ (s : List ℕ) (bytes : Bytes s) where
   again = packing-inverts .pack-unpack s bytes
 
   stepped :
-      (image : List ℕ) (m : Machine) (request : ℕ) → unpacked s ≡ typed m → (a : Answer) → stepOf image m request .answer ≡ a →
-      Leaves s (lent (stepWord a) (packed (stepOf image m request .machine)))
-  stepped image m request u (step.done cycles) e k = absurd (k (done-number cycles))
-  stepped image m request u (step.refused r) e k =
+      (image : List ℕ) (m : Machine) (request : ℕ) → unpacked s ≡ typed m → (a : Answer ℕ) → stepOf image m request .answer ≡ a →
+      Leaves s (lent (answerWord a) (packed (stepOf image m request .machine)))
+  stepped image m request u (done cycles) e k = absurd (k (done-number cycles))
+  stepped image m request u (refused r) e k =
       rw (tested-keep image m request (stepOf image m request) (step-tested image m request) r e) (again m u)
 
   by-state : (image : List ℕ) (request : ℕ) (u : Unpacked) → unpacked s ≡ u → Leaves s (stepBy image s request u)
@@ -84,7 +84,7 @@ module _ (s : List ℕ) (bytes : Bytes s) where
       Leaves s
       (storedLent
       (unless formed (hostStored m (refused (plain 2)))
-      (unless outside (hostStored m (refused (plain 10))) (hostStored (withByte m a value) done))))
+      (unless outside (hostStored m (refused (plain 10))) (hostStored (withByte m a value) (done tt)))))
   tests m a value e false outside k = again m e
   tests m a value e true false k = again m e
   tests m a value e true true k = absurd (k refl)

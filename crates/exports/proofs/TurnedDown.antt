@@ -5,11 +5,11 @@ use mathlib.Core.Bool.{Bool, true, false, not, _&&_}
 use mathlib.Core.List.{List}
 use lib.Dec.{leb}
 use lib.ListN.{length}
-use Rattle.isa.specs.Refusals.{plain}
+use Rattle.isa.specs.Refusals.{plain, Ended, done, refused, unless}
 use Rattle.isa.specs.RoundTrip.{Bytes}
 use Rattle.isa.specs.Rom.{isImage}
 use Rattle.machine.specs.declared.Machine.{Machine}
-use Rattle.machine.specs.State.{unless, isWellFormed, Ended, done, refused}
+use Rattle.machine.specs.State.{isWellFormed}
 use Rattle.machine.specs.Run.{refusedRun, stepsOf, requestsFit, runOf}
 use Rattle.machine.specs.Laws.{StopsOnly}
 use Rattle.machine.proofs.Laws.{run-ends-by-stop}
@@ -18,7 +18,7 @@ use Rattle.exports.specs.Laws.{RunTurnedDown}
 
 -- a stop has an address
 not-down : (e : Ended) → StopsOnly e → isTurnedDown e ≡ false
-not-down done s = refl
+not-down (done tt) s = refl
 not-down (refused r) s = rw (s .is)
 
 module _ (image : List ℕ) (all : Bytes image) (m : Machine) (requests : List ℕ) (n : ℕ) where

@@ -4,13 +4,8 @@ use mathlib.Core.Bool.{Bool, true, false, cond}
 use mathlib.Core.List.{List}
 use lib.ListN.{length}
 use lib.Dec.{ltb}
-use Rattle.isa.specs.Refusals.{Numbered, plain, located}
+use Rattle.isa.specs.Refusals.{Numbered, plain, located, Answer, Ended, done, refused}
 use Rattle.isa.specs.Rom.{isImage}
-use Rattle.isa.specs.Encode as encode
-use Rattle.machine.specs.State.{Ended}
-use Rattle.machine.specs.State as state
-use Rattle.machine.specs.Step as step
-use Rattle.certificate.specs.Check as check
 
 abbrev pub word : (number address value : ℕ) → ℕ
 word number address value = number + address * 0x100 + value * 0x1000000
@@ -24,31 +19,21 @@ refusalWord (located n a) = word n a 0
 abbrev pub untypedWord : (image : List ℕ) → ℕ
 untypedWord image = refusalWord (cond (isImage (length image)) (plain 2) (plain 1))
 
--- a step's cycles
-abbrev pub stepWord : step.Answer → ℕ
-stepWord (step.done cycles) = word 0 0 cycles
-stepWord (step.refused r) = refusalWord r
+-- a step's cycles, the check's levels, the length of a written instruction
+abbrev pub answerWord : Answer ℕ → ℕ
+answerWord (done value) = word 0 0 value
+answerWord (refused r) = refusalWord r
 
 -- a run or a host store has no value
 abbrev pub endedWord : Ended → ℕ
-endedWord state.done = word 0 0 0
-endedWord (state.refused r) = refusalWord r
+endedWord (done tt) = word 0 0 0
+endedWord (refused r) = refusalWord r
 
 -- a run's refusals, 1, 2, 12 and 11, have no address; a stop has one
 abbrev pub isTurnedDown : Ended → Bool
-isTurnedDown state.done = false
-isTurnedDown (state.refused (plain n)) = true
-isTurnedDown (state.refused (located n a)) = false
-
--- the check's levels
-abbrev pub verdictWord : check.Verdict → ℕ
-verdictWord (check.accepted levels) = word 0 0 levels
-verdictWord (check.refused r) = refusalWord r
-
--- the length of a written instruction
-abbrev pub outcomeWord : encode.Outcome → ℕ
-outcomeWord (encode.wrote count) = word 0 0 count
-outcomeWord (encode.refused r) = refusalWord r
+isTurnedDown (done tt) = false
+isTurnedDown (refused (plain n)) = true
+isTurnedDown (refused (located n a)) = false
 
 -- what stands in for a number beyond a byte, and beyond the program addresses: it is refused as that number is
 abbrev pub byteOr : ℕ → ℕ

@@ -4,7 +4,7 @@ use mathlib.Core.Bool.{cond, _&&_}
 use mathlib.Core.List.{List, [], _∷_, _++_}
 use lib.ListN.{length, drop}
 use lib.Dec.{leb}
-use Rattle.isa.specs.Refusals.{plain}
+use Rattle.isa.specs.Refusals.{plain, Answer, done, refused}
 use Rattle.isa.specs.Decode.{decodeAt}
 use Rattle.isa.specs.Decode as decode
 use Rattle.isa.specs.Write.{outcome, bufferAfter}
@@ -15,7 +15,7 @@ use Rattle.machine.specs.Run.{Run, runOf}
 use Rattle.jobs.specs.Jobs.{jobOf}
 use Rattle.jobs.specs.Lines.{lineOf}
 use Rattle.jobs.specs.Answers.{fits}
-use Rattle.exports.specs.Answers.{word, refusalWord, untypedWord, stepWord, endedWord, isTurnedDown, outcomeWord}
+use Rattle.exports.specs.Answers.{word, refusalWord, untypedWord, answerWord, endedWord, isTurnedDown}
 use Rattle.exports.specs.States.{Unpacked, typed, untyped, unpacked, packed}
 use Rattle.exports.specs.Fields.{decodedRow, unpackedInstruction}
 use Rattle.exports.specs.declared.fields.Reading.{Reading}
@@ -49,7 +49,7 @@ unfoldable pub storeLent : List ℕ → (a value : ℕ) → Lent
 storeLent s a value = cond (leb a 255 && leb value 255) (storeBy s a value (unpacked s)) (lent (refusalWord (plain 8)) s)
 
 abbrev pub steppedLent : Step → Lent
-steppedLent r = lent (stepWord (r .answer)) (packed (r .machine))
+steppedLent r = lent (answerWord (r .answer)) (packed (r .machine))
 
 abbrev pub stepBy : (image s : List ℕ) → (request : ℕ) → Unpacked → Lent
 stepBy image s request (typed m) = steppedLent (stepOf image m request)
@@ -89,17 +89,17 @@ unfoldable pub runLent : (image s requests : List ℕ) → (n : ℕ) → (report
 runLent image s requests n report = runBy image s requests n report (unpacked s)
 
 -- decoding's own refusals come first, then 9
-unfoldable pub decodedLent : List ℕ → decode.Answer → Lent
-decodedLent out (decode.instruction i bytes cycles) =
+unfoldable pub decodedLent : List ℕ → Answer decode.Decoding → Lent
+decodedLent out (done (decode.instruction i bytes cycles)) =
     cond (leb 10 (length out)) (lent (word 0 0 bytes) (decodedRow i bytes cycles ++ drop 10 out)) (lent (refusalWord (plain 9)) out)
-decodedLent out (decode.refused r) = lent (refusalWord r) out
+decodedLent out (refused r) = lent (refusalWord r) out
 
 unfoldable pub decodeLent : (image : List ℕ) → (address : ℕ) → (out : List ℕ) → Lent
 decodeLent image address out = decodedLent out (decodeAt image address)
 
 -- fields that are no instruction's are refused with 8
 abbrev pub writeBy : List ℕ → Reading → Lent
-writeBy out (Is i) = lent (outcomeWord (outcome (encodeOf i) (length out))) (bufferAfter (encodeOf i) out)
+writeBy out (Is i) = lent (answerWord (outcome (encodeOf i) (length out))) (bufferAfter (encodeOf i) out)
 writeBy out Unreadable = lent (refusalWord (plain 8)) out
 
 unfoldable pub writeLent : (fields out : List ℕ) → Lent

@@ -13,7 +13,7 @@ ghost use Rattle.isa.specs.Write.{outcomeOf};
 ghost use Rattle.machine.specs.State.{endedOf};
 ghost use Rattle.machine.specs.Step.{answerOf};
 ghost use Rattle.certificate.specs.Check.{answered};
-ghost use Rattle.exports.specs.Answers.{word, refusalWord, untypedWord, stepWord, endedWord, isTurnedDown, verdictWord, outcomeWord};
+ghost use Rattle.exports.specs.Answers.{word, refusalWord, untypedWord, answerWord, endedWord, isTurnedDown};
 
 // What is done, with its value.
 pub fn done(value: u32) -> u64
@@ -43,7 +43,7 @@ pub fn untyped(image: &[u8]) -> u64
 }
 
 pub fn step_word(answer: StepAnswer) -> u64
-    ensures { λ r. ⌜ r ≡ stepWord (answerOf answer) ⌝ }
+    ensures { λ r. ⌜ r ≡ answerWord (answerOf answer) ⌝ }
 {
     match answer {
         StepAnswer::Done(cycles) => done(cycles as u32),
@@ -74,7 +74,7 @@ pub fn is_turned_down(ending: Ending) -> bool
 }
 
 pub fn check_word(checked: Checked) -> u64
-    ensures { λ r. ⌜ r ≡ verdictWord (answered checked) ⌝ }
+    ensures { λ r. ⌜ r ≡ answerWord (answered checked) ⌝ }
 {
     match checked {
         Checked::Accepted(levels) => done(levels as u32),
@@ -83,7 +83,7 @@ pub fn check_word(checked: Checked) -> u64
 }
 
 pub fn write_word(written: Written) -> u64
-    ensures { λ r. ⌜ r ≡ outcomeWord (outcomeOf written) ⌝ }
+    ensures { λ r. ⌜ r ≡ answerWord (outcomeOf written) ⌝ }
 {
     match written {
         Written::Done(length) => done(length as u32),

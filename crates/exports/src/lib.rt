@@ -37,7 +37,7 @@ use states::is_typed;
 use states::unpack;
 ghost use mathlib.Core.Path.{_≡_};
 ghost use Rattle.certificate.specs.Check.{checkOf};
-ghost use Rattle.exports.specs.Answers.{verdictWord};
+ghost use Rattle.exports.specs.Answers.{answerWord};
 ghost use Rattle.exports.specs.Lent.{lent, lentRun, decodeLent, writeLent, resetLent, storeLent, stepLent, runLent, jobLent};
 
 // Decodes at an address of the image into `out`.
@@ -151,7 +151,7 @@ pub extern "C" fn st62_run(
 
 #[no_mangle]
 pub extern "C" fn st62_check(image: &[u8], certificate: &[u8], wired: u32) -> u64
-    ensures { λ r. ⌜ r ≡ verdictWord (checkOf (now (image .entry)) (now (certificate .entry)) wired) ⌝ }
+    ensures { λ r. ⌜ r ≡ answerWord (checkOf (now (image .entry)) (now (certificate .entry)) wired) ⌝ }
 {
     check_word(check(image, certificate, byte_or(wired)))
 }

@@ -9,10 +9,10 @@ use lib.ListN.{length}
 use borrow.Author.Tests.{lt-ltb}
 use Rattle.isa.specs.Decode as decode
 use Rattle.isa.specs.Rom.{isImage, romAt, operandAt}
-use Rattle.isa.specs.Decode.{Answer, withForm, withSecond, withFirst, withOpcode, decodeAt}
+use Rattle.isa.specs.Decode.{Decoding, withForm, withSecond, withFirst, withOpcode, decodeAt}
 use Rattle.isa.specs.Table.{bytesOf}
 use Rattle.isa.specs.Map.{entryOf, formOf}
-use Rattle.isa.specs.Refusals.{Numbered, located}
+use Rattle.isa.specs.Refusals.{Numbered, located, Answer, done, refused}
 use Rattle.isa.specs.declared.Instruction.{Instruction}
 use Rattle.isa.specs.declared.Form.{Form}
 use Rattle.isa.specs.declared.Form.the-variants.{Is, Undefined}
@@ -20,12 +20,12 @@ use Rattle.isa.specs.declared.rom.RomByte.{RomByte}
 use Rattle.isa.specs.declared.rom.RomByte.the-variants.{Byte, Outside}
 
 -- 4 or 5 with the address, where decoding refuses
-abbrev pub AtAddress : ℕ → Answer → Type 0
-AtAddress a (decode.instruction i bytes cycles) = Unit
-AtAddress a (decode.refused r) = (r ≡ located 4 a) ⊎ (r ≡ located 5 a)
+abbrev pub AtAddress : ℕ → Answer Decoding → Type 0
+AtAddress a (done (decode.instruction i bytes cycles)) = Unit
+AtAddress a (refused r) = (r ≡ located 4 a) ⊎ (r ≡ located 5 a)
 
 -- an instruction is no refusal
-pub defined : {i : Instruction} {n c : ℕ} {r : Numbered} → decode.instruction i n c ≡ decode.refused r → ⊥
+pub defined : {i : Instruction} {n c : ℕ} {r : Numbered} → done (decode.instruction i n c) ≡ refused r → ⊥
 defined e = let z : _≡_ {A = ℕ} 0 1 = cc in omega arith
 
 at-form : (a opcode : ℕ) (f : Form) → AtAddress a (withForm a opcode f)

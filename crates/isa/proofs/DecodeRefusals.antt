@@ -10,12 +10,12 @@ use Rattle.isa.specs.declared.Form.{Form}
 use Rattle.isa.specs.declared.Form.the-variants.{Is, Undefined}
 use Rattle.isa.specs.declared.rom.RomByte.{RomByte}
 use Rattle.isa.specs.declared.rom.RomByte.the-variants.{Byte, Outside}
-use Rattle.isa.specs.Refusals.{Numbered, located}
+use Rattle.isa.specs.Refusals.{Numbered, located, refused}
 use Rattle.isa.specs.Displacement.{forwardOf}
 use Rattle.isa.specs.Table.{bytesOf}
 use Rattle.isa.specs.Map.{entryOf, formOf}
 use Rattle.isa.specs.Rom.{romAt, operandAt}
-use Rattle.isa.specs.Decode.{refused, withForm, withSecond, withFirst, decodeAt}
+use Rattle.isa.specs.Decode.{Decoding, withForm, withSecond, withFirst, decodeAt}
 use Rattle.isa.specs.Counts.{isUndefined, member, undefinedOpcodes}
 use Rattle.isa.specs.DecodeRefusals.{Opcode, Cut, DecodeRefusals}
 use Rattle.isa.proofs.Column.{pick}

@@ -12,12 +12,12 @@ use Rattle.isa.specs.declared.Form.{Form}
 use Rattle.isa.specs.declared.Form.the-variants.{Is, Undefined}
 use Rattle.isa.specs.declared.rom.RomByte.{RomByte}
 use Rattle.isa.specs.declared.rom.RomByte.the-variants.{Byte, Outside}
-use Rattle.isa.specs.Refusals.{Numbered, plain}
+use Rattle.isa.specs.Refusals.{Numbered, plain, Answer, done, refused}
 use Rattle.isa.specs.Displacement.{forwardOf}
 use Rattle.isa.specs.Table.{bytesOf}
 use Rattle.isa.specs.Map.{entryOf, formOf}
 use Rattle.isa.specs.Rom.{isImage, romAt, operandAt}
-use Rattle.isa.specs.Decode.{Answer, instruction, refused, withForm, withSecond, withFirst, withOpcode, decodeAt}
+use Rattle.isa.specs.Decode.{Decoding, instruction, withForm, withSecond, withFirst, withOpcode, decodeAt}
 use Rattle.isa.specs.RoundTrip.{Bytes}
 
 -- the opcode k and the operand bytes f and s at an address, from which the map makes the instruction
@@ -34,15 +34,15 @@ pub record Read (image : List ℕ) (a : ℕ) (i : Instruction) (n : ℕ) : Type 
 
 -- a test before a refusal has passed where the answer is an instruction
 passed :
-    (b : Bool) (x : Answer) (r : Numbered) (i : Instruction) (n c : ℕ) → cond b x (refused r) ≡ instruction i n c →
-    (b ≡ true) × (x ≡ instruction i n c)
+    (b : Bool) (x : Answer Decoding) (r : Numbered) (i : Instruction) (n c : ℕ) → cond b x (refused r) ≡ done (instruction i n c) →
+    (b ≡ true) × (x ≡ done (instruction i n c))
 passed true x r i n c q = (refl, q)
 passed false x r i n c q = let z : _≡_ {A = ℕ} 0 1 = cc in absurd (omega arith)
 
 module _ (image : List ℕ) (a : ℕ) (below : a < 4096) (i : Instruction) (n c : ℕ) where
   from-form :
       (k f s : ℕ) → romAt image a ≡ Byte k → operandAt image a 1 (bytesOf (entryOf k)) ≡ Byte f →
-      operandAt image a 2 (bytesOf (entryOf k)) ≡ Byte s → (x : Form) → formOf k f s ≡ x → withForm a k x ≡ instruction i n c →
+      operandAt image a 2 (bytesOf (entryOf k)) ≡ Byte s → (x : Form) → formOf k f s ≡ x → withForm a k x ≡ done (instruction i n c) →
       Read image a i n
   from-form k f s e0 e1 e2 Undefined e q = let z : _≡_ {A = ℕ} 0 1 = cc in absurd (omega arith)
   from-form k f s e0 e1 e2 (Is j) e q =
@@ -60,26 +60,26 @@ module _ (image : List ℕ) (a : ℕ) (below : a < 4096) (i : Instruction) (n c 
 
   from-second :
       (k f : ℕ) → romAt image a ≡ Byte k → operandAt image a 1 (bytesOf (entryOf k)) ≡ Byte f → (r : RomByte) →
-      operandAt image a 2 (bytesOf (entryOf k)) ≡ r → withSecond a k f r ≡ instruction i n c → Read image a i n
+      operandAt image a 2 (bytesOf (entryOf k)) ≡ r → withSecond a k f r ≡ done (instruction i n c) → Read image a i n
   from-second k f e0 e1 (Byte s) e2 q = from-form k f s e0 e1 e2 (formOf k f s) refl q
   from-second k f e0 e1 Outside e2 q = let z : _≡_ {A = ℕ} 0 1 = cc in absurd (omega arith)
 
   from-first :
       (k : ℕ) → romAt image a ≡ Byte k → (r : RomByte) → operandAt image a 1 (bytesOf (entryOf k)) ≡ r →
-      withFirst image a k r ≡ instruction i n c → Read image a i n
+      withFirst image a k r ≡ done (instruction i n c) → Read image a i n
   from-first k e0 (Byte f) e1 q = from-second k f e0 e1 (operandAt image a 2 (bytesOf (entryOf k))) refl q
   from-first k e0 Outside e1 q = let z : _≡_ {A = ℕ} 0 1 = cc in absurd (omega arith)
 
-  from-opcode : (r : RomByte) → romAt image a ≡ r → withOpcode image a r ≡ instruction i n c → Read image a i n
+  from-opcode : (r : RomByte) → romAt image a ≡ r → withOpcode image a r ≡ done (instruction i n c) → Read image a i n
   from-opcode (Byte k) e0 q = from-first k e0 (operandAt image a 1 (bytesOf (entryOf k))) refl q
   from-opcode Outside e0 q = let z : _≡_ {A = ℕ} 0 1 = cc in absurd (omega arith)
 
-pub reading : (image : List ℕ) (a : ℕ) (i : Instruction) (n c : ℕ) → decodeAt image a ≡ instruction i n c → Read image a i n
+pub reading : (image : List ℕ) (a : ℕ) (i : Instruction) (n c : ℕ) → decodeAt image a ≡ done (instruction i n c) → Read image a i n
 unfolding decodeAt
 reading image a i n c q =
-    let sized : (isImage (length image) ≡ true) × (cond (ltb a 4096) (withOpcode image a (romAt image a)) (refused (plain 3)) ≡ instruction i n c) =
+    let sized : (isImage (length image) ≡ true) × (cond (ltb a 4096) (withOpcode image a (romAt image a)) (refused (plain 3)) ≡ done (instruction i n c)) =
     passed (isImage (length image)) _ (plain 1) i n c q in
-    let ranged : (ltb a 4096 ≡ true) × (withOpcode image a (romAt image a) ≡ instruction i n c) =
+    let ranged : (ltb a 4096 ≡ true) × (withOpcode image a (romAt image a) ≡ done (instruction i n c)) =
     passed (ltb a 4096) _ (plain 3) i n c (sized .1) in
     from-opcode image a (ltb-true a 4096 (ranged .0)) i n c (romAt image a) refl (ranged .1)
 

@@ -16,12 +16,12 @@ use Rattle.isa.specs.declared.Instruction.the-variants as I
 use Rattle.isa.specs.declared.Encoded.{Encoded}
 use Rattle.isa.specs.declared.Encoded.the-variants.{One, Two, Three, Unencodable}
 use Rattle.isa.specs.declared.rom.RomByte.the-variants.{Byte}
-use Rattle.isa.specs.Refusals.{plain}
+use Rattle.isa.specs.Refusals.{plain, done, refused}
 use Rattle.isa.specs.Displacement.{modulo, forwardOf}
 use Rattle.isa.specs.Table.{bytesOf}
 use Rattle.isa.specs.Map.{formOf, formAs, entryOf}
 use Rattle.isa.specs.Rom.{isImage, romAt}
-use Rattle.isa.specs.Write.{wrote, refused, outcome}
+use Rattle.isa.specs.Write.{outcome}
 use Rattle.isa.specs.Encode.{encodeOf, bytes, inField, withByte, withBytes, shortJump, extendedJump, withBit, bitJump, bitDirect, onData, onShort}
 use Rattle.isa.specs.Counts.{isUndefined}
 use Rattle.isa.specs.Cases.{placed}
@@ -191,7 +191,7 @@ undecoded-beyond i never =
     (beyond-or-not (encodeOf i))
 
 -- 8 is the answer exactly where there are no bytes
-fitted-not-8 : (b : Bool) (n : ℕ) → cond b (wrote n) (refused (plain 9)) ≡ refused (plain 8) → ⊥
+fitted-not-8 : (b : Bool) (n : ℕ) → cond b (done n) (refused (plain 9)) ≡ refused (plain 8) → ⊥
 fitted-not-8 true n e = let z : _≡_ {A = ℕ} 0 1 = cc in omega arith
 fitted-not-8 false n e = let z : _≡_ {A = ℕ} 9 8 = cc in omega arith
 

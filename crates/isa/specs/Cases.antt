@@ -5,6 +5,7 @@ use mathlib.Core.Bool.{true, false}
 use mathlib.Core.List.{List, [], _∷_, _++_}
 use lib.IntN.{pos, negsuc}
 use lib.ListN.{length, replicate}
+use Rattle.isa.specs.Refusals.{done}
 use Rattle.isa.specs.Displacement.{longDisplacement}
 use Rattle.isa.specs.Map.{formOf}
 use Rattle.isa.specs.Decode.{instruction, decodeAt}
@@ -23,7 +24,7 @@ placed a bs = replicate a 0 ++ (bs ++ replicate (4096 - a - length bs) 0)
 
 -- the bytes at an address decode to an instruction with its length and cycles, and it may continue so
 abbrev pub Decodes : ℕ → List ℕ → Instruction → ℕ → ℕ → Flow → Type 0
-Decodes a bs i n cycles f = (decodeAt (placed a bs) a ≡ instruction i n cycles) × (flowOf i a ≡ f)
+Decodes a bs i n cycles f = (decodeAt (placed a bs) a ≡ done (instruction i n cycles)) × (flowOf i a ≡ f)
 
 -- "P7 7Eh jumps +16, 86h −15, FEh to itself."
 pub record P7 : Type 0 where

@@ -2,7 +2,7 @@
 use Prim.Native.Nat.{ℕ}
 use lib.IntN.{ℤ}
 use mathlib.Core.Bool.{true, false}
-use Rattle.isa.specs.Displacement.{forwardOf, targetOf}
+use Rattle.isa.specs.Displacement.{shortTarget, longTarget}
 use Rattle.isa.specs.declared.Condition.{Condition}
 use Rattle.isa.specs.declared.Condition.the-variants.{Zero, Carry, Bit}
 use Rattle.isa.specs.declared.Flow.{Flow}
@@ -10,13 +10,12 @@ use Rattle.isa.specs.declared.Flow.the-variants as flow
 use Rattle.isa.specs.declared.Instruction.{Instruction}
 use Rattle.isa.specs.declared.Instruction.the-variants as I
 
--- counted from the next address
+-- a branch by a short displacement, and by a long one
 abbrev pub shortOf : Condition → ℕ → ℤ → Flow
-shortOf condition a e = flow.Branch condition (targetOf (forwardOf a 1) e)
+shortOf condition a e = flow.Branch condition (shortTarget a e)
 
--- counted from the opcode's address plus 2
 abbrev pub longOf : Condition → ℕ → ℤ → Flow
-longOf condition a e = flow.Branch condition (targetOf (forwardOf a 2) e)
+longOf condition a e = flow.Branch condition (longTarget a e)
 
 unfoldable pub flowOf : Instruction → ℕ → Flow
 flowOf (I.Jrnz e) a = shortOf (Zero false) a e

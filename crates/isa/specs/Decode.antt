@@ -4,7 +4,7 @@ use mathlib.Core.Bool.{cond}
 use mathlib.Core.List.{List}
 use lib.Dec.{ltb}
 use lib.ListN.{length}
-use Rattle.isa.specs.Refusals.{Numbered, plain, located, numbered}
+use Rattle.isa.specs.Refusals.{Numbered, plain, located, numbered, Answer, done, refused}
 use Rattle.isa.specs.Rom.{isImage, romAt, operandAt}
 use Rattle.isa.specs.Table.{bytesOf, cyclesOf}
 use Rattle.isa.specs.Map.{entryOf, formOf}
@@ -16,39 +16,38 @@ use Rattle.isa.specs.declared.Decoded.the-variants.{Valid, Refused}
 use Rattle.isa.specs.declared.rom.RomByte.{RomByte}
 use Rattle.isa.specs.declared.rom.RomByte.the-variants.{Byte, Outside}
 
--- what decoding answers: an instruction with its length and its cycles, or a refusal
-pub data Answer : Type 0 where
-  instruction : Instruction → (length cycles : ℕ) → Answer
-  refused : Numbered → Answer
+-- what decoding answers where it does not refuse: an instruction with its length and its cycles
+pub data Decoding : Type 0 where
+  instruction : Instruction → (length cycles : ℕ) → Decoding
 
 -- the program's answer by document 01's numbers
-abbrev pub answerOf : Decoded → Answer
-answerOf (Valid i bytes cycles) = instruction i bytes cycles
+abbrev pub answerOf : Decoded → Answer Decoding
+answerOf (Valid i bytes cycles) = done (instruction i bytes cycles)
 answerOf (Refused r) = refused (numbered r)
 
 -- "5 undefined opcode"
-abbrev pub withForm : ℕ → ℕ → Form → Answer
-withForm address opcode (Is i) = instruction i (bytesOf (entryOf opcode)) (cyclesOf (entryOf opcode))
+abbrev pub withForm : ℕ → ℕ → Form → Answer Decoding
+withForm address opcode (Is i) = done (instruction i (bytesOf (entryOf opcode)) (cyclesOf (entryOf opcode)))
 withForm address opcode Undefined = refused (located 5 address)
 
 -- "4 operand byte outside ROM". An undefined opcode has no operand bytes, so that 5 comes before this 4
-abbrev pub withSecond : ℕ → ℕ → ℕ → RomByte → Answer
+abbrev pub withSecond : ℕ → ℕ → ℕ → RomByte → Answer Decoding
 withSecond address opcode first (Byte second) = withForm address opcode (formOf opcode first second)
 withSecond address opcode first Outside = refused (located 4 address)
 
-abbrev pub withFirst : List ℕ → ℕ → ℕ → RomByte → Answer
+abbrev pub withFirst : List ℕ → ℕ → ℕ → RomByte → Answer Decoding
 withFirst image address opcode (Byte first) =
     withSecond address opcode first (operandAt image address 2 (bytesOf (entryOf opcode)))
 withFirst image address opcode Outside = refused (located 4 address)
 
 -- "4 opcode byte outside ROM"
-abbrev pub withOpcode : List ℕ → ℕ → RomByte → Answer
+abbrev pub withOpcode : List ℕ → ℕ → RomByte → Answer Decoding
 withOpcode image address (Byte opcode) =
     withFirst image address opcode (operandAt image address 1 (bytesOf (entryOf opcode)))
 withOpcode image address Outside = refused (located 4 address)
 
 -- "Decode at an address: 1 image length; 3 address above FFFh"
-unfoldable pub decodeAt : List ℕ → ℕ → Answer
+unfoldable pub decodeAt : List ℕ → ℕ → Answer Decoding
 decodeAt image address =
     cond (isImage (length image))
     (cond (ltb address 4096) (withOpcode image address (romAt image address)) (refused (plain 3)))

@@ -4,12 +4,12 @@ use mathlib.Core.Path.{_≡_}
 use mathlib.Core.Bool.{true, false}
 use mathlib.Core.List.{List}
 use lib.ListN.{length}
-use Rattle.isa.specs.Refusals.{Numbered, plain, located}
+use Rattle.isa.specs.Refusals.{Numbered, plain, located, refused}
 use Rattle.isa.specs.Displacement.{forwardOf}
 use Rattle.isa.specs.Table.{bytesOf}
 use Rattle.isa.specs.Map.{entryOf}
 use Rattle.isa.specs.Rom.{isImage, romAt}
-use Rattle.isa.specs.Decode.{refused, decodeAt}
+use Rattle.isa.specs.Decode.{decodeAt}
 use Rattle.isa.specs.Counts.{undefinedOpcodes, member}
 use Rattle.isa.specs.declared.rom.RomByte.the-variants.{Byte, Outside}
 

@@ -28,3 +28,11 @@ forwardOf address count = (address + count) % 4096
 -- the program address that lies a displacement from another
 abbrev pub targetOf : ℕ → ℤ → ℕ
 targetOf address displacement = modulo 4096 (pos address +ℤ displacement)
+
+-- "The short displacement is [..] counted from the next address": the target of a branch at an address, of one byte
+abbrev pub shortTarget : ℕ → ℤ → ℕ
+shortTarget address displacement = targetOf (forwardOf address 1) displacement
+
+-- "The long one is a signed byte counted from the opcode plus 2"
+abbrev pub longTarget : ℕ → ℤ → ℕ
+longTarget address displacement = targetOf (forwardOf address 2) displacement

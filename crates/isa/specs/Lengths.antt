@@ -2,6 +2,7 @@
 use Prim.Native.Nat.{ℕ}
 use mathlib.Core.Path.{_≡_}
 use mathlib.Core.List.{List}
+use Rattle.isa.specs.Refusals.{done}
 use Rattle.isa.specs.declared.Operand.{Operand}
 use Rattle.isa.specs.declared.Operand.the-variants.{Direct, Short, ThroughX, ThroughY}
 use Rattle.isa.specs.declared.Instruction.{Instruction}
@@ -48,4 +49,4 @@ lengthOf I.Wait = 1
 
 -- the length that decoding answers, from the table, is that of the instruction's form
 abbrev pub DecodedLength : Type 0
-DecodedLength = (image : List ℕ) (a : ℕ) (i : Instruction) (n cycles : ℕ) → decodeAt image a ≡ instruction i n cycles → n ≡ lengthOf i
+DecodedLength = (image : List ℕ) (a : ℕ) (i : Instruction) (n cycles : ℕ) → decodeAt image a ≡ done (instruction i n cycles) → n ≡ lengthOf i

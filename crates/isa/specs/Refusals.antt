@@ -1,5 +1,6 @@
 -- Refusals by document 01's numbers ("What each operation turns down").
 use Prim.Native.Nat.{ℕ}
+use mathlib.Core.Bool.{Bool, true, false}
 use Rattle.isa.specs.declared.Number.{Number}
 use Rattle.isa.specs.declared.Number.the-variants.{Plain, Located}
 use Rattle.isa.specs.declared.Refusal.{Refusal}
@@ -39,3 +40,17 @@ numbered R.JobLength = plain 22
 abbrev pub asNumbered : Number → Numbered
 asNumbered (Plain n) = plain n
 asNumbered (Located n a) = located n a
+
+-- an operation's answer: done, with a value, or refused or stopped, by number
+pub data Answer (A : Type 0) : Type 0 where
+  done : A → Answer A
+  refused : Numbered → Answer A
+
+-- .. of an operation that answers no value
+abbrev pub Ended : Type 0
+Ended = Answer (Unit {0})
+
+-- "The first that applies is given": the refusal where a test fails, else what the rest answers
+abbrev pub unless : {A : Type 0} → Bool → A → A → A
+unless true refusal more = more
+unless false refusal more = refusal

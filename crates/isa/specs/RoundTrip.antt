@@ -5,13 +5,13 @@ use mathlib.Core.Logic.{_↔_}
 use mathlib.Core.Bool.{true}
 use mathlib.Core.List.{List}
 use lib.ListN.{length, getD}
-use Rattle.isa.specs.Refusals.{plain}
+use Rattle.isa.specs.Refusals.{plain, done, refused}
 use Rattle.isa.specs.Displacement.{forwardOf}
 use Rattle.isa.specs.Table.{cyclesOf}
 use Rattle.isa.specs.Map.{entryOf}
 use Rattle.isa.specs.Rom.{isImage, romAt}
 use Rattle.isa.specs.Decode.{instruction, decodeAt}
-use Rattle.isa.specs.Write.{refused, outcome}
+use Rattle.isa.specs.Write.{outcome}
 use Rattle.isa.specs.Encode.{encodeOf, bytes}
 use Rattle.isa.specs.declared.Instruction.{Instruction}
 use Rattle.isa.specs.declared.Encoded.the-variants.{Unencodable}
@@ -32,18 +32,18 @@ WrittenDecodes =
     (i : Instruction) → (encodeOf i ≡ Unencodable → ⊥) →
     (image : List ℕ) → isImage (length image) ≡ true →
     (a : ℕ) → a < 4096 → Holds image a (bytes (encodeOf i)) →
-    decodeAt image a ≡ instruction i (length (bytes (encodeOf i))) (cyclesOf (entryOf (getD (bytes (encodeOf i)) 0 0)))
+    decodeAt image a ≡ done (instruction i (length (bytes (encodeOf i))) (cyclesOf (entryOf (getD (bytes (encodeOf i)) 0 0))))
 
 -- "It is written from the buffer's first byte": what was decoded is written as the bytes that stand there, as many as decoding answered
 abbrev pub DecodedWrites : Type 0
 DecodedWrites =
     (image : List ℕ) → Bytes image →
-    (a : ℕ) (i : Instruction) (n cycles : ℕ) → decodeAt image a ≡ instruction i n cycles →
+    (a : ℕ) (i : Instruction) (n cycles : ℕ) → decodeAt image a ≡ done (instruction i n cycles) →
     (length (bytes (encodeOf i)) ≡ n) × Holds image a (bytes (encodeOf i))
 
 -- no image has the instruction at any address
 abbrev pub Undecoded : Instruction → Type 0
-Undecoded i = (image : List ℕ) → Bytes image → (a n cycles : ℕ) → decodeAt image a ≡ instruction i n cycles → ⊥
+Undecoded i = (image : List ℕ) → Bytes image → (a n cycles : ℕ) → decodeAt image a ≡ done (instruction i n cycles) → ⊥
 
 -- "8 operand beyond its field, or of a kind the map lacks for it", and "never where it doesn't apply": refused are the instructions
 -- that no bytes decode to

@@ -2,6 +2,7 @@
 use Prim.Native.Nat.{ℕ, _<_}
 use mathlib.Core.Path.{_≡_}
 use mathlib.Core.List.{List}
+use Rattle.isa.specs.Refusals.{done}
 use Rattle.isa.specs.Decode.{instruction, decodeAt}
 use Rattle.isa.specs.ControlFlow.{flowOf}
 use Rattle.isa.specs.RoundTrip.{Bytes}
@@ -22,4 +23,4 @@ InRange flow.Sleep = Unit {0}
 -- "The program counter has 12 bits and all its arithmetic is modulo 4096"
 abbrev pub TargetsInRange : Type 0
 TargetsInRange =
-    (image : List ℕ) → Bytes image → (a : ℕ) (i : Instruction) (n cycles : ℕ) → decodeAt image a ≡ instruction i n cycles → InRange (flowOf i a)
+    (image : List ℕ) → Bytes image → (a : ℕ) (i : Instruction) (n cycles : ℕ) → decodeAt image a ≡ done (instruction i n cycles) → InRange (flowOf i a)

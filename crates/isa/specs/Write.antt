@@ -5,30 +5,25 @@ use mathlib.Core.Bool.{cond}
 use mathlib.Core.List.{List, _++_}
 use lib.Dec.{leb}
 use lib.ListN.{length, drop}
-use Rattle.isa.specs.Refusals.{Numbered, plain, numbered}
+use Rattle.isa.specs.Refusals.{Numbered, plain, numbered, Answer, done, refused}
 use Rattle.isa.specs.Encode.{bytes}
 use Rattle.isa.specs.declared.Encoded.{Encoded}
 use Rattle.isa.specs.declared.Encoded.the-variants.{One, Two, Three, Unencodable}
 use Rattle.isa.specs.declared.Written.{Written}
 use Rattle.isa.specs.declared.Written.the-variants.{Done, Refused}
 
--- what writing answers: how many bytes were written, or a refusal
-pub data Outcome : Type 0 where
-  wrote : (count : ℕ) → Outcome
-  refused : Numbered → Outcome
-
--- the program's answer by document 01's numbers
-abbrev pub outcomeOf : Written → Outcome
-outcomeOf (Done n) = wrote n
+-- what writing answers: how many bytes were written, or a refusal, by document 01's numbers
+abbrev pub outcomeOf : Written → Answer ℕ
+outcomeOf (Done n) = done n
 outcomeOf (Refused r) = refused (numbered r)
 
 -- "9 buffer shorter than the instruction"
-abbrev fitted : List ℕ → ℕ → Outcome
-fitted bs size = cond (leb (length bs) size) (wrote (length bs)) (refused (plain 9))
+abbrev fitted : List ℕ → ℕ → Answer ℕ
+fitted bs size = cond (leb (length bs) size) (done (length bs)) (refused (plain 9))
 
 -- by the encoding and the buffer's length; 8 comes before 9
 
-unfoldable pub outcome : Encoded → ℕ → Outcome
+unfoldable pub outcome : Encoded → ℕ → Answer ℕ
 outcome (One a) size = fitted (bytes (One a)) size
 outcome (Two a b) size = fitted (bytes (Two a b)) size
 outcome (Three a b c) size = fitted (bytes (Three a b c)) size

@@ -2,8 +2,8 @@
 use crate::Condition;
 use crate::Flow;
 use crate::Instruction;
-use crate::displacement::forward;
-use crate::displacement::target;
+use crate::displacement::long_target;
+use crate::displacement::short_target;
 ghost use mathlib.Core.Path.{_≡_};
 ghost use Rattle.isa.specs.ControlFlow.{shortOf, longOf, flowOf};
 
@@ -13,7 +13,7 @@ pub fn short(condition: Condition, address: u16, displacement: i8) -> Flow
 {
     Flow::Branch {
         condition,
-        target: target(forward(address, 1), displacement),
+        target: short_target(address, displacement),
     }
 }
 
@@ -23,7 +23,7 @@ pub fn long(condition: Condition, address: u16, displacement: i8) -> Flow
 {
     Flow::Branch {
         condition,
-        target: target(forward(address, 2), displacement),
+        target: long_target(address, displacement),
     }
 }
 

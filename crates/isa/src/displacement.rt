@@ -1,6 +1,6 @@
 // Signed displacements of relative jumps, and the addresses that they reach.
 ghost use mathlib.Core.Path.{_≡_};
-ghost use Rattle.isa.specs.Displacement.{shortDisplacement, longDisplacement, modulo, forwardOf, targetOf};
+ghost use Rattle.isa.specs.Displacement.{shortDisplacement, longDisplacement, modulo, forwardOf, targetOf, shortTarget, longTarget};
 ghost use Rattle.isa.specs.Encode.{inField};
 
 // The opcode's top five bits, signed.
@@ -50,6 +50,20 @@ pub fn target(address: u16, displacement: i8) -> u16
     ensures { λ r. ⌜ r ≡ targetOf address displacement ⌝ }
 {
     (address % 4096 + residue(displacement)) % 4096
+}
+
+// The target of a short displacement, counted from the address after the branch.
+pub fn short_target(address: u16, displacement: i8) -> u16
+    ensures { λ r. ⌜ r ≡ shortTarget address displacement ⌝ }
+{
+    target(forward(address, 1), displacement)
+}
+
+// The target of a long displacement, counted from the branch's address plus 2.
+pub fn long_target(address: u16, displacement: i8) -> u16
+    ensures { λ r. ⌜ r ≡ longTarget address displacement ⌝ }
+{
+    target(forward(address, 2), displacement)
 }
 
 // Whether a displacement lies in -16 to 15.

@@ -7,13 +7,13 @@ use mathlib.Core.Logic.{inl, inr}
 use mathlib.Core.List.{List, [], _∷_, _++_}
 use lib.Dec.{leb, eqb}
 use lib.ListN.{length, getD}
-use Rattle.isa.specs.Refusals.{Numbered, plain, located}
+use Rattle.isa.specs.Refusals.{Numbered, plain, located, refused, unless}
 use Rattle.isa.specs.Decode.{decodeAt}
 use Rattle.certificate.specs.Marks.{lowest}
-use Rattle.certificate.specs.Check.{Verdict, refused}
+use Rattle.certificate.specs.Check.{Verdict}
 use Rattle.certificate.specs.Refusals.{Question, FirstApplies, questions, atMark, atMarks, atVectors, tooManyLevels}
 use Rattle.certificate.proofs.Ordered.{answers-first}
-use Rattle.jobs.specs.Jobs.{unless, isWhole, jobOf, imageOf, certificateOf, romBytes, wiredOf}
+use Rattle.jobs.specs.Jobs.{isWhole, jobOf, imageOf, certificateOf, romBytes, wiredOf}
 use Rattle.jobs.specs.Addresses.{ThreeDigitsAreEnough}
 
 -- a refusal's address, if it has one, is below 1000h
@@ -67,7 +67,7 @@ module _ (image certificate : List ℕ) (wired : ℕ) where
 -- where a job is refused with an address, its check refuses
 from-check :
     {number address : ℕ} {v : Verdict} (long version whole : Bool)
-    → unless long (plain 20) (unless version (plain 21) (unless whole (plain 22) v)) ≡ refused (located number address)
+    → unless long (refused (plain 20)) (unless version (refused (plain 21)) (unless whole (refused (plain 22)) v)) ≡ refused (located number address)
     → v ≡ refused (located number address)
 from-check true true true e = e
 from-check true true false e = cc

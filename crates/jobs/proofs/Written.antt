@@ -6,8 +6,7 @@ use mathlib.Core.Bool.{Bool, true, false, cond}
 use mathlib.Core.List.{List, _++_}
 use lib.ListN.{length, drop, length-append}
 use borrow.Author.Tests.{le-leb}
-use Rattle.isa.specs.Refusals.{plain}
-use Rattle.isa.specs.Write.{wrote, refused}
+use Rattle.isa.specs.Refusals.{plain, done, refused}
 use Rattle.jobs.specs.declared.Answered.{Answered}
 use Rattle.jobs.specs.declared.Answered.the-variants.{Line}
 use Rattle.jobs.specs.Answers.{Answers, fits, outcomeOf, SixteenBytesAreEnough}
@@ -19,7 +18,7 @@ within-buffer {text} {before} {after} {r} {n} e a = go (fits text before) (ap ou
   where
     go :
         (b : Bool)
-        → wrote n ≡ cond b (wrote (length text)) (refused (plain 9))
+        → done n ≡ cond b (done (length text)) (refused (plain 9))
         → after ≡ cond b (text ++ drop (length text) before) before
         → n ≤ length after
     go true p q =

@@ -2,8 +2,7 @@
 use Prim.Native.Nat.{ℕ, _<_}
 use mathlib.Core.Path.{_≡_}
 use mathlib.Core.List.{List}
-use Rattle.isa.specs.Refusals.{located}
-use Rattle.certificate.specs.Check.{refused}
+use Rattle.isa.specs.Refusals.{located, refused}
 use Rattle.jobs.specs.Jobs.{jobOf}
 
 -- "address in three hex digits": every address that a job's answer gives is below 1000h

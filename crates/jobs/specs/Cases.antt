@@ -4,8 +4,8 @@ use mathlib.Core.Path.{_≡_}
 use mathlib.Core.Logic.{_⊎_}
 use mathlib.Core.List.{List, [], _∷_, _++_}
 use lib.ListN.{length}
-use Rattle.isa.specs.Refusals.{plain, located}
-use Rattle.certificate.specs.Check.{refused, checkOf}
+use Rattle.isa.specs.Refusals.{plain, located, refused}
+use Rattle.certificate.specs.Check.{checkOf}
 use Rattle.certificate.specs.Cases.{image11, certificate11, put}
 use Rattle.jobs.specs.Jobs.{jobOf}
 use Rattle.jobs.specs.Lines.{lineOf}

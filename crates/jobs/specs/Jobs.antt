@@ -4,13 +4,8 @@ use mathlib.Core.Bool.{Bool, true, false, _&&_, _||_}
 use mathlib.Core.List.{List}
 use lib.Dec.{leb, eqb}
 use lib.ListN.{length, take, drop, getD}
-use Rattle.isa.specs.Refusals.{Numbered, plain}
-use Rattle.certificate.specs.Check.{Verdict, refused, checkOf}
-
--- "The first that applies is given": the refusal where a test fails, and where it passes what the rest answers
-abbrev pub unless : Bool → Numbered → Verdict → Verdict
-unless true refusal more = more
-unless false refusal more = refused refusal
+use Rattle.isa.specs.Refusals.{Numbered, plain, refused, unless}
+use Rattle.certificate.specs.Check.{Verdict, checkOf}
 
 -- "a two-byte big-endian count of the bytes after it": it stands after the version
 abbrev pub countOf : (job : List ℕ) → ℕ
@@ -40,7 +35,7 @@ certificateOf size job = take size (drop (4 + size) job)
 -- "20 fewer than three bytes; 21 first byte not 1; 22 length.", then what the check answers
 unfoldable pub jobOf : (job : List ℕ) → Verdict
 jobOf job =
-    unless (leb 3 (length job)) (plain 20)
-    (unless (eqb (getD job 0 0) 1) (plain 21)
-    (unless (isWhole job) (plain 22)
+    unless (leb 3 (length job)) (refused (plain 20))
+    (unless (eqb (getD job 0 0) 1) (refused (plain 21))
+    (unless (isWhole job) (refused (plain 22))
     (checkOf (imageOf (romBytes job) job) (certificateOf (romBytes job) job) (wiredOf job))))

@@ -3,8 +3,8 @@ use Prim.Native.Nat.{ℕ, zero, suc, _+_, _-_, _/_, _%_}
 use mathlib.Core.Bool.{cond}
 use mathlib.Core.List.{List, [], _∷_, _++_}
 use lib.Dec.{ltb}
-use Rattle.isa.specs.Refusals.{plain, located}
-use Rattle.certificate.specs.Check.{Verdict, accepted, refused}
+use Rattle.isa.specs.Refusals.{plain, located, done, refused}
+use Rattle.certificate.specs.Check.{Verdict, accepted}
 
 -- `accepted` and a space
 abbrev pub acceptedWord : List ℕ
@@ -40,6 +40,6 @@ threeDigits a = glyph (a / 256 % 16) ∷ glyph (a / 16 % 16) ∷ glyph (a % 16) 
 -- "`accepted 2` and a newline", "`refused 17 883` and a newline (number, then address in three hex digits; a refusal without address
 -- ends after the number)"
 unfoldable pub lineOf : Verdict → List ℕ
-lineOf (accepted levels) = acceptedWord ++ (decimal levels ++ newline)
+lineOf (done levels) = acceptedWord ++ (decimal levels ++ newline)
 lineOf (refused (plain number)) = refusedWord ++ (decimal number ++ newline)
 lineOf (refused (located number address)) = refusedWord ++ (decimal number ++ (space ++ (threeDigits address ++ newline)))

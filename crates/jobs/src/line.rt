@@ -3,8 +3,8 @@ use crate::Text;
 use certificate::Checked;
 use isa::Number;
 use isa::refusals::number_of;
-ghost use Rattle.isa.specs.Refusals.{asNumbered};
-ghost use Rattle.certificate.specs.Check.{answered, refused};
+ghost use Rattle.isa.specs.Refusals.{asNumbered, refused};
+ghost use Rattle.certificate.specs.Check.{answered};
 ghost use Rattle.jobs.specs.Lines.{lineOf};
 ghost use Rattle.jobs.specs.Texts.{Begins};
 

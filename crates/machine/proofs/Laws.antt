@@ -10,7 +10,7 @@ use lib.ListN.{length, getD, drop}
 use lib.Seq.{getD-drop}
 use Rattle.alu.specs.declared.Flags.{Flags}
 use Rattle.data.specs.Effect.{effectOf}
-use Rattle.isa.specs.Refusals.{Numbered}
+use Rattle.isa.specs.Refusals.{Numbered, Answer, Ended, done, refused}
 use Rattle.isa.specs.RoundTrip.{Bytes}
 use Rattle.isa.specs.Displacement.{forwardOf}
 use Rattle.isa.specs.ControlFlow.{flowOf}
@@ -25,8 +25,8 @@ use Rattle.machine.specs.declared.Machine.{Machine}
 use Rattle.machine.specs.declared.FlagPairs.{FlagPairs}
 use Rattle.machine.specs.Pairs.{pairOf, withNmi, withPairOf}
 use Rattle.machine.specs.Execute.{executeOf}
-use Rattle.machine.specs.State.{isWellFormed, Ended, done, refused}
-use Rattle.machine.specs.Step.{Step, Answer, doneOf, refusedOf, completedOf, executedOf, advancedOf, stepOf}
+use Rattle.machine.specs.State.{isWellFormed}
+use Rattle.machine.specs.Step.{Step, doneOf, refusedOf, completedOf, executedOf, advancedOf, stepOf}
 use Rattle.machine.specs.Step as step
 use Rattle.machine.specs.Run.{Run, runAt, joinedBy, joinedOf, continuedBy, continuedOf, stepsOf, requestsFit}
 use Rattle.machine.specs.Laws.{IsStop, Does, stops, takes, idles, executes, pairNumber, OtherPairsKept, GoesOn, DataGoesOn, StopsOnly, RunEndsByStop, followedBy, RunIsSteps}
@@ -84,7 +84,7 @@ module _ (image : List ℕ) (all : Bytes image) (size : isImage (length image) �
   stopped n request _ (executes i bytes cycles none awake at goes) r = tt
 
   continued : (r : Run) (request : ℕ) → isWellFormed (r .machine) ≡ true → namesOnlySources request ≡ true → (e : Ended) → r .report .ending ≡ e → StopsOnly e → StopsOnly (continuedBy image r request e .report .ending)
-  continued r request w fits done is f =
+  continued r request w fits (done tt) is f =
       rw (step-advances image (r .machine) request size w fits) (stopped (r .machine) request _ (step-does image (r .machine) request size w) r)
   continued r request w fits (refused reason) is f = rw is f
 
@@ -99,20 +99,20 @@ pub run-ends-by-stop : RunEndsByStop
 run-ends-by-stop image all size requests n fit m formed = ends image all size requests m formed n fit n (omega arith)
 
 -- a run is its machine and its report
-run-is : (r : Run) → r .report .ending ≡ done → followedBy r (runAt (r .machine) 0 0 done) ≡ r
+run-is : (r : Run) → r .report .ending ≡ done tt → followedBy r (runAt (r .machine) 0 0 (done tt)) ≡ r
 run-is r e = rw (add-zero (r .report .steps), add-zero (r .report .cycles), e)
 
 -- going on after the second of two runs
 followed-on : (image : List ℕ) (r s : Run) (request : ℕ) (e : Ended) → s .report .ending ≡ e → continuedBy image (followedBy r s) request e ≡ followedBy r (continuedBy image s request e)
-followed-on image r s request done e = by-answer (stepOf image (s .machine) request .machine) (stepOf image (s .machine) request .answer)
+followed-on image r s request (done tt) e = by-answer (stepOf image (s .machine) request .machine) (stepOf image (s .machine) request .answer)
   where
-    by-answer : (n : Machine) (a : Answer) → joinedBy (followedBy r s) n a ≡ followedBy r (joinedBy s n a)
-    by-answer n (step.done cycles) =
+    by-answer : (n : Machine) (a : Answer ℕ) → joinedBy (followedBy r s) n a ≡ followedBy r (joinedBy s n a)
+    by-answer n (done cycles) =
         rw (add-assoc (r .report .steps) (s .report .steps) 1, add-assoc (r .report .cycles) (s .report .cycles) cycles)
-    by-answer n (step.refused reason) = refl
+    by-answer n (refused reason) = refl
 followed-on image r s request (refused reason) e = refl
 
-module _ (image requests : List ℕ) (m : Machine) (n : ℕ) (completes : stepsOf image requests m n .report .ending ≡ done) where
+module _ (image requests : List ℕ) (m : Machine) (n : ℕ) (completes : stepsOf image requests m n .report .ending ≡ done tt) where
   more : (k : ℕ) → stepsOf image requests m (n + k) ≡ followedBy (stepsOf image requests m n) (stepsOf image (drop n requests) (stepsOf image requests m n .machine) k)
   unfolding stepsOf
   more zero = rw (add-zero n) (sym (run-is (stepsOf image requests m n) completes))

@@ -9,7 +9,7 @@ use lib.ListN.{length, getD, replicate}
 use Rattle.isa.specs.Displacement.{forwardOf}
 use Rattle.isa.specs.RoundTrip.{Bytes}
 use Rattle.isa.specs.ControlFlow.{flowOf}
-use Rattle.isa.specs.Refusals.{plain}
+use Rattle.isa.specs.Refusals.{plain, Answer, Ended, done, refused, unless}
 use Rattle.isa.specs.Rom.{isImage}
 use Rattle.isa.proofs.Targets.{targets-in-range}
 use Rattle.control.specs.WellFormed.{Formed}
@@ -17,8 +17,8 @@ use Rattle.control.specs.Requests.{takeOf}
 use Rattle.control.proofs.StaysWellFormed.{formed-exactly, stays-formed}
 use Rattle.machine.specs.declared.Machine.{Machine}
 use Rattle.machine.specs.Execute.{jumpsOf, executeOf}
-use Rattle.machine.specs.State.{unless, viewOf, isWellFormed, inWindow, withByte, hostStored, hostStoreOf, resetControl, resetOf, Ended, done, refused}
-use Rattle.machine.specs.Step.{Step, Answer, advancedOf, stepOf}
+use Rattle.machine.specs.State.{viewOf, isWellFormed, inWindow, withByte, hostStored, hostStoreOf, resetControl, resetOf}
+use Rattle.machine.specs.Step.{Step, advancedOf, stepOf}
 use Rattle.machine.specs.Step as step
 use Rattle.machine.specs.Run.{Run, joinedBy, continuedBy, stepsOf, requestsFit, refusedRun, runOf}
 use Rattle.machine.specs.Laws.{executionAt, Does, stops, takes, idles, executes, StaysWellFormed}
@@ -60,12 +60,12 @@ module _ (image : List ℕ) (all : Bytes image) (m : Machine) (formed : isWellFo
 
 -- a run, step by step
 module _ (image : List ℕ) (all : Bytes image) (requests : List ℕ) (m : Machine) (formed : isWellFormed m ≡ true) where
-  joined : (r : Run) (n : Machine) (a : Answer) → isWellFormed n ≡ true → isWellFormed (joinedBy r n a .machine) ≡ true
-  joined r n (step.done cycles) f = f
-  joined r n (step.refused reason) f = f
+  joined : (r : Run) (n : Machine) (a : Answer ℕ) → isWellFormed n ≡ true → isWellFormed (joinedBy r n a .machine) ≡ true
+  joined r n (done cycles) f = f
+  joined r n (refused reason) f = f
 
   continued : (r : Run) (request : ℕ) (ending : Ended) → isWellFormed (r .machine) ≡ true → isWellFormed (continuedBy image r request ending .machine) ≡ true
-  continued r request done f = joined r (stepOf image (r .machine) request .machine) (stepOf image (r .machine) request .answer) (by-step image all (r .machine) f request)
+  continued r request (done tt) f = joined r (stepOf image (r .machine) request .machine) (stepOf image (r .machine) request .answer) (by-step image all (r .machine) f request)
   continued r request (refused reason) f = f
 
   by-steps : (n : ℕ) → isWellFormed (stepsOf image requests m n .machine) ≡ true
@@ -88,7 +88,7 @@ by-store : (m : Machine) → isWellFormed m ≡ true → (a value : ℕ) → isW
 unfolding hostStoreOf
 by-store m formed a value = by-tests (isWellFormed m) (not (inWindow a))
   where
-    by-tests : (b c : Bool) → isWellFormed (unless b (hostStored m (refused (plain 2))) (unless c (hostStored m (refused (plain 10))) (hostStored (withByte m a value) done)) .machine) ≡ true
+    by-tests : (b c : Bool) → isWellFormed (unless b (hostStored m (refused (plain 2))) (unless c (hostStored m (refused (plain 10))) (hostStored (withByte m a value) (done tt))) .machine) ≡ true
     by-tests false c = formed
     by-tests true false = formed
     by-tests true true = formed

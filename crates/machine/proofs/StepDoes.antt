@@ -6,7 +6,7 @@ use mathlib.Core.Bool.{Bool, true, false, cond}
 use mathlib.Core.List.{List}
 use native.Mathlib.Omega.{arith}
 use lib.ListN.{length}
-use Rattle.isa.specs.Refusals.{Numbered, plain, located}
+use Rattle.isa.specs.Refusals.{Numbered, plain, located, Answer, done, refused, unless}
 use Rattle.isa.specs.Sources.{namesOnlySources}
 use Rattle.isa.specs.Rom.{isImage}
 use Rattle.isa.specs.Decode.{decodeAt}
@@ -21,7 +21,7 @@ use Rattle.control.specs.declared.Requested.the-variants.{Nothing, Taken}
 use Rattle.control.specs.Requests.{requestedOf, takeOf}
 use Rattle.control.proofs.StaysWellFormed.{formed-exactly}
 use Rattle.machine.specs.declared.Machine.{Machine}
-use Rattle.machine.specs.State.{unless, isWellFormed}
+use Rattle.machine.specs.State.{isWellFormed}
 use Rattle.machine.specs.Step.{Step, doneOf, refusedOf, stoppedOf, takenBy, takenOf, completedOf, executedOf, decodedOf, unrequestedOf, respondOf, enabledOf, advancedOf, stepOf}
 use Rattle.machine.specs.Laws.{Takes, TakesNone, AtPc, executionAt, IsStop, Does, stops, takes, idles, executes, StepDoes}
 
@@ -39,11 +39,11 @@ module _ (image : List ℕ) (m : Machine) (request : ℕ) (size : isImage (lengt
   unfolding takenOf takenBy
   taken source e = by-stop (takeOf (m .stack) (m .control) source .stop) _ (takes source e)
 
-  decoded : TakesNone m request → m .control .asleep ≡ false → (a : decode.Answer) → decodeAt image (m .control .pc) ≡ a → AtAddress (m .control .pc) a → Does image m request (decodedOf image m a)
+  decoded : TakesNone m request → m .control .asleep ≡ false → (a : Answer decode.Decoding) → decodeAt image (m .control .pc) ≡ a → AtAddress (m .control .pc) a → Does image m request (decodedOf image m a)
   unfolding decodedOf executedOf completedOf
-  decoded none awake (decode.instruction i bytes cycles) e at = by-stop (executionAt image m i bytes .stop) _ (executes i bytes cycles none awake e)
-  decoded none awake (decode.refused r) e (inl is) = rw is (stops (located 4 (m .control .pc)) (is-stop 4 (m .control .pc) (omega arith) (omega arith)))
-  decoded none awake (decode.refused r) e (inr is) = rw is (stops (located 5 (m .control .pc)) (is-stop 5 (m .control .pc) (omega arith) (omega arith)))
+  decoded none awake (done (decode.instruction i bytes cycles)) e at = by-stop (executionAt image m i bytes .stop) _ (executes i bytes cycles none awake e)
+  decoded none awake (refused r) e (inl is) = rw is (stops (located 4 (m .control .pc)) (is-stop 4 (m .control .pc) (omega arith) (omega arith)))
+  decoded none awake (refused r) e (inr is) = rw is (stops (located 5 (m .control .pc)) (is-stop 5 (m .control .pc) (omega arith) (omega arith)))
 
   unrequested : TakesNone m request → (asleep : Bool) → m .control .asleep ≡ asleep → Does image m request (cond asleep (doneOf m 0) (decodedOf image m (decodeAt image (m .control .pc))))
   unrequested none true e = idles none e

@@ -8,13 +8,13 @@ use native.Mathlib.Nat.{zero-add, suc-add}
 use native.Mathlib.Numerals.{add-one}
 use borrow.Author.Count.{below-more}
 use lib.ListN.{getD, length, replicate, List·getD-eq-default}
-use Rattle.isa.specs.Refusals.{Numbered}
+use Rattle.isa.specs.Refusals.{Numbered, Answer, done, refused}
 use Rattle.isa.specs.Sources.{namesOnlySources}
 use Rattle.isa.specs.Rom.{isImage}
 use Rattle.isa.specs.Decode.{decodeAt}
 use Rattle.machine.specs.declared.Machine.{Machine}
-use Rattle.machine.specs.State.{isWellFormed, Ended, done, refused}
-use Rattle.machine.specs.Step.{Step, Answer, doneOf, refusedOf, decodedOf, unrequestedOf, advancedOf, stepOf}
+use Rattle.machine.specs.State.{isWellFormed}
+use Rattle.machine.specs.Step.{Step, doneOf, refusedOf, decodedOf, unrequestedOf, advancedOf, stepOf}
 use Rattle.machine.specs.Step as step
 use Rattle.machine.specs.Run.{Run, runAt, asAnswer, joinedBy, continuedOf, stepsOf, requestsFit}
 
@@ -82,16 +82,16 @@ module _ (image requests : List ℕ) (m : Machine) where
       ∙ ended-stays image (stepsOf image requests m (d + k)) (getD requests (d + k) 0) r (ap (λ (x : Run). x .report .ending) before ∙ e) ∙ before
 
   -- a step that completes, after i that did
-  pub one-more : (i cycles more : ℕ) (n o : Machine) → runAt n i cycles done ≡ stepsOf image requests m i → doneOf o more ≡ stepOf image n (getD requests i 0) → runAt o (i + 1) (cycles + more) done ≡ stepsOf image requests m (i + 1)
+  pub one-more : (i cycles more : ℕ) (n o : Machine) → runAt n i cycles (done tt) ≡ stepsOf image requests m i → doneOf o more ≡ stepOf image n (getD requests i 0) → runAt o (i + 1) (cycles + more) (done tt) ≡ stepsOf image requests m (i + 1)
   one-more i cycles more n o e s =
-      let joined : runAt o (i + 1) (cycles + more) done ≡ continuedOf image (runAt n i cycles done) (getD requests i 0) = rw (← s) in
-      joined ∙ after i (runAt n i cycles done) e ∙ ap (stepsOf image requests m) (sym (add-one i))
+      let joined : runAt o (i + 1) (cycles + more) (done tt) ≡ continuedOf image (runAt n i cycles (done tt)) (getD requests i 0) = rw (← s) in
+      joined ∙ after i (runAt n i cycles (done tt)) e ∙ ap (stepsOf image requests m) (sym (add-one i))
 
   -- a step that stops, after i that completed, ends the run
-  pub stops-at : (i n cycles : ℕ) (o p : Machine) (r : Numbered) → i < n → runAt o i cycles done ≡ stepsOf image requests m i → refusedOf p r ≡ stepOf image o (getD requests i 0) → runAt p i cycles (refused r) ≡ stepsOf image requests m n
+  pub stops-at : (i n cycles : ℕ) (o p : Machine) (r : Numbered) → i < n → runAt o i cycles (done tt) ≡ stepsOf image requests m i → refusedOf p r ≡ stepOf image o (getD requests i 0) → runAt p i cycles (refused r) ≡ stepsOf image requests m n
   stops-at i n cycles o p r h e s =
-      let joined : runAt p i cycles (refused r) ≡ continuedOf image (runAt o i cycles done) (getD requests i 0) = rw (← s) in
-      let here : runAt p i cycles (refused r) ≡ stepsOf image requests m (suc i) = joined ∙ after i (runAt o i cycles done) e in
+      let joined : runAt p i cycles (refused r) ≡ continuedOf image (runAt o i cycles (done tt)) (getD requests i 0) = rw (← s) in
+      let here : runAt p i cycles (refused r) ≡ stepsOf image requests m (suc i) = joined ∙ after i (runAt o i cycles (done tt)) e in
       let whole : (n - suc i) + suc i ≡ n = omega arith in
       here ∙ sym (stays-by (suc i) (n - suc i) r (sym (ap (λ (x : Run). x .report .ending) here))) ∙ ap (stepsOf image requests m) whole
 
@@ -105,6 +105,6 @@ pub one-step : (image : List ℕ) (m : Machine) (q : ℕ) (r : Run) → r ≡ st
 unfolding stepsOf
 one-step image m q r e = rw e (by-answer (stepOf image m q .machine) (stepOf image m q .answer))
   where
-    by-answer : (n : Machine) (a : Answer) → _≡_ {A = Step} (record { machine = joinedBy (runAt m 0 0 done) n a .machine; answer = asAnswer (joinedBy (runAt m 0 0 done) n a .report) }) (record { machine = n; answer = a })
-    by-answer n (step.done cycles) = rw (zero-add cycles)
-    by-answer n (step.refused reason) = refl
+    by-answer : (n : Machine) (a : Answer ℕ) → _≡_ {A = Step} (record { machine = joinedBy (runAt m 0 0 (done tt)) n a .machine; answer = asAnswer (joinedBy (runAt m 0 0 (done tt)) n a .report) }) (record { machine = n; answer = a })
+    by-answer n (done cycles) = rw (zero-add cycles)
+    by-answer n (refused reason) = refl

@@ -6,7 +6,7 @@ use mathlib.Core.Logic.{_⊎_, _≢_}
 use mathlib.Core.Bool.{true, false}
 use mathlib.Core.List.{List, [], _∷_}
 use lib.ListN.{length, drop}
-use Rattle.isa.specs.Refusals.{Numbered, plain, located}
+use Rattle.isa.specs.Refusals.{Numbered, plain, located, Ended, done, refused}
 use Rattle.isa.specs.RoundTrip.{Bytes}
 use Rattle.isa.specs.Displacement.{forwardOf}
 use Rattle.isa.specs.ControlFlow.{flowOf}
@@ -26,8 +26,8 @@ use Rattle.control.specs.Requests.{requestedOf, takeOf}
 use Rattle.machine.specs.declared.Machine.{Machine}
 use Rattle.machine.specs.Pairs.{pairOf, withPairOf}
 use Rattle.machine.specs.Execute.{Execution, executeOf}
-use Rattle.machine.specs.State.{machineOf, viewOf, isWellFormed, Ended, done, refused, hostStoreOf, resetOf}
-use Rattle.machine.specs.Step.{Step, Answer, doneOf, refusedOf, enabledOf, executedOf, advancedOf, stepOf}
+use Rattle.machine.specs.State.{machineOf, viewOf, isWellFormed, hostStoreOf, resetOf}
+use Rattle.machine.specs.Step.{Step, doneOf, refusedOf, enabledOf, executedOf, advancedOf, stepOf}
 use Rattle.machine.specs.Step as step
 use Rattle.machine.specs.Run.{Run, runAt, stepsOf, requestsFit, runOf}
 
@@ -40,7 +40,7 @@ TakesNone m request = requestedOf (m .control .mode) (enabledOf (m .bytes)) requ
 
 -- the instruction at PC, with its bytes and cycles, and what executing it does
 abbrev pub AtPc : (image : List ℕ) → Machine → Instruction → (bytes cycles : ℕ) → Type 0
-AtPc image m i bytes cycles = decodeAt image (m .control .pc) ≡ decode.instruction i bytes cycles
+AtPc image m i bytes cycles = decodeAt image (m .control .pc) ≡ done (decode.instruction i bytes cycles)
 
 abbrev pub executionAt : (image : List ℕ) → Machine → Instruction → (bytes : ℕ) → Execution
 executionAt image m i bytes = executeOf image (viewOf m) (m .stack) (m .control) i (forwardOf (m .control .pc) bytes)
@@ -93,7 +93,7 @@ OtherPairsKept =
 pub record GoesOn (image : List ℕ) (m : Machine) (i : Instruction) (bytes cycles : ℕ) : Type 0 where
   pub control : executedOf image m i bytes cycles .machine .control ≡ atOf (m .control) (forwardOf (m .control .pc) bytes)
   pub stack : executedOf image m i bytes cycles .machine .stack ≡ m .stack
-  pub answer : executedOf image m i bytes cycles .answer ≡ step.done cycles
+  pub answer : executedOf image m i bytes cycles .answer ≡ done cycles
 
 abbrev pub DataGoesOn : Type 0
 DataGoesOn =
@@ -116,7 +116,7 @@ pub record StaysWellFormed : Type 0 where
 
 -- so a run ends early only where a step stops, never with 1, 2 or 11 midway
 abbrev pub StopsOnly : Ended → Type 0
-StopsOnly done = Unit {0}
+StopsOnly (done tt) = Unit {0}
 StopsOnly (refused r) = IsStop r
 
 abbrev pub RunEndsByStop : Type 0
@@ -133,11 +133,11 @@ followedBy r s =
 pub record RunIsSteps : Type 0 where
   pub one :
       (image : List ℕ) (m : Machine) (q : ℕ) (n : Machine) (cycles : ℕ) → stepOf image m q ≡ doneOf n cycles →
-      stepsOf image (q ∷ []) m 1 ≡ runAt n 1 cycles done
+      stepsOf image (q ∷ []) m 1 ≡ runAt n 1 cycles (done tt)
   pub one-stops :
       (image : List ℕ) (m : Machine) (q : ℕ) (n : Machine) (r : Numbered) → stepOf image m q ≡ refusedOf n r →
       stepsOf image (q ∷ []) m 1 ≡ runAt n 0 0 (refused r)
   pub more :
-      (image requests : List ℕ) (m : Machine) (n k : ℕ) → stepsOf image requests m n .report .ending ≡ done →
+      (image requests : List ℕ) (m : Machine) (n k : ℕ) → stepsOf image requests m n .report .ending ≡ done tt →
       stepsOf image requests m (n + k)
       ≡ followedBy (stepsOf image requests m n) (stepsOf image (drop n requests) (stepsOf image requests m n .machine) k)

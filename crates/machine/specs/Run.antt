@@ -4,15 +4,15 @@ use mathlib.Core.Bool.{Bool, true, cond, _&&_}
 use mathlib.Core.List.{List}
 use lib.ListN.{getD, length}
 use lib.Dec.{leb}
-use Rattle.isa.specs.Refusals.{Numbered, plain}
+use Rattle.isa.specs.Refusals.{Numbered, plain, Answer, Ended, done, refused, unless}
 use Rattle.isa.specs.Sources.{namesOnlySources}
 use Rattle.isa.specs.Rom.{isImage}
 use Rattle.machine.specs.declared.Machine.{Machine}
 use Rattle.machine.specs.declared.Report.{Report}
 use Rattle.machine.specs.declared.Progress.{Progress}
 use Rattle.machine.specs.declared.Ran.{Ran}
-use Rattle.machine.specs.State.{unless, machineOf, isWellFormed, Ended, done, refused, endedOf}
-use Rattle.machine.specs.Step.{Step, Answer, stepOf}
+use Rattle.machine.specs.State.{machineOf, isWellFormed, endedOf}
+use Rattle.machine.specs.Step.{Step, stepOf}
 use Rattle.machine.specs.Step as step
 
 -- "reports steps completed and cycles", and how the run ended
@@ -25,11 +25,11 @@ abbrev pub reportOf : Report → Reported
 reportOf r = record { steps = r .steps; cycles = r .cycles; ending = endedOf (r .ending) }
 
 -- the report of a run of one step, as the step's answer
-abbrev pub answerBy : (cycles : ℕ) → Ended → Answer
-answerBy cycles done = step.done cycles
-answerBy cycles (refused n) = step.refused n
+abbrev pub answerBy : (cycles : ℕ) → Ended → Answer ℕ
+answerBy cycles (done tt) = done cycles
+answerBy cycles (refused n) = refused n
 
-abbrev pub asAnswer : Reported → Answer
+abbrev pub asAnswer : Reported → Answer ℕ
 asAnswer r = answerBy (r .cycles) (r .ending)
 
 -- a machine after a run, and the run's report
@@ -49,16 +49,16 @@ abbrev pub runAt : Machine → (steps cycles : ℕ) → Ended → Run
 runAt m steps cycles ending = record { machine = m; report = record { steps = steps; cycles = cycles; ending = ending } }
 
 -- a run and the step after it: a completed step counts, with its cycles; "It ends early only where a step stops"
-abbrev pub joinedBy : Run → Machine → Answer → Run
-joinedBy r m (step.done cycles) = runAt m (r .report .steps + 1) (r .report .cycles + cycles) done
-joinedBy r m (step.refused n) = runAt m (r .report .steps) (r .report .cycles) (refused n)
+abbrev pub joinedBy : Run → Machine → Answer ℕ → Run
+joinedBy r m (done cycles) = runAt m (r .report .steps + 1) (r .report .cycles + cycles) (done tt)
+joinedBy r m (refused n) = runAt m (r .report .steps) (r .report .cycles) (refused n)
 
 abbrev pub joinedOf : Run → Step → Run
 joinedOf r s = joinedBy r (s .machine) (s .answer)
 
 -- a run that has ended stays
 abbrev pub continuedBy : (image : List ℕ) → Run → (request : ℕ) → Ended → Run
-continuedBy image r request done = joinedOf r (stepOf image (r .machine) request)
+continuedBy image r request (done tt) = joinedOf r (stepOf image (r .machine) request)
 continuedBy image r request (refused n) = r
 
 abbrev pub continuedOf : (image : List ℕ) → Run → (request : ℕ) → Run
@@ -66,7 +66,7 @@ continuedOf image r request = continuedBy image r request (r .report .ending)
 
 -- "n single steps, with request byte i at step i and none past the lent list's end"
 unfoldable pub stepsOf : (image requests : List ℕ) → Machine → (n : ℕ) → Run
-stepsOf image requests m zero = runAt m 0 0 done
+stepsOf image requests m zero = runAt m 0 0 (done tt)
 stepsOf image requests m (suc n) = continuedOf image (stepsOf image requests m n) (getD requests n 0)
 
 -- not "11 among the list's first n bytes"; past its end the byte is 0

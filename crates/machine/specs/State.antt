@@ -5,7 +5,7 @@ use mathlib.Core.List.{List}
 use lib.ListN.{set, replicate}
 use lib.Dec.{ltb, leb}
 use Rattle.alu.specs.declared.Flags.{Flags}
-use Rattle.isa.specs.Refusals.{Numbered, plain, numbered}
+use Rattle.isa.specs.Refusals.{Numbered, plain, numbered, Ended, done, refused, unless}
 use Rattle.isa.specs.Sources.{resetVector}
 use Rattle.data.specs.Space.{storeOf}
 use Rattle.data.specs.Effect.{Data, dataOf}
@@ -18,11 +18,6 @@ use Rattle.machine.specs.declared.Ending.{Ending}
 use Rattle.machine.specs.declared.Ending.the-variants as ending
 use Rattle.machine.specs.declared.Stored.{Stored}
 use Rattle.machine.specs.Pairs.{pairOf}
-
--- "The first that applies is given": the refusal where a test fails, else what the rest answers
-abbrev pub unless : {A : Type 0} → Bool → A → A → A
-unless true refusal more = more
-unless false refusal more = refusal
 
 abbrev pub machineOf : Control → (stack : List ℕ) → FlagPairs → (bytes : List ℕ) → Machine
 machineOf c stack flags bytes = record { control = c; stack = stack; flags = flags; bytes = bytes }
@@ -54,12 +49,8 @@ unfoldable pub freshOf : Machine
 freshOf = resetOf (machineOf resetControl (replicate 6 0) clearedPairs (replicate 256 0))
 
 -- how a run or a host store ends, by document 01's numbers
-pub data Ended : Type 0 where
-  done : Ended
-  refused : Numbered → Ended
-
 abbrev pub endedOf : Ending → Ended
-endedOf ending.Done = done
+endedOf ending.Done = done tt
 endedOf (ending.Refused r) = refused (numbered r)
 
 -- a machine after a host store, and how that ended
@@ -85,4 +76,4 @@ unfoldable pub hostStoreOf : Machine → (a value : ℕ) → HostStore
 hostStoreOf m a value =
     unless (isWellFormed m) (hostStored m (refused (plain 2)))
     (unless (not (inWindow a)) (hostStored m (refused (plain 10)))
-    (hostStored (withByte m a value) done))
+    (hostStored (withByte m a value) (done tt)))

@@ -4,7 +4,7 @@ use mathlib.Core.Bool.{Bool, true, false, cond}
 use mathlib.Core.List.{List}
 use lib.ListN.{getD, length}
 use Rattle.alu.specs.Alu.{bitOf}
-use Rattle.isa.specs.Refusals.{Numbered, plain, located, numbered}
+use Rattle.isa.specs.Refusals.{Numbered, plain, located, numbered, Answer, done, refused, unless}
 use Rattle.isa.specs.Displacement.{forwardOf}
 use Rattle.isa.specs.Sources.{namesOnlySources}
 use Rattle.isa.specs.Rom.{isImage}
@@ -25,21 +25,17 @@ use Rattle.machine.specs.declared.Advanced.{Advanced}
 use Rattle.machine.specs.declared.Stepped.{Stepped}
 use Rattle.machine.specs.Pairs.{withPairOf}
 use Rattle.machine.specs.Execute.{Execution, executeOf}
-use Rattle.machine.specs.State.{unless, machineOf, viewOf, isWellFormed}
+use Rattle.machine.specs.State.{machineOf, viewOf, isWellFormed}
 
 -- a step's answer by document 01's numbers: done in so many cycles, or refused or stopped
-pub data Answer : Type 0 where
-  done : (cycles : ℕ) → Answer
-  refused : Numbered → Answer
-
-abbrev pub answerOf : StepAnswer → Answer
+abbrev pub answerOf : StepAnswer → Answer ℕ
 answerOf (answer.Done cycles) = done cycles
 answerOf (answer.Refused r) = refused (numbered r)
 
 -- a machine after a step, and the step's answer
 pub record Step : Type 0 where
   pub machine : Machine
-  pub answer : Answer
+  pub answer : Answer ℕ
 
 abbrev pub steppedOf : Stepped → Step
 steppedOf r = record { machine = r .machine; answer = answerOf (r .answer) }
@@ -80,9 +76,9 @@ executedOf image m i bytes cycles =
     completedOf m cycles (executeOf image (viewOf m) (m .stack) (m .control) i (forwardOf (m .control .pc) bytes))
 
 -- "4 and 5 as in decoding"
-unfoldable pub decodedOf : (image : List ℕ) → Machine → decode.Answer → Step
-decodedOf image m (decode.instruction i bytes cycles) = executedOf image m i bytes cycles
-decodedOf image m (decode.refused r) = refusedOf m r
+unfoldable pub decodedOf : (image : List ℕ) → Machine → Answer decode.Decoding → Step
+decodedOf image m (done (decode.instruction i bytes cycles)) = executedOf image m i bytes cycles
+decodedOf image m (refused r) = refusedOf m r
 
 -- "a sleeping step with nothing to take is idle, 0 cycles"; else the instruction at PC
 unfoldable pub unrequestedOf : (image : List ℕ) → Machine → Step

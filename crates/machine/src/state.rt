@@ -10,8 +10,8 @@ use control::well_formed::is_well_formed;
 use isa::Refusal;
 use isa::sources::RESET_VECTOR;
 ghost use mathlib.Core.Path.{_≡_};
-ghost use Rattle.isa.specs.Refusals.{numbered};
-ghost use Rattle.machine.specs.State.{withByte, storedOf, resetOf, freshOf, hostStored, hostStoreOf, done, refused};
+ghost use Rattle.isa.specs.Refusals.{numbered, done, refused};
+ghost use Rattle.machine.specs.State.{withByte, storedOf, resetOf, freshOf, hostStored, hostStoreOf};
 
 // Reset keeps all data but 0C8h and 0C9h. The slots of the stack are cleared too, so that a fresh machine is one value.
 pub fn reset(m: Machine) -> Machine
@@ -42,7 +42,7 @@ pub fn reset(m: Machine) -> Machine
 }
 
 fn stored(m: Machine, address: u8, value: u8) -> Stored
-    ensures { λ r. ⌜ storedOf r ≡ hostStored (withByte m address value) done ⌝ }
+    ensures { λ r. ⌜ storedOf r ≡ hostStored (withByte m address value) (done tt) ⌝ }
 {
     let control = m.control;
     let flags = m.flags;

@@ -1,7 +1,7 @@
 -- `st62_check` meets its contract.
 use mathlib.Core.Path.{ap, _∙_}
 use borrow.Author.Needs.{needs}
-use Rattle.exports.specs.Answers.{verdictWord}
+use Rattle.exports.specs.Answers.{answerWord}
 use Rattle.exports.proofs.Beyond.{check-beyond}
 use Rattle.exports.proofs.st62_check.Statement.{statement}
 use Rattle.exports.proofs.st62_check.Tie as tie
@@ -18,7 +18,7 @@ check-word-requires c κs = search needs
 returns : tie.Need-returns
 returns c =
     c .check-word .ensures
-    ∙ ap verdictWord
+    ∙ ap answerWord
     ((rw (c .before .before .byte-or .ensures) at (c .before .check .ensures))
     ∙ check-beyond _ _ _)
 

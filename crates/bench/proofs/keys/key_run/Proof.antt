@@ -42,7 +42,7 @@ use Rattle.machine.proofs.Report as O
 use Rattle.machine.proofs.Report.Laws as O′
 use Rattle.machine.proofs.run.run as run-op
 use Rattle.machine.proofs.run.run.Symbol as run-def
-use Rattle.machine.proofs.run.run.Symbol.{name as #machine·running·run}
+use Rattle.machine.proofs.run.run.Symbol.{name as #machine·run·run}
 use Rattle.machine.proofs.run.run.Met as run-thm
 use Rattle.bench.proofs.keys.key_run.Key.{name as #bench·keys·key-run}
 use Rattle.bench.proofs.keys.key_run as key
@@ -91,7 +91,7 @@ module _ {M : Type 1} (𝓤 : URA M) (H : Heap 𝓤) (A : Atoms 𝓤) (W : Given
   asks : ent 𝓤 (sep 𝓤 (mean 𝓤 H A P) (mean 𝓤 H A (‵ (T.the-row .own h (vals h))))) (Op 𝓤 H A at-mem run .pre to)
   asks = qed W (P ∷ ‵ (T.the-row .own h (vals h)) ∷ []) ∵ split ! $ move ! (1 ∷ []) $ fsplit ! $ move ! (3 ∷ 1 ∷ []) $ fjoin ! $ move ! (1 ∷ 0 ∷ []) $ fjoin ! $ move ! (1 ∷ 0 ∷ []) $ join ! $ frame ! $ done !
 
-  module _ (C : Calls 𝓤 H) (Λ : Loops 𝓤 H) (fm : FmC 𝓤 H (W .laws) C) (known : Triple 𝓤 (C #machine·running·run) (Op 𝓤 H A at-mem run)) where
+  module _ (C : Calls 𝓤 H) (Λ : Loops 𝓤 H) (fm : FmC 𝓤 H (W .laws) C) (known : Triple 𝓤 (C #machine·run·run) (Op 𝓤 H A at-mem run)) where
     walk : Is (ShrSlice (named 1) κ₁ u8) s (sv ∷ []) → Is (ShrSlice (named 2) κ₂ u8) z (zv ∷ []) → n < 2 ^ 32
         → ent 𝓤 (onEntry 𝓤 H A key.signature (κ, (κ₁, (κ₂, tt))) (q, (q₁, (q₂, tt))) (x, xs) (vptr b o ∷ [], at)) (WpFn 𝓤 H C Λ code.function (vptr b o ∷ sv ∷ zv ∷ vint w32 n ∷ []) Post)
     walk gs gz gn =
@@ -111,7 +111,7 @@ module _ {M : Type 1} (𝓤 : URA M) (H : Heap 𝓤) (A : Atoms 𝓤) (W : Given
         (r .machine) (tt, (tt, (tt, tt))) (r .report) (low-report (r .report)) (factI 𝓤 _ (emp 𝓤) e) (LL.makes O.the-type O′.the-plain 𝓤 H A (r .report) _ (ran 𝓤 H A W .result-is r v is)))))))))))
 
 module _ {M : Type 1} (𝓤 : URA M) (H : Heap 𝓤) (A : Atoms 𝓤) (W : Given 𝓤 H A) (at-mem : Memory → SProp 𝓤) (run : Routine → Fun 𝓤) where
-  walks : (C : Calls 𝓤 H) (Λ : Loops 𝓤 H) → FmC 𝓤 H (W .laws) C → Triple 𝓤 (C #machine·running·run) (Op 𝓤 H A at-mem run) → Walks 𝓤 H A key.ended stayed (WpFn 𝓤 H C Λ code.function) (key.clauses 𝓤 H A at-mem run)
+  walks : (C : Calls 𝓤 H) (Λ : Loops 𝓤 H) → FmC 𝓤 H (W .laws) C → Triple 𝓤 (C #machine·run·run) (Op 𝓤 H A at-mem run) → Walks 𝓤 H A key.ended stayed (WpFn 𝓤 H C Λ code.function) (key.clauses 𝓤 H A at-mem run)
   walks C Λ fm known = walked 𝓤 H A key.ended stayed (key.clauses 𝓤 H A at-mem run) (WpFn 𝓤 H C Λ code.function) (λ κs. (ptr-vals, (slice-vals, (slice-vals, (uint-vals w32, tt))))) (λ κs. (mut-tells (named 0) (κs .0) T.the-row, (shr-slice-tells (named 1) (κs .1 .0) u8, (shr-slice-tells (named 2) (κs .1 .1 .0) u8, (uint-tells w32, tt)))))
       (λ κs qs bounds a _ are. via 𝓤 _ (fst∗ 𝓤 _ (emp 𝓤)) (walk 𝓤 H A W at-mem run (κs .0) (κs .1 .0) (κs .1 .1 .0) (qs .0) (qs .1 .0) (qs .1 .1 .0) (a .0 .ptr .0) (a .0 .ptr .1) (a .0 .name) (a .0 .now) (a .1 .0) (a .1 .1 .0) (a .1 .1 .1 .0) C Λ fm known (are .1 .0) (are .1 .1 .0) (are .1 .1 .1 .0 .1)))
 
@@ -121,4 +121,4 @@ key-run-spec 𝓤 H 𝓜 𝓖 𝓡 =
     proved 𝓤 H 𝓜 𝓖 𝓡 code.env #bench·keys·key-run code.function (code.unfolded 𝓤 H 𝓜 𝓡) key.ended stayed (key.clauses 𝓤 H (𝓖 .A) (𝓜 .mem) (𝓡 .run))
     (Lent.goes tt [] ps (plain (λ _. O.the-row)) (yes, (yes, (yes, tt))) 𝓤 H (𝓖 .A) (givenOf 𝓤 H 𝓜 𝓖) ((λ κs x f. refl), ((λ κs x f. refl), ((λ κs x f. refl), tt))))
     (walks 𝓤 H (𝓖 .A) (givenOf 𝓤 H 𝓜 𝓖) (𝓜 .mem) (𝓡 .run) _ _ (framed 𝓤 H 𝓜 𝓖 𝓡 code.env)
-    (cited 𝓤 H (Op 𝓤 H (𝓖 .A) (𝓜 .mem) (𝓡 .run)) 𝓜 𝓡 code.env #machine·running·run run-def.routine code.calls-machine·running·run (run-thm.met 𝓤 H 𝓜 𝓖 𝓡)))
+    (cited 𝓤 H (Op 𝓤 H (𝓖 .A) (𝓜 .mem) (𝓡 .run)) 𝓜 𝓡 code.env #machine·run·run run-def.routine code.calls-machine·run·run (run-thm.met 𝓤 H 𝓜 𝓖 𝓡)))

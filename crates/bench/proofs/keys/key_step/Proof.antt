@@ -40,10 +40,10 @@ use Rattle.machine.proofs.Machine as T
 use Rattle.machine.proofs.Stepped.Laws as S′
 use Rattle.machine.proofs.StepAnswer as O
 use Rattle.machine.proofs.StepAnswer.Laws as O′
-use Rattle.machine.proofs.run.step as step
-use Rattle.machine.proofs.run.step.Symbol as step-def
-use Rattle.machine.proofs.run.step.Symbol.{name as #machine·running·step}
-use Rattle.machine.proofs.run.step.Met as step-thm
+use Rattle.machine.proofs.step.step as step
+use Rattle.machine.proofs.step.step.Symbol as step-def
+use Rattle.machine.proofs.step.step.Symbol.{name as #machine·step·step}
+use Rattle.machine.proofs.step.step.Met as step-thm
 use Rattle.bench.proofs.keys.key_step.Key.{name as #bench·keys·key-step}
 use Rattle.bench.proofs.keys.key_step as key
 use Rattle.bench.proofs.keys.key_step.Statement as stated
@@ -88,7 +88,7 @@ module _ {M : Type 1} (𝓤 : URA M) (H : Heap 𝓤) (A : Atoms 𝓤) (W : Given
   asks : ent 𝓤 (sep 𝓤 (mean 𝓤 H A P) (mean 𝓤 H A (‵ (T.the-row .own h (vals h))))) (Op 𝓤 H A at-mem run .pre to)
   asks = qed W (P ∷ ‵ (T.the-row .own h (vals h)) ∷ []) ∵ split ! $ move ! (1 ∷ []) $ fsplit ! $ move ! (3 ∷ 1 ∷ []) $ fjoin ! $ move ! (1 ∷ 0 ∷ []) $ fjoin ! $ move ! (1 ∷ 0 ∷ []) $ join ! $ frame ! $ done !
 
-  module _ (C : Calls 𝓤 H) (Λ : Loops 𝓤 H) (fm : FmC 𝓤 H (W .laws) C) (known : Triple 𝓤 (C #machine·running·step) (Op 𝓤 H A at-mem run)) where
+  module _ (C : Calls 𝓤 H) (Λ : Loops 𝓤 H) (fm : FmC 𝓤 H (W .laws) C) (known : Triple 𝓤 (C #machine·step·step) (Op 𝓤 H A at-mem run)) where
     walk : Is (ShrSlice (named 1) κ′ u8) s (sv ∷ []) → n < 2 ^ 8
         → ent 𝓤 (onEntry 𝓤 H A key.signature (κ, (κ′, tt)) (q, (q′, tt)) (x, xs) (vptr b o ∷ [], at)) (WpFn 𝓤 H C Λ code.function (vptr b o ∷ sv ∷ vint w8 n ∷ []) Post)
     walk gs gn =
@@ -108,7 +108,7 @@ module _ {M : Type 1} (𝓤 : URA M) (H : Heap 𝓤) (A : Atoms 𝓤) (W : Given
         (r .machine) (tt, (tt, tt)) (r .answer) (low-answer (r .answer)) (factI 𝓤 _ (emp 𝓤) e) (EL.makes O.the-type O′.the-plain 𝓤 H A (r .answer) _ (stepped 𝓤 H A W .result-is r v is))))))))))
 
 module _ {M : Type 1} (𝓤 : URA M) (H : Heap 𝓤) (A : Atoms 𝓤) (W : Given 𝓤 H A) (at-mem : Memory → SProp 𝓤) (run : Routine → Fun 𝓤) where
-  walks : (C : Calls 𝓤 H) (Λ : Loops 𝓤 H) → FmC 𝓤 H (W .laws) C → Triple 𝓤 (C #machine·running·step) (Op 𝓤 H A at-mem run) → Walks 𝓤 H A key.ended stayed (WpFn 𝓤 H C Λ code.function) (key.clauses 𝓤 H A at-mem run)
+  walks : (C : Calls 𝓤 H) (Λ : Loops 𝓤 H) → FmC 𝓤 H (W .laws) C → Triple 𝓤 (C #machine·step·step) (Op 𝓤 H A at-mem run) → Walks 𝓤 H A key.ended stayed (WpFn 𝓤 H C Λ code.function) (key.clauses 𝓤 H A at-mem run)
   walks C Λ fm known = walked 𝓤 H A key.ended stayed (key.clauses 𝓤 H A at-mem run) (WpFn 𝓤 H C Λ code.function) (λ κs. (ptr-vals, (slice-vals, (uint-vals w8, tt)))) (λ κs. (mut-tells (named 0) (κs .0) T.the-row, (shr-slice-tells (named 1) (κs .1 .0) u8, (uint-tells w8, tt))))
       (λ κs qs bounds a _ are. via 𝓤 _ (fst∗ 𝓤 _ (emp 𝓤)) (walk 𝓤 H A W at-mem run (κs .0) (κs .1 .0) (qs .0) (qs .1 .0) (a .0 .ptr .0) (a .0 .ptr .1) (a .0 .name) (a .0 .now) (a .1 .0) (a .1 .1 .0) C Λ fm known (are .1 .0) (are .1 .1 .0 .1)))
 
@@ -118,4 +118,4 @@ key-step-spec 𝓤 H 𝓜 𝓖 𝓡 =
     proved 𝓤 H 𝓜 𝓖 𝓡 code.env #bench·keys·key-step code.function (code.unfolded 𝓤 H 𝓜 𝓡) key.ended stayed (key.clauses 𝓤 H (𝓖 .A) (𝓜 .mem) (𝓡 .run))
     (Lent.goes tt [] ps (plain (λ _. O.the-row)) (yes, (yes, tt)) 𝓤 H (𝓖 .A) (givenOf 𝓤 H 𝓜 𝓖) ((λ κs x f. refl), ((λ κs x f. refl), tt)))
     (walks 𝓤 H (𝓖 .A) (givenOf 𝓤 H 𝓜 𝓖) (𝓜 .mem) (𝓡 .run) _ _ (framed 𝓤 H 𝓜 𝓖 𝓡 code.env)
-    (cited 𝓤 H (Op 𝓤 H (𝓖 .A) (𝓜 .mem) (𝓡 .run)) 𝓜 𝓡 code.env #machine·running·step step-def.routine code.calls-machine·running·step (step-thm.met 𝓤 H 𝓜 𝓖 𝓡)))
+    (cited 𝓤 H (Op 𝓤 H (𝓖 .A) (𝓜 .mem) (𝓡 .run)) 𝓜 𝓡 code.env #machine·step·step step-def.routine code.calls-machine·step·step (step-thm.met 𝓤 H 𝓜 𝓖 𝓡)))

@@ -3,14 +3,11 @@ use borrow.Author.Needs.{needs}
 use Rattle.isa.proofs.control_flow.long.Statement.{statement}
 use Rattle.isa.proofs.control_flow.long.Tie as tie
 
-forward-requires : tie.Need-forward-requires
-forward-requires c κs = search needs
-
-target-requires : tie.Need-target-requires
-target-requires c κs = search needs
+long-target-requires : tie.Need-long-target-requires
+long-target-requires c κs = search needs
 
 returns : tie.Need-returns
-returns c = rw (c .target .ensures, c .before .forward .ensures) (search needs)
+returns c = rw (c .long-target .ensures) (search needs)
 
 pub long-spec : {M : Type 1} → statement M
-long-spec = tie.close (tie.spec forward-requires target-requires returns)
+long-spec = tie.close (tie.spec long-target-requires returns)

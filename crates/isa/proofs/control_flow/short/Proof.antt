@@ -3,14 +3,11 @@ use borrow.Author.Needs.{needs}
 use Rattle.isa.proofs.control_flow.short.Statement.{statement}
 use Rattle.isa.proofs.control_flow.short.Tie as tie
 
-forward-requires : tie.Need-forward-requires
-forward-requires c κs = search needs
-
-target-requires : tie.Need-target-requires
-target-requires c κs = search needs
+short-target-requires : tie.Need-short-target-requires
+short-target-requires c κs = search needs
 
 returns : tie.Need-returns
-returns c = rw (c .target .ensures, c .before .forward .ensures) (search needs)
+returns c = rw (c .short-target .ensures) (search needs)
 
 pub short-spec : {M : Type 1} → statement M
-short-spec = tie.close (tie.spec forward-requires target-requires returns)
+short-spec = tie.close (tie.spec short-target-requires returns)

@@ -4,7 +4,7 @@ use mathlib.Core.Path.{_≡_, sym, _∙_}
 use Rattle.isa.specs.Lengths.{lengthOf}
 use Rattle.isa.specs.Decode.{decodeAt}
 use Rattle.isa.specs.Decode as decode
-use Rattle.isa.specs.Refusals.{numbered}
+use Rattle.isa.specs.Refusals.{numbered, done, refused}
 use Rattle.isa.proofs.AtAddress.{in-range}
 use Rattle.isa.proofs.DecodedLength.{decoded-length}
 use Rattle.machine.specs.Step.{decodedOf}
@@ -30,7 +30,7 @@ returns : tie.Need-returns
 unfolding decodedOf
 returns c =
     let start = c .before .before .before .before .before .before in
-    let decoded : decodeAt (start .args .image .now) (start .args .c .pc) ≡ decode.refused (numbered (c .before .before .reason .given .0 .0)) =
+    let decoded : decodeAt (start .args .image .now) (start .args .c .pc) ≡ refused (numbered (c .before .before .reason .given .0 .0)) =
     sym (rw (c .before .before .reason .given .1) at (c .before .before .before .before .decode-in-range .ensures) ∙ in-range _ _ (start .pre .1) (start .pre .2)) in
     rw decoded (c .stopped .ensures _ _)
 
@@ -39,7 +39,7 @@ unfolding decodedOf
 returns-2 c =
     let d = c .before .before .before .before .instruction .given in
     let start = c .before .before .before .before .before .before .before .before in
-    let decoded : decodeAt (start .args .image .now) (start .args .c .pc) ≡ decode.instruction (d .0 .0) (d .0 .1 .0) (d .0 .1 .1 .0) =
+    let decoded : decodeAt (start .args .image .now) (start .args .c .pc) ≡ done (decode.instruction (d .0 .0) (d .0 .1 .0) (d .0 .1 .1 .0)) =
     sym (rw (d .1) at (c .before .before .before .before .before .before .decode-in-range .ensures) ∙ in-range _ _ (start .pre .1) (start .pre .2)) in
     let long : d .0 .1 .0 ≡ lengthOf (d .0 .0) = decoded-length _ _ _ _ _ decoded in
     rw (decoded, long) (c .executed .ensures)

@@ -5,9 +5,10 @@ use mathlib.Core.Bool.{true}
 use mathlib.Core.List.{[]}
 use native.Mathlib.Omega.{arith}
 use borrow.Author.Needs.{needs}
+use Rattle.isa.specs.Refusals.{done}
 use Rattle.control.specs.WellFormed.{wellFormed}
 use Rattle.control.proofs.StaysWellFormed.{formed-exactly}
-use Rattle.machine.specs.State.{machineOf, done}
+use Rattle.machine.specs.State.{machineOf}
 use Rattle.machine.specs.Run.{Run, runAt, stepsOf}
 use Rattle.machine.proofs.StaysWellFormed.{formed-step}
 use Rattle.machine.proofs.Steps.{stepped, one-more, stops-at}
@@ -16,7 +17,7 @@ use Rattle.machine.proofs.run.all_steps.Tie as tie
 
 abbrev Inv-loop : tie.InvT-loop
 Inv-loop table image bytes₀ stack₀ requests n c₀ flags₀ cycles₀ i₀ bytes stack c flags cycles i = (i ≤ n) × (cycles ≤ 255 * i) × (wellFormed stack c ≡ true)
-    × (runAt (machineOf c stack flags bytes) i cycles done ≡ stepsOf image requests (machineOf c₀ stack₀ flags₀ bytes₀) i)
+    × (runAt (machineOf c stack flags bytes) i cycles (done tt) ≡ stepsOf image requests (machineOf c₀ stack₀ flags₀ bytes₀) i)
 
 abbrev μ-loop : tie.MeasureT-loop
 μ-loop table image bytes₀ stack₀ requests n c₀ flags₀ cycles₀ i₀ bytes stack c flags cycles i = n - i
