@@ -1,42 +1,35 @@
+-- `main` is safe and ends. The loop's invariant: `opcode` is at most 255; the measure is what is left.
+use Prim.Native.Nat.{_≤_, _-_}
+use borrow.Author.Needs.{needs}
 use Rattle.opcode_listing.proofs.main.Statement.{statement}
 use Rattle.opcode_listing.proofs.main.Tie as tie
-use Rattle.opcode_listing.proofs.main.Reads as reads
-use Rattle.opcode_listing.proofs.main.Lts as lts
-use Rattle.opcode_listing.proofs.list_opcode.Reads as list-opcode-reads
 
 abbrev Inv-loop : tie.InvT-loop
-Inv-loop opcode₀ opcode = ?
+Inv-loop opcode₀ opcode = opcode ≤ 255
 
 abbrev μ-loop : tie.MeasureT-loop
-μ-loop opcode₀ opcode = ?
+μ-loop opcode₀ opcode = 255 - opcode
 
--- src/main.rt:63:5
 loop-holds : tie.Need-loop-holds Inv-loop μ-loop
-loop-holds c = ?
+loop-holds c = search needs
 
--- src/main.rt:64:9
 list-opcode-requires : tie.Need-list-opcode-requires Inv-loop μ-loop
-list-opcode-requires c κs = ?
+list-opcode-requires c κs = search needs
 
--- src/main.rt:63:9
 add-opcode : tie.Need-add-opcode Inv-loop μ-loop
-add-opcode c = ?
+add-opcode c = search needs
 
--- src/main.rt:63:5
 loop-less : tie.Need-loop-less Inv-loop μ-loop
-loop-less c = ?
+loop-less c = search needs
 
--- src/main.rt:63:5
 loop-again : tie.Need-loop-again Inv-loop μ-loop
-loop-again c = ?
+loop-again c = search needs
 
--- src/main.rt:62:1
 returns : tie.Need-returns Inv-loop μ-loop
-returns c = ?
+returns c = search needs
 
--- src/main.rt:62:1
 returns-2 : tie.Need-returns-2 Inv-loop μ-loop
-returns-2 c = ?
+returns-2 c = search needs
 
 pub main-spec : {M : Type 1} → statement M
 main-spec =
