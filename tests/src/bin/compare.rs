@@ -4,6 +4,7 @@ use second::boundary::{self, FIELDS, FORMS, FORM_NAMES, REPORT};
 use second::check::check;
 use second::chip::{Rom, MOST_STEPS, SIZES};
 use second::generate::*;
+use second::library::{KINDS, PROVED, SECOND};
 use second::play::*;
 use second::Refusal;
 use std::borrow::Cow::{Borrowed, Owned};
