@@ -1,14 +1,14 @@
 //! Random inputs: machines, requests, images, and structured programs with
 //! their certificates.
 
-mod dense;
 mod machine;
+mod marked;
 mod program;
 mod rng;
 mod routine;
 
-pub use dense::dense;
 pub use machine::{ill_formed, machine, request, requests, spoil};
+pub use marked::{dense, p11, sparse};
 pub use program::program;
 pub use rng::{Rng, EDGES};
 

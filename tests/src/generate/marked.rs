@@ -1,6 +1,7 @@
-//! Programs with every byte marked.
+//! Programs with every byte marked, and with few marks.
 
 use super::{Program, Rng};
+use crate::chip::{write, Instruction, RESET_VECTOR, VECTORS};
 
 // Bytes that are good both as one-byte instructions and as operands, and
 // jump at most a few places on.
@@ -57,4 +58,37 @@ fn fill(rng: &mut Rng, image: &mut [u8]) -> bool {
         index += 1;
     }
     calls
+}
+
+/// Document 01's P11, in an image of a length.
+pub fn p11(length: usize) -> Program {
+    six_marks(length, 0x880, 0x890)
+}
+
+/// P11 with its code at other places.
+pub fn sparse(rng: &mut Rng, length: usize) -> Program {
+    let low = (0x1000 - length) as u16;
+    let start = low + rng.below(length / 2) as u16;
+    let subroutine = start + 5 + rng.below(length / 4) as u16;
+    six_marks(length, start, subroutine)
+}
+
+/// A start-up that is one RETI, a main loop that calls a subroutine, and the
+/// service of NMI.
+fn six_marks(length: usize, start: u16, subroutine: u16) -> Program {
+    use Instruction::*;
+    let mut program = Program { image: vec![0; length], certificate: vec![0; length], wired: 0x01 };
+    for (address, instruction, mark) in [
+        (start, Reti, 0x11),
+        (start + 1, Call(subroutine), 0x21),
+        (start + 3, Jp(start + 1), 0x21),
+        (subroutine, Ret, 0x40),
+        (VECTORS[0], Reti, 0x30),
+        (RESET_VECTOR, Jp(start), 0x11),
+    ] {
+        let index = address as usize - (0x1000 - length);
+        write(instruction, &mut program.image[index..]).expect("a good instruction in ROM");
+        program.certificate[index] = mark;
+    }
+    program
 }
