@@ -15,6 +15,8 @@ pub mod mock;
 pub mod play;
 #[cfg(all(feature = "proved", not(feature = "mock")))]
 pub mod proved;
+#[cfg(feature = "proved")]
+pub mod workload;
 
 // The mock has the proved library's place.
 #[cfg(feature = "mock")]
