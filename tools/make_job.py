@@ -9,7 +9,8 @@ JOB          the file to write; - is standard output
 A file whose name ends in .hex, .ihx or .ihex is Intel HEX, every other one is raw.
 Raw: the bytes, lowest address first: 2048 bytes (800h to FFFh) or 4096 bytes (000h to FFFh).
 Intel HEX: addresses are the chip's; bytes that are not named are 00h. Records of type 00 and 01, and 02 and 04 with base 0. Refused
-are wrong checksums, bytes outside the image, two different bytes at one address, and a file without its end record.
+are other records (start addresses, 03 and 05, too), wrong checksums, bytes outside the image, two different bytes at one address,
+and a file without its end record.
 
 A job is the byte 1, a two-byte big-endian count of the bytes after it, the wired byte, the image and the certificate.
 Exits with 2, and writes nothing, where these cannot be joined: then no job could state them.
@@ -115,7 +116,7 @@ def put_line(named, low, line):
         if data:
             raise Refusal('an end record with data')
     elif kind not in (2, 4):
-        raise Refusal(f'a record of type {kind:02X}, which has no place here')
+        raise Refusal(f'a record of type {kind:02X}, where only 00, 01, 02 and 04 are read')
     elif data != bytes(2):
         raise Refusal('a base address other than 0')
     return kind == 1

@@ -12,7 +12,8 @@ macro_rules! functions {
             st62_reset reset(state: &mut [u8]);
             st62_store store(state: &mut [u8], address: u32, value: u32);
             st62_step step(image: &[u8], state: &mut [u8], request: u32);
-            st62_run run(image: &[u8], state: &mut [u8], requests: &[u8], n: u32, report: &mut [u8]);
+            st62_run run(image: &[u8], state: &mut [u8], requests: &[u8], n: u32,
+                report: &mut [u8]);
             st62_check check(image: &[u8], certificate: &[u8], wired: u32);
             st62_job job(job: &[u8], line: &mut [u8]);
         }
