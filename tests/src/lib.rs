@@ -6,13 +6,21 @@ pub mod check;
 pub mod chip;
 pub mod generate;
 pub mod job;
+#[macro_use]
+pub mod library;
 
 #[cfg(feature = "mock")]
 pub mod mock;
 #[cfg(feature = "proved")]
 pub mod play;
-#[cfg(feature = "proved")]
+#[cfg(all(feature = "proved", not(feature = "mock")))]
 pub mod proved;
+#[cfg(feature = "proved")]
+pub mod workload;
+
+// The mock has the proved library's place.
+#[cfg(feature = "mock")]
+pub use mock as proved;
 
 #[cfg(test)]
 mod cases;

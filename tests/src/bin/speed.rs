@@ -1,82 +1,10 @@
-//! Measures the proved library and the second emulator on the same inputs,
-//! in the same process, in turns.
+//! Measures the time of the proved library and of the second emulator on the
+//! same inputs, in the same process, in turns.
 
-use second::check::check;
-use second::chip::{decode, write, Instruction, Machine, Operand, SIZES};
-use second::generate::{dense, Program, Rng};
-use second::{boundary, proved};
-use std::hint::black_box;
+use second::workload::{Checks, Decodes, Runs, Side, Steps, Work, IMAGES, OPCODES, RUN, SIDES};
 
 /// Many short rounds: other work on the same cores then spoils only some.
 const ROUNDS: usize = 61;
-const RUN: u32 = 65_535;
-
-/// The loop of the bench: at 880h RETI, then some eighteen instructions.
-fn mixed_loop() -> Vec<u8> {
-    use Instruction::*;
-    use Operand::*;
-    let (start, subroutine) = (0x881u16, 0x8C0u16);
-    let body = [
-        Ldi { address: 0x10, value: 0x05 },
-        LdA(Direct(0x10)),
-        Add(Direct(0x11)),
-        Addi(0x37),
-        Inc(Direct(0x12)),
-        Set { bit: 3, address: 0x13 },
-        Res { bit: 3, address: 0x13 },
-        Jrs { bit: 2, address: 0x12, displacement: 2 }, // over COM, half the time
-        Com,
-        Call(subroutine),
-        LdTo(Direct(0x11)),
-        Cp(Direct(0x14)),
-        Jrnz(1), // over the next instruction
-        Inc(Short(2)),
-        Jrz(0),
-        Jp(start),
-    ];
-    let mut image = vec![0; 2048];
-    let mut put = |address: usize, instruction: Instruction| {
-        address + write(instruction, &mut image[address - 0x800..]).expect("it is good")
-    };
-    put(0xFFE, Jp(0x880));
-    let mut address = put(0x880, Reti);
-    for instruction in body {
-        address = put(address, instruction);
-    }
-    let mut address = subroutine as usize;
-    for instruction in [Rlc, Inc(Short(0)), Ret] {
-        address = put(address, instruction);
-    }
-    image
-}
-
-/// The state of a fresh machine.
-fn fresh() -> Vec<u8> {
-    let mut state = vec![0; boundary::STATE];
-    boundary::pack(&Machine::default(), &mut state);
-    state
-}
-
-/// A program with few marks, in an image of a length (P11's).
-fn sparse(length: usize) -> Program {
-    let mut image = vec![0; length];
-    let mut certificate = vec![0; length];
-    let low = 0x1000 - length;
-    for (address, bytes) in [
-        (0x880, &[0x4D, 0x01, 0x89, 0x19, 0x88][..]),
-        (0x890, &[0xCD]),
-        (0xFFC, &[0x4D]),
-        (0xFFE, &[0x09, 0x88]),
-    ] {
-        image[address - low..][..bytes.len()].copy_from_slice(bytes);
-    }
-    for (address, mark) in
-        [(0x880, 0x11), (0x881, 0x21), (0x883, 0x21), (0x890, 0x40), (0xFFC, 0x30), (0xFFE, 0x11)]
-    {
-        certificate[address - low] = mark;
-    }
-    Program { image, certificate, wired: 1 }
-}
 
 /// Seconds of processor time that this thread has had.
 #[cfg(target_os = "linux")]
@@ -105,7 +33,7 @@ fn clock() -> f64 {
 }
 
 /// Seconds that some work takes.
-fn time(work: &mut dyn FnMut()) -> f64 {
+fn time(work: impl FnOnce()) -> f64 {
     let start = clock();
     work();
     clock() - start
@@ -129,20 +57,25 @@ fn spread(mut numbers: Vec<f64>) -> Spread {
 /// Times of the rounds, for each contestant.
 type Times = Vec<Vec<f64>>;
 
-/// Lets the contestants work in turns, the first of a round changing.
-fn race(rounds: usize, contestants: &mut [&mut dyn FnMut()]) -> Times {
-    let count = contestants.len();
-    for contestant in contestants.iter_mut() {
-        contestant(); // warm up
+/// Lets the contestants work in turns, the first of a round changing. Each is
+/// called with its number.
+fn race(contestants: usize, mut work: impl FnMut(usize)) -> Times {
+    for contestant in 0..contestants {
+        work(contestant); // warm up
     }
-    let mut times = vec![Vec::new(); count];
-    for round in 0..rounds {
-        for turn in 0..count {
-            let index = (round + turn) % count;
-            times[index].push(time(contestants[index]));
+    let mut times = vec![Vec::new(); contestants];
+    for round in 0..ROUNDS {
+        for turn in 0..contestants {
+            let contestant = (round + turn) % contestants;
+            times[contestant].push(time(|| work(contestant)));
         }
     }
     times
+}
+
+/// All sides at the same work, in turns.
+fn race_sides(work: &mut impl Work, times: usize) -> Times {
+    race(SIDES.len(), |side| work.work(SIDES[side].0, times))
 }
 
 /// How often faster the first is than the second, round by round.
@@ -150,181 +83,66 @@ fn ratio(slow: &[f64], fast: &[f64]) -> Spread {
     spread(slow.iter().zip(fast).map(|(slow, fast)| slow / fast).collect())
 }
 
-const NAMES: [&str; 3] = ["proved", "second", "second, packed"];
-
-fn print(title: &str, unit: &str, per_round: f64, times: &Times) {
+/// Rates of the sides, and the proved library's time against the others'.
+fn print(title: &str, unit: &str, per_round: f64, times: &[Vec<f64>]) {
     println!("{title}");
-    for (name, times) in NAMES.iter().zip(times) {
-        let rates = spread(times.iter().map(|seconds| per_round / seconds).collect());
-        println!(
-            "  {name:15} {:>14.0} {unit}/s  (min {:.0}, max {:.0})",
-            rates.median, rates.least, rates.most
-        );
+    for ((_, name), times) in SIDES.iter().zip(times) {
+        let Spread { median, least, most } =
+            spread(times.iter().map(|seconds| per_round / seconds).collect());
+        println!("  {name:15} {median:>14.0} {unit}/s  (min {least:.0}, max {most:.0})");
     }
-    for (name, second) in NAMES.iter().zip(times).skip(1) {
-        let r = ratio(&times[0], second);
-        println!(
-            "  time of proved / {name}: median {:.2}, min {:.2}, max {:.2}",
-            r.median, r.least, r.most
-        );
+    for ((_, name), second) in SIDES.iter().zip(times).skip(1) {
+        print_ratio(&format!("time of proved / {name}:"), &times[0], second);
     }
 }
 
+fn print_ratio(title: &str, slow: &[f64], fast: &[f64]) {
+    let Spread { median, least, most } = ratio(slow, fast);
+    println!("  {title} median {median:.2}, min {least:.2}, max {most:.2}");
+}
+
 fn runs() {
-    let image = mixed_loop();
+    let mut runs = Runs::default();
     let per_round = 3;
-    let steps = (per_round * RUN) as f64;
-    let (mut a, mut b, mut c) = (fresh(), Machine::default(), fresh());
-    let times = race(
-        ROUNDS,
-        &mut [
-            &mut || {
-                for _ in 0..per_round {
-                    let mut report = [0; 8];
-                    let answer = proved::run(black_box(&image), &mut a, &[], RUN, &mut report);
-                    assert_eq!(answer, 0);
-                    black_box(report);
-                }
-            },
-            &mut || {
-                for _ in 0..per_round {
-                    let report = b.run(black_box(&image), &[], RUN).expect("it runs");
-                    assert_eq!(black_box(report).stop, None);
-                }
-            },
-            &mut || {
-                for _ in 0..per_round {
-                    let mut report = [0; 8];
-                    let answer = boundary::run(black_box(&image), &mut c, &[], RUN, &mut report);
-                    assert_eq!(answer, 0);
-                    black_box(report);
-                }
-            },
-        ],
-    );
-    assert_eq!(a, c, "both machines went the same way");
+    let times = race_sides(&mut runs, per_round);
+    assert!(runs.0.agree(), "both machines went the same way");
+    let steps = (per_round * RUN as usize) as f64;
     let total = (ROUNDS + 1) as f64 * steps / 1e6;
     let title = format!("runs of {RUN} steps of the mixed loop ({total:.1} million each)");
     print(&title, "steps", steps, &times);
 }
 
 fn steps() {
-    let image = mixed_loop();
+    let mut steps = Steps::default();
     let per_round = 30_000;
-    let (mut a, mut b, mut c) = (fresh(), Machine::default(), fresh());
-    let times = race(
-        ROUNDS,
-        &mut [
-            &mut || {
-                for _ in 0..per_round {
-                    let answer = proved::step(black_box(&image), &mut a, 0);
-                    assert_eq!(boundary::number(answer), 0);
-                }
-            },
-            &mut || {
-                for _ in 0..per_round {
-                    let cycles = b.step(black_box(&image), 0);
-                    assert!(black_box(cycles).is_ok());
-                }
-            },
-            &mut || {
-                for _ in 0..per_round {
-                    let answer = boundary::step(black_box(&image), &mut c, 0);
-                    assert_eq!(boundary::number(answer), 0);
-                }
-            },
-        ],
-    );
-    assert_eq!(a, c, "both machines went the same way");
+    let times = race_sides(&mut steps, per_round);
+    assert!(steps.0.agree(), "both machines went the same way");
     print("single steps of the mixed loop", "steps", per_round as f64, &times);
 }
 
-/// Checks of a 2K and of a 4K program, all in the same rounds.
-fn checks_of(name: &str, small: &Program, large: &Program, per_round: usize) {
-    let levels = [small, large].map(|program| {
-        check(&program.image, &program.certificate, program.wired).expect("it is accepted")
+/// Checks of 2K and of 4K images, all in the same rounds, and how their time
+/// grows.
+fn checks(name: &str, of: fn(usize) -> Checks, per_round: usize) {
+    let sides = [Side::Proved, Side::Second];
+    let mut sizes = [of(2048), of(4096)];
+    let times = race(sides.len() * sizes.len(), |contestant| {
+        sizes[contestant / sides.len()].work(sides[contestant % sides.len()], per_round);
     });
-    let proved = |program: &Program, levels: u8| {
-        for _ in 0..per_round {
-            let Program { image, certificate, wired } = black_box(program);
-            let answer = proved::check(image, certificate, *wired as u32);
-            assert_eq!(boundary::value(answer), levels as u32);
-        }
-    };
-    let second = |program: &Program, levels: u8| {
-        for _ in 0..per_round {
-            let Program { image, certificate, wired } = black_box(program);
-            assert_eq!(check(image, certificate, *wired), Ok(levels));
-        }
-    };
-    let mut times = race(
-        ROUNDS,
-        &mut [
-            &mut || proved(small, levels[0]),
-            &mut || second(small, levels[0]),
-            &mut || proved(large, levels[1]),
-            &mut || second(large, levels[1]),
-        ],
-    );
-    let large_times = times.split_off(2);
-    print(&format!("checks of 2K {name}"), "checks", per_round as f64, &times);
-    print(&format!("checks of 4K {name}"), "checks", per_round as f64, &large_times);
+    let (small, large) = times.split_at(sides.len());
+    for (size, times) in [("2K", small), ("4K", large)] {
+        let title = format!("checks of {size} {name}, {IMAGES} images in turn");
+        print(&title, "checks", per_round as f64, times);
+    }
     println!("how check time grows from 2K to 4K, {name}");
-    for side in 0..2 {
-        let r = ratio(&large_times[side], &times[side]);
-        println!(
-            "  {:15} median {:.2}, min {:.2}, max {:.2}",
-            NAMES[side], r.median, r.least, r.most
-        );
+    for ((_, side), (small, large)) in SIDES.iter().zip(small.iter().zip(large)) {
+        print_ratio(&format!("{side:15}"), large, small);
     }
-}
-
-fn checks() {
-    let mut rng = Rng::new(3);
-    let (small, large) = (dense(&mut rng, 2048), dense(&mut rng, 4096));
-    checks_of("marked throughout", &small, &large, 50);
-    checks_of("with six marks", &sparse(2048), &sparse(4096), 2000);
-}
-
-/// Decodes each opcode, four bytes apart, through one side of the boundary.
-fn decode_all(image: &[u8], decode: fn(&[u8], u32, &mut [u8]) -> u64) -> u32 {
-    let mut count = 0;
-    for opcode in 0..256 {
-        let mut fields = [0; 10];
-        let answer = decode(black_box(image), 4 * opcode, &mut fields);
-        count += (boundary::number(answer) == 0) as u32;
-        black_box(fields);
-    }
-    count
 }
 
 fn decodes() {
-    let mut image = vec![0; 4096];
-    for opcode in 0..256 {
-        image[4 * opcode..][..3].copy_from_slice(&[opcode as u8, 0x12, 0x34]);
-    }
     let passes = 200;
-    let defined = SIZES.iter().filter(|size| size.length > 0).count() as u32;
-    let repeat = |count: &dyn Fn() -> u32| {
-        for _ in 0..passes {
-            assert_eq!(count(), defined);
-        }
-    };
-    let times = race(
-        ROUNDS,
-        &mut [
-            &mut || repeat(&|| decode_all(&image, proved::decode)),
-            &mut || {
-                repeat(&|| {
-                    (0..256)
-                        .filter(|opcode| black_box(decode(black_box(&image), 4 * opcode)).is_ok())
-                        .count() as u32
-                })
-            },
-            &mut || repeat(&|| decode_all(&image, boundary::decode)),
-        ],
-    );
-    print("decode of all opcodes", "decodes", (passes * 256) as f64, &times);
+    let times = race_sides(&mut Decodes::default(), passes);
+    print("decode of all opcodes", "decodes", (passes * OPCODES) as f64, &times);
 }
 
 fn main() {
@@ -334,6 +152,7 @@ fn main() {
     );
     runs();
     steps();
-    checks();
+    checks("marked throughout", Checks::throughout, IMAGES);
+    checks("with six marks", Checks::sparse, 32 * IMAGES);
     decodes();
 }

@@ -1,0 +1,47 @@
+#!/usr/bin/env python3
+"""Instructions of the proved library and of the second emulator, by work, counted by callgrind.
+
+The totals of n and of 2n times are subtracted, so that the start of the program is not counted. The counts are exact: other work
+on the machine does not move them."""
+import re
+import shutil
+import subprocess
+import sys
+
+PROGRAM = "tests/target/release/count"
+SIDES = ("proved", "second", "packed")
+# Title, work, how often, and how many of the title's units one time has. 64 checks are one of each image.
+WORKS = [
+    ("run of 65,535 steps, a step", "run", 1, 65535),
+    ("single step", "step", 5000, 1),
+    ("check 2K marked throughout, a byte", "check-2k", 64, 2048),
+    ("check 4K marked throughout, a byte", "check-4k", 64, 4096),
+    ("check 2K with six marks, a byte", "sparse-2k", 64, 2048),
+    ("check 4K with six marks, a byte", "sparse-4k", 64, 4096),
+    ("decode", "decode", 10, 256),
+]
+
+
+def total(work, side, times):
+    """Instructions of the whole program."""
+    words = ["valgrind", "--tool=callgrind", "--callgrind-out-file=/dev/null", PROGRAM, work, side, str(times)]
+    done = subprocess.run(words, capture_output=True, text=True)
+    found = re.search(r"Collected : (\d+)", done.stderr)
+    if done.returncode != 0 or not found:
+        sys.exit(f"instructions.py: {' '.join(words)} failed\n{done.stderr}")
+    return int(found.group(1))
+
+
+def main():
+    if not shutil.which("valgrind"):
+        print("instructions not counted: there is no valgrind")
+        return
+    print(f"{'instructions':36}" + "".join(f"{side:>10}" for side in SIDES) + "   proved / second, / packed")
+    for title, work, times, units in WORKS:
+        counts = [(total(work, side, 2 * times) - total(work, side, times)) / (times * units) for side in SIDES]
+        proved, second, packed = counts
+        print(f"{title:36}" + "".join(f"{count:10.2f}" for count in counts) + f"   {proved / second:.2f}, {proved / packed:.2f}")
+
+
+if __name__ == "__main__":
+    main()

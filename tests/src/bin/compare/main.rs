@@ -1,0 +1,81 @@
+//! Compares the second emulator with the proved library.
+
+mod certificates;
+mod counts;
+mod harness;
+mod instructions;
+mod jobs;
+mod machines;
+mod programs;
+mod refusals;
+
+use harness::Harness;
+use std::process::exit;
+use std::time::Instant;
+
+struct Options {
+    seed: u64,
+    steps: u64,
+    checks: u64,
+    strict: bool,
+}
+
+const USAGE: &str = "\
+compare [--seed N] [--steps N] [--checks N] [--strict]
+  --seed N    the seed of all random choices (default 1)
+  --steps N   steps in runs of programs; the other parts grow with it (default 20000000)
+  --checks N  certificates checked (default 120000)
+  --strict    return addresses that aren't in use must agree too";
+
+fn options() -> Options {
+    let mut options = Options { seed: 1, steps: 20_000_000, checks: 120_000, strict: false };
+    let mut arguments = std::env::args().skip(1);
+    while let Some(argument) = arguments.next() {
+        let mut number = || {
+            let given = arguments.next().and_then(|text| text.replace('_', "").parse().ok());
+            given.unwrap_or_else(|| {
+                eprintln!("{argument} needs a number\n{USAGE}");
+                exit(2)
+            })
+        };
+        match argument.as_str() {
+            "--seed" => options.seed = number(),
+            "--steps" => options.steps = number(),
+            "--checks" => options.checks = number(),
+            "--strict" => options.strict = true,
+            _ => {
+                eprintln!("{USAGE}");
+                exit(2)
+            }
+        }
+    }
+    options
+}
+
+fn main() {
+    let options = options();
+    println!("seed {}, steps {}, checks {}", options.seed, options.steps, options.checks);
+    let mut h = Harness::new(options.seed, options.strict);
+    let scale = |per_million: u64| (options.steps * per_million / 1_000_000).max(10) as usize;
+    let start = Instant::now();
+    let mut part = |name: &str, work: &mut dyn FnMut(&mut Harness)| {
+        let before = Instant::now();
+        work(&mut h);
+        println!("{name:12} {:6.2} s", before.elapsed().as_secs_f64());
+    };
+    part("bench cases", &mut jobs::bench_cases);
+    part("opcodes", &mut |h| instructions::opcodes(h, scale(400) / 400));
+    part("exhaustive", &mut instructions::exhaustive);
+    part("decodes", &mut |h| instructions::decodes(h, scale(3)));
+    part("writes", &mut |h| instructions::writes(h, scale(20_000)));
+    part("steps", &mut |h| machines::steps(h, scale(100_000)));
+    part("stores", &mut |h| machines::stores(h, scale(5)));
+    part("resets", &mut |h| machines::resets(h, scale(2_000)));
+    part("refusals", &mut |h| refusals::refusals(h, scale(20_000)));
+    part("runs", &mut |h| machines::runs(h, scale(100)));
+    part("checks", &mut |h| certificates::checks(h, options.checks));
+    part("jobs", &mut |h| jobs::jobs(h, options.checks as usize / 10));
+    part("programs", &mut |h| programs::programs(h, options.steps));
+    h.counts.print();
+    println!("\nno difference, in {:.1} s", start.elapsed().as_secs_f64());
+}

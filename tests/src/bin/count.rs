@@ -1,0 +1,47 @@
+//! Does one kind of work a number of times on one side, for a tool that
+//! counts instructions: what n and 2n times take, subtracted, is the work's
+//! own, without the start of the program. `benches/instructions.py` does that.
+
+use second::workload::{Checks, Decodes, Runs, Side, Steps, Work};
+use std::process::exit;
+
+const USAGE: &str = "\
+count WORK SIDE N
+  WORK  run (65535 steps), step, check-2k, check-4k, sparse-2k, sparse-4k, decode (256 opcodes)
+  SIDE  proved, second, packed
+  N     how often";
+
+fn work(name: &str) -> Option<Box<dyn Work>> {
+    Some(match name {
+        "run" => Box::new(Runs::default()),
+        "step" => Box::new(Steps::default()),
+        "check-2k" => Box::new(Checks::throughout(2048)),
+        "check-4k" => Box::new(Checks::throughout(4096)),
+        "sparse-2k" => Box::new(Checks::sparse(2048)),
+        "sparse-4k" => Box::new(Checks::sparse(4096)),
+        "decode" => Box::new(Decodes::default()),
+        _ => return None,
+    })
+}
+
+fn side(name: &str) -> Option<Side> {
+    Some(match name {
+        "proved" => Side::Proved,
+        "second" => Side::Second,
+        "packed" => Side::Packed,
+        _ => return None,
+    })
+}
+
+fn main() {
+    let words: Vec<String> = std::env::args().skip(1).collect();
+    let wanted = match &words[..] {
+        [name, by, n] => work(name).zip(side(by)).zip(n.parse().ok()),
+        _ => None,
+    };
+    let Some(((mut work, side), times)) = wanted else {
+        eprintln!("{USAGE}");
+        exit(2)
+    };
+    work.work(side, times);
+}

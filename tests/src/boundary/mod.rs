@@ -1,0 +1,124 @@
+//! The boundary of the proved library, on this crate's own emulator: plain
+//! bytes and numbers in, one packed number out. The comparison calls these
+//! functions and the library's with the same bytes.
+//!
+//! An answer has in bits 0-7 the number (0: done), in bits 8-23 the address
+//! (0 where none) and in bits 24-55 a value.
+
+mod fields;
+mod state;
+
+use crate::check::check as check_certificate;
+use crate::chip::{self, SIZES};
+use crate::{job as jobs, Refusal};
+use fields::{fields, instruction};
+
+pub use fields::{FIELDS, FORMS, FORM_NAMES, WRITTEN_FIELDS};
+pub use state::{pack, unpack, STATE};
+
+pub const REPORT: usize = 8;
+
+pub fn number(answer: u64) -> u8 {
+    answer as u8
+}
+
+pub fn address(answer: u64) -> u16 {
+    (answer >> 8) as u16
+}
+
+pub fn value(answer: u64) -> u32 {
+    (answer >> 24) as u32
+}
+
+fn done(value: u32) -> u64 {
+    (value as u64) << 24
+}
+
+fn refused(refusal: Refusal) -> u64 {
+    refusal.number() as u64 | (refusal.address().unwrap_or(0) as u64) << 8
+}
+
+fn answer(result: Result<u32, Refusal>) -> u64 {
+    result.map_or_else(refused, done)
+}
+
+fn byte(number: u32, refusal: Refusal) -> Result<u8, Refusal> {
+    u8::try_from(number).map_err(|_| refusal)
+}
+
+pub fn decode(image: &[u8], address: u32, out: &mut [u8]) -> u64 {
+    answer((|| {
+        let instruction = chip::decode(image, address)?;
+        let opcode = chip::Rom::new(image)?.byte(address as u16).expect("decoded");
+        let fields = fields(instruction, opcode);
+        out.get_mut(..FIELDS).ok_or(Refusal::Buffer)?.copy_from_slice(&fields);
+        Ok(SIZES[opcode as usize].length as u32)
+    })())
+}
+
+pub fn write(fields: &[u8], out: &mut [u8]) -> u64 {
+    answer(instruction(fields).and_then(|i| chip::write(i, out)).map(|length| length as u32))
+}
+
+pub fn reset(state: &mut [u8]) -> u64 {
+    answer(unpack(state).map(|mut machine| {
+        machine.reset();
+        pack(&machine, state);
+        0
+    }))
+}
+
+pub fn store(state: &mut [u8], address: u32, value: u32) -> u64 {
+    answer((|| {
+        let address = byte(address, Refusal::Operand)?;
+        let value = byte(value, Refusal::Operand)?;
+        let mut machine = unpack(state)?;
+        machine.host_store(address, value)?;
+        pack(&machine, state);
+        Ok(0)
+    })())
+}
+
+pub fn step(image: &[u8], state: &mut [u8], request: u32) -> u64 {
+    answer((|| {
+        chip::Rom::new(image)?;
+        let mut machine = unpack(state)?;
+        machine.well_formed()?;
+        let request = byte(request, Refusal::Request)?;
+        let cycles = machine.step(image, request)?;
+        pack(&machine, state);
+        Ok(cycles)
+    })())
+}
+
+pub fn run(image: &[u8], state: &mut [u8], requests: &[u8], n: u32, report: &mut [u8]) -> u64 {
+    answer((|| {
+        chip::Rom::new(image)?;
+        let mut machine = unpack(state)?;
+        let ran = machine.run(image, requests, n)?;
+        let place = report.get_mut(..REPORT).ok_or(Refusal::Buffer)?;
+        place[..4].copy_from_slice(&ran.steps.to_le_bytes());
+        place[4..].copy_from_slice(&ran.cycles.to_le_bytes());
+        pack(&machine, state);
+        ran.stop.map_or(Ok(0), Err)
+    })())
+}
+
+pub fn check(image: &[u8], certificate: &[u8], wired: u32) -> u64 {
+    // A wired byte beyond its byte is as bad as any with bit 7.
+    let wired = u8::try_from(wired).unwrap_or(0xFF);
+    answer(check_certificate(image, certificate, wired).map(u32::from))
+}
+
+/// The line is written whether the job was accepted or refused, and the
+/// number is then 0; only a buffer shorter than the line is refused, with 9.
+pub fn job(job: &[u8], line: &mut [u8]) -> u64 {
+    let text = jobs::line(job);
+    answer(match line.get_mut(..text.len()) {
+        Some(place) => {
+            place.copy_from_slice(text.as_bytes());
+            Ok(text.len() as u32)
+        }
+        None => Err(Refusal::Buffer),
+    })
+}

@@ -1,0 +1,54 @@
+//! What the generator makes.
+
+use super::*;
+use crate::check::check;
+use crate::generate::*;
+use crate::Refusal::*;
+
+#[test]
+fn generated_programs_are_accepted() {
+    let mut rng = Rng::new(7);
+    let mut seen = [0; 8];
+    for _ in 0..2000 {
+        let p = program(&mut rng);
+        match check(&p.image, &p.certificate, p.wired) {
+            Ok(levels) => seen[levels as usize] += 1,
+            Err(TooManyLevels) => seen[7] += 1,
+            Err(other) => panic!("{other:?}"),
+        }
+    }
+    assert!(seen.iter().all(|&count| count > 0), "{seen:?}");
+}
+
+#[test]
+fn marked_throughout_and_sparsely() {
+    let mut rng = Rng::new(7);
+    for length in [2048, 4096] {
+        for _ in 0..200 {
+            let p = dense(&mut rng, length);
+            assert!(p.certificate.iter().all(|&mark| mark != 0));
+            check(&p.image, &p.certificate, p.wired).unwrap();
+            let p = sparse(&mut rng, length);
+            assert_eq!(p.certificate.iter().filter(|&&mark| mark != 0).count(), 6);
+            assert_eq!(check(&p.image, &p.certificate, p.wired), Ok(2));
+        }
+    }
+    let p = crate::generate::p11(2048);
+    assert_eq!((p.image, p.certificate), super::p11());
+}
+
+/// Demand 3, tried out: no stop, and no more levels than the check says.
+#[test]
+fn accepted_programs_never_stop() {
+    let mut rng = Rng::new(8);
+    for _ in 0..300 {
+        let p = program(&mut rng);
+        let Ok(levels) = check(&p.image, &p.certificate, p.wired) else { continue };
+        let mut m = Machine::default();
+        for _ in 0..3000 {
+            let request = rng.byte() & p.wired & if rng.chance(20) { 0xFF } else { 0 };
+            m.step(&p.image, request).unwrap();
+            assert!(m.levels <= levels);
+        }
+    }
+}

@@ -1,0 +1,101 @@
+//! Steps and runs: requests, sleep, and counting.
+
+use super::{Machine, Mode, Rom, IOR, NO_SOURCE, VECTORS};
+use crate::Refusal;
+
+pub const MOST_STEPS: u32 = 65_535;
+
+/// What a run did: the completed steps, their cycles, and a stop if any.
+#[derive(Clone, Copy, PartialEq, Eq, Debug)]
+pub struct Report {
+    pub steps: u32,
+    pub cycles: u32,
+    pub stop: Option<Refusal>,
+}
+
+impl Machine {
+    /// One step with a request byte; gives its cycles.
+    pub fn step(&mut self, image: &[u8], request: u8) -> Result<u32, Refusal> {
+        let rom = Rom::new(image)?;
+        self.well_formed()?;
+        if request & NO_SOURCE != 0 {
+            return Err(Refusal::Request);
+        }
+        self.advance(&rom, request)
+    }
+
+    /// `n` steps, with the list's bytes as requests and none past its end.
+    pub fn run(&mut self, image: &[u8], requests: &[u8], n: u32) -> Result<Report, Refusal> {
+        let rom = Rom::new(image)?;
+        self.well_formed()?;
+        if n > MOST_STEPS {
+            return Err(Refusal::TooManySteps);
+        }
+        let requests = &requests[..requests.len().min(n as usize)];
+        if requests.iter().any(|request| request & NO_SOURCE != 0) {
+            return Err(Refusal::Request);
+        }
+        let mut report = Report { steps: 0, cycles: 0, stop: None };
+        for &request in requests {
+            match self.advance(&rom, request) {
+                Ok(cycles) => report.cycles += cycles,
+                Err(stop) => {
+                    report.stop = Some(stop);
+                    return Ok(report);
+                }
+            }
+            report.steps += 1;
+        }
+        while report.steps < n {
+            match self.advance(&rom, 0) {
+                Ok(cycles) => report.cycles += cycles,
+                Err(stop) => {
+                    report.stop = Some(stop);
+                    return Ok(report);
+                }
+            }
+            report.steps += 1;
+        }
+        Ok(report)
+    }
+
+    /// A step of a well-formed machine with a good request byte. A stop
+    /// leaves the machine as it was.
+    #[inline(always)]
+    fn advance(&mut self, rom: &Rom, request: u8) -> Result<u32, Refusal> {
+        if request != 0 {
+            if let Some(source) = self.taken(request) {
+                return self.interrupt(source);
+            }
+        }
+        if self.asleep {
+            return Ok(0);
+        }
+        self.execute(rom)
+    }
+
+    /// The source that is taken now: 0 for NMI, or 1 to 4.
+    fn taken(&self, request: u8) -> Option<usize> {
+        let open = match self.mode {
+            Mode::Normal if self.data[IOR as usize] & 0x10 != 0 => 0x1F,
+            Mode::Normal | Mode::Interrupt => 0x01,
+            Mode::Reset | Mode::NmiOverNormal | Mode::NmiOverInterrupt => 0,
+        };
+        match request & open {
+            0 => None,
+            sources => Some(sources.trailing_zeros() as usize),
+        }
+    }
+
+    fn interrupt(&mut self, source: usize) -> Result<u32, Refusal> {
+        self.push(self.pc).ok_or(Refusal::StackFull(self.pc))?;
+        self.mode = match (source, self.mode) {
+            (0, Mode::Interrupt) => Mode::NmiOverInterrupt,
+            (0, _) => Mode::NmiOverNormal,
+            _ => Mode::Interrupt,
+        };
+        self.pc = VECTORS[source];
+        self.asleep = false;
+        Ok(1)
+    }
+}

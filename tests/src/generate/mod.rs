@@ -1,0 +1,61 @@
+//! Random inputs: machines, requests, images, and structured programs with
+//! their certificates.
+
+mod machine;
+mod marked;
+mod program;
+mod rng;
+mod routine;
+
+pub use machine::{ill_formed, machine, request, requests, spoil};
+pub use marked::{dense, p11, sparse};
+pub use program::program;
+pub use rng::{Rng, EDGES};
+
+/// An image with a certificate and the sources that are wired.
+#[derive(Clone)]
+pub struct Program {
+    pub image: Vec<u8>,
+    pub certificate: Vec<u8>,
+    pub wired: u8,
+}
+
+pub fn image_length(rng: &mut Rng) -> usize {
+    if rng.chance(50) {
+        2048
+    } else {
+        4096
+    }
+}
+
+pub fn random_image(rng: &mut Rng) -> Vec<u8> {
+    let mut image = vec![0; image_length(rng)];
+    rng.fill(&mut image);
+    image
+}
+
+/// Changes one thing of a program: a mark, an image byte or the wired byte.
+pub fn damage(rng: &mut Rng, program: &mut Program) {
+    let length = program.image.len();
+    let marked: Vec<usize> = (0..length).filter(|&index| program.certificate[index] != 0).collect();
+    let index =
+        if marked.is_empty() || rng.chance(15) { rng.below(length) } else { rng.pick(&marked) };
+    match rng.below(12) {
+        0 | 1 => program.certificate[index] = 0,
+        2 | 3 => program.certificate[index] ^= 1 << rng.below(8),
+        4 => program.certificate[index] = program.certificate[index].wrapping_sub(1),
+        5 => {
+            let mark = &mut program.certificate[index];
+            *mark = *mark & 0xF0 | rng.below(16) as u8;
+        }
+        6 => {
+            let mark = &mut program.certificate[index];
+            *mark = *mark & 0x0F | (rng.below(6) as u8) << 4;
+        }
+        7 => program.certificate[index] = rng.byte(),
+        8 => program.image[index] = rng.byte(),
+        9 => program.image[index] = rng.pick(&[0xCD, 0x4D, 0x05, 0x09, 0x01, 0x77]),
+        10 => program.wired = rng.byte() & 0x1F,
+        _ => program.wired ^= 1 << rng.below(8),
+    }
+}

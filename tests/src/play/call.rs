@@ -1,0 +1,142 @@
+//! One call of the boundary, with everything it is given.
+
+use super::{Lent, Outcome};
+use crate::library::Library;
+use std::borrow::Cow;
+
+type Bytes<'a> = Cow<'a, [u8]>;
+
+/// One call, with everything it is given. Buffers that are only written are
+/// given by their lengths.
+#[derive(Clone)]
+pub enum Call<'a> {
+    Decode { image: Bytes<'a>, address: u32, out: usize },
+    Write { fields: Bytes<'a>, out: usize },
+    Reset { state: Bytes<'a> },
+    Store { state: Bytes<'a>, address: u32, value: u32 },
+    Step { image: Bytes<'a>, state: Bytes<'a>, request: u32 },
+    Run { image: Bytes<'a>, state: Bytes<'a>, requests: Bytes<'a>, n: u32, report: usize },
+    Check { image: Bytes<'a>, certificate: Bytes<'a>, wired: u32 },
+    Job { job: Bytes<'a>, line: usize },
+}
+
+impl Call<'_> {
+    /// The place of its name in `KINDS`.
+    pub fn kind(&self) -> usize {
+        match self {
+            Call::Decode { .. } => 0,
+            Call::Write { .. } => 1,
+            Call::Reset { .. } => 2,
+            Call::Store { .. } => 3,
+            Call::Step { .. } => 4,
+            Call::Run { .. } => 5,
+            Call::Check { .. } => 6,
+            Call::Job { .. } => 7,
+        }
+    }
+
+    pub fn play(&self, library: &Library) -> Outcome {
+        let mut state = Lent::none();
+        let mut out = Lent::none();
+        let answer = match self {
+            Call::Decode { image, address, out: length } => {
+                out = Lent::of_length(*length);
+                (library.decode)(image, *address, out.buffer())
+            }
+            Call::Write { fields, out: length } => {
+                out = Lent::of_length(*length);
+                (library.write)(fields, out.buffer())
+            }
+            Call::Reset { state: before } => {
+                state = Lent::holding(before);
+                (library.reset)(state.buffer())
+            }
+            Call::Store { state: before, address, value } => {
+                state = Lent::holding(before);
+                (library.store)(state.buffer(), *address, *value)
+            }
+            Call::Step { image, state: before, request } => {
+                state = Lent::holding(before);
+                (library.step)(image, state.buffer(), *request)
+            }
+            Call::Run { image, state: before, requests, n, report } => {
+                state = Lent::holding(before);
+                out = Lent::of_length(*report);
+                (library.run)(image, state.buffer(), requests, *n, out.buffer())
+            }
+            Call::Check { image, certificate, wired } => {
+                (library.check)(image, certificate, *wired)
+            }
+            Call::Job { job, line } => {
+                out = Lent::of_length(*line);
+                (library.job)(job, out.buffer())
+            }
+        };
+        Outcome { answer, state, out }
+    }
+
+    /// Whether two calls are given the same bytes.
+    pub fn same_bytes(&self, other: &Call) -> bool {
+        let strings = |call: &Self| call.clone().into_owned().strings_owned();
+        strings(self) == other.clone().into_owned().strings_owned()
+    }
+
+    fn strings_owned(mut self) -> Vec<Vec<u8>> {
+        self.strings().into_iter().map(std::mem::take).collect()
+    }
+
+    pub fn into_owned(self) -> Call<'static> {
+        let own = |bytes: Bytes| Cow::Owned(bytes.into_owned());
+        match self {
+            Call::Decode { image, address, out } => {
+                Call::Decode { image: own(image), address, out }
+            }
+            Call::Write { fields, out } => Call::Write { fields: own(fields), out },
+            Call::Reset { state } => Call::Reset { state: own(state) },
+            Call::Store { state, address, value } => {
+                Call::Store { state: own(state), address, value }
+            }
+            Call::Step { image, state, request } => {
+                Call::Step { image: own(image), state: own(state), request }
+            }
+            Call::Run { image, state, requests, n, report } => Call::Run {
+                image: own(image),
+                state: own(state),
+                requests: own(requests),
+                n,
+                report,
+            },
+            Call::Check { image, certificate, wired } => {
+                Call::Check { image: own(image), certificate: own(certificate), wired }
+            }
+            Call::Job { job, line } => Call::Job { job: own(job), line },
+        }
+    }
+
+    /// The byte strings of the call, to be made smaller.
+    pub(super) fn strings(&mut self) -> Vec<&mut Vec<u8>> {
+        match self {
+            Call::Decode { image, .. } => vec![image.to_mut()],
+            Call::Write { fields, .. } => vec![fields.to_mut()],
+            Call::Reset { state } | Call::Store { state, .. } => vec![state.to_mut()],
+            Call::Step { image, state, .. } => vec![state.to_mut(), image.to_mut()],
+            Call::Run { image, state, requests, .. } => {
+                vec![requests.to_mut(), state.to_mut(), image.to_mut()]
+            }
+            Call::Check { image, certificate, .. } => vec![certificate.to_mut(), image.to_mut()],
+            Call::Job { job, .. } => vec![job.to_mut()],
+        }
+    }
+
+    /// The numbers of the call, to be made smaller.
+    pub(super) fn numbers(&mut self) -> Vec<&mut u32> {
+        match self {
+            Call::Decode { address, .. } => vec![address],
+            Call::Store { address, value, .. } => vec![address, value],
+            Call::Step { request, .. } => vec![request],
+            Call::Run { n, .. } => vec![n],
+            Call::Check { wired, .. } => vec![wired],
+            Call::Write { .. } | Call::Reset { .. } | Call::Job { .. } => vec![],
+        }
+    }
+}

@@ -1,0 +1,73 @@
+//! What a call gave, and how the outcomes of both sides stand to each other.
+
+use super::Lent;
+use crate::boundary::{self, REPORT, STATE};
+use std::fmt::Write;
+
+/// What a call gave: its answer, and what the lent buffers hold after it.
+#[derive(Clone, PartialEq, Eq)]
+pub struct Outcome {
+    pub answer: u64,
+    /// The state, where there is one.
+    pub state: Lent,
+    /// The report, the written bytes, the fields or the line.
+    pub out: Lent,
+}
+
+/// The steps and cycles of a written report.
+pub fn report(outcome: &Outcome) -> (u32, u32) {
+    let report = &outcome.out.bytes()[..REPORT];
+    let word = |index: usize| u32::from_le_bytes(report[index..index + 4].try_into().unwrap());
+    (word(0), word(4))
+}
+
+/// How two outcomes stand to each other.
+#[derive(Clone, Copy, PartialEq, Eq, Debug)]
+pub enum Verdict {
+    Same,
+    /// They differ only in return addresses that aren't in use.
+    UnusedDiffer,
+    Differ,
+}
+
+/// Compares two outcomes. Return addresses that aren't in use after a call
+/// that was not turned down are no part of the machine.
+pub fn verdict(a: &Outcome, b: &Outcome) -> Verdict {
+    if a == b {
+        return Verdict::Same;
+    }
+    let changed = matches!(boundary::number(a.answer), 0 | 4..=7);
+    let (before, after) = (a.state.bytes(), b.state.bytes());
+    if a.answer == b.answer && a.out == b.out && changed && before.len() == STATE {
+        let used = 268 + 2 * (before[258] as usize).min(6);
+        if before[..used] == after[..used] && a.state.guards() == b.state.guards() {
+            return Verdict::UnusedDiffer;
+        }
+    }
+    Verdict::Differ
+}
+
+/// Where two outcomes differ.
+pub fn difference(second: &Outcome, proved: &Outcome) -> String {
+    let mut text = String::new();
+    for (name, outcome) in [("second", second), ("proved", proved)] {
+        let answer = outcome.answer;
+        let _ = writeln!(
+            text,
+            "  {name}: number {}, address {:03X}h, value {}{}",
+            boundary::number(answer),
+            boundary::address(answer),
+            boundary::value(answer),
+            if answer >> 56 == 0 { "" } else { ", and bits above 55" },
+        );
+    }
+    for (name, a, b) in [("state", &second.state, &proved.state), ("out", &second.out, &proved.out)]
+    {
+        let length = a.bytes().len() as isize;
+        for (index, a, b) in a.differences(b) {
+            let outside = if (0..length).contains(&index) { "" } else { " (outside it)" };
+            let _ = writeln!(text, "  {name}[{index}]{outside}: second {a:02X}, proved {b:02X}");
+        }
+    }
+    text
+}
