@@ -1,9 +1,9 @@
 #!/usr/bin/env python3
 """Reports names in README.md and docs/*.md that stand nowhere in crates/, tools/ or tests/.
 
-Names are words in backticks (`decodeAt`, `Rom.romAt`, `machine::run::run`) and, in backticks or not, paths (isa/specs/Map). Passed over
-are code fences and what has spaces in backticks (commands, printed lines). Of a name in two parts the second must stand in a file of the
-first's name, and of a note (`name`, isa/specs/Map) each name in that file. Comments do not count. Exits with 1 where there are any.
+Names are words in backticks (`decodeAt`, `Rom.romAt`, `machine::run::run`) and, ticked or not, paths (isa/specs/Map). Code fences and what
+has spaces in backticks (commands, printed lines) are passed over, and comments do not count. In a name of two parts the first names the
+file of the second, which after :: is a function defined there; in a note (`romAt`, isa/specs/Rom) the path does. Exits with 1 if any.
 """
 import fnmatch
 import re
@@ -23,12 +23,11 @@ NOTE = re.compile(r'((?:`[^`]+`(?:, | and ))+)(\w+/(?:specs|src)/\w+)')
 def read_sources():
     """The words of each file by its path without suffix, and all paths, with and without suffix."""
     words, paths = {}, set()
-    files = (p.relative_to(ROOT) for p in ROOT.rglob('*') if p.is_file())
-    for path in (p for p in files if not {'target', '.git'} & set(p.parts)):
+    for path in (p.relative_to(ROOT) for p in ROOT.rglob('*') if {'target', '.git'}.isdisjoint(p.relative_to(ROOT).parts) and p.is_file()):
         paths |= {f'/{p}' for p in (path, path.with_suffix(''), *path.parents)}
         if path.parts[0] in ('crates', 'tools', 'tests') and path.suffix in ('.antt', '.rt', '.rs', '.py', '.edit'):
             text = re.sub(r'(?m)^\s*(--|//).*$', '', (ROOT / path).read_text())
-            words[str(path.with_suffix(''))] = set(WORD.findall(text))
+            words[str(path.with_suffix(''))] = set(WORD.findall(text)) | set(re.findall(r'fn \w+', text))
     return words, paths
 
 
@@ -39,7 +38,8 @@ def is_known(name, words, paths):
     *_, owner, member = ['', *re.split(r'::|\.', name.lstrip('.'))]
     files = [ws for p, ws in words.items() if Path(p).name == owner or '::' in name and owner[:1].isupper() and owner in ws]
     files = files or [ws for p, ws in words.items() if not owner or owner in (ws if owner[0].isupper() else Path(p).parts)]
-    return '/' not in name and all(any(m in f for f in files) for m in WORD.findall(member))
+    members = [f'fn {m}' if '::' in name and m[0].islower() else m for m in WORD.findall(member)]
+    return '/' not in name and all(any(m in f for f in files) for m in members)
 
 
 def main():
