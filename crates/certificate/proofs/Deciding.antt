@@ -5,7 +5,8 @@ use mathlib.Core.Logic.{inl, inr}
 use mathlib.Core.Bool.{Bool, true, false}
 use mathlib.Core.List.{List, [], _∷_, _++_}
 use Rattle.isa.specs.Refusals.{unless}
-use Rattle.certificate.specs.Check.{Found, passes, fault, andThen, verdict}
+use Rattle.certificate.specs.Findings.{Found, passes, fault, andThen}
+use Rattle.certificate.specs.Check.{verdict}
 use Rattle.certificate.specs.Refusals.{Question, None, FirstApplies, Described}
 
 -- a finding answers questions: it passes where none applies, and is a fault with the first that does

@@ -1,4 +1,5 @@
 pub mod Facts
+pub mod Links
 pub mod Services
 pub mod Sound
 pub mod Complete

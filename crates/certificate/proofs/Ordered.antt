@@ -20,11 +20,13 @@ use Rattle.isa.specs.declared.Flow.{Flow}
 use Rattle.isa.specs.declared.Flow.the-variants as flow
 use Rattle.isa.specs.declared.Source.{Source}
 use Rattle.isa.specs.declared.Source.the-variants.{Nmi, First, Second, Third, Fourth}
-use Rattle.certificate.specs.declared.Successor.{Successor}
+use Rattle.certificate.specs.declared.successors.Successor.{Successor}
 use Rattle.certificate.specs.Marks.{markAt, Marked, kindOf, kindAt, needAt, lowest}
-use Rattle.certificate.specs.Successors.{placed, successorsOf, every, hasKind, allHaveKind, covers, coversAll}
+use Rattle.certificate.specs.Findings.{passes, fault}
+use Rattle.certificate.specs.Successors.{placed, successorsOf, every, hasKind, allHaveKind, covers, coversAll, successorsFound}
+use Rattle.certificate.specs.Vectors.{vectorFound, sourceFound, vectorsFound}
 use Rattle.certificate.specs.Levels.{levelsOf}
-use Rattle.certificate.specs.Check.{passes, fault, flowFound, decodedFound, markFound, marksFound, vectorFound, sourceFound, vectorsFound, levelsFound, checkOf}
+use Rattle.certificate.specs.Check.{flowFound, decodedFound, markFound, marksFound, levelsFound, checkOf}
 use Rattle.certificate.specs.Refusals.{Some, Misplaced, WrongKind, TooSmall, malformed, outsideRom, undefinedOpcode, misplacedReturn, successorKind, needTooSmall, atInstruction, atMark, atMarks, startUp, atSource, atVectors, imageLength, certificateLength, unknownSource, tooManyLevels, AnswersFirst}
 use Rattle.certificate.proofs.Facts.{well-formed, kind-of, mark-is, both-true, image-length, at-most-4096}
 use Rattle.isa.proofs.AtAddress.{AtAddress, at-address, defined}
@@ -104,7 +106,7 @@ module _ (certificate : List ℕ) where
   -- 4, 5, 15, 16, 17 at a marked address, by what decoding answers
   decoded-decides : (a : ℕ) (d : Answer Decoding) → AtAddress a d → Marked certificate a
       → Decides (atInstruction certificate d a) (decodedFound certificate a (markAt certificate a) d)
-  unfolding decodedFound flowFound kindAt needAt
+  unfolding decodedFound flowFound successorsFound kindAt needAt
   decoded-decides a (refused r) (inl e) n = record { decided = inl ((n, ap refused e), e) }
   decoded-decides a (refused r) (inr e) n =
       record { decided = inr ((λ p. let q = p .1 in let z : _≡_ {A = ℕ} 0 1 = cc in omega arith), inl ((n, ap refused e), e)) }

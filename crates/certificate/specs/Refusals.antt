@@ -15,7 +15,7 @@ use Rattle.isa.specs.declared.Flow.{Flow}
 use Rattle.isa.specs.declared.Flow.the-variants as flow
 use Rattle.isa.specs.declared.Source.{Source}
 use Rattle.isa.specs.declared.Source.the-variants.{Nmi, First, Second, Third, Fourth}
-use Rattle.certificate.specs.declared.Successor.{Successor}
+use Rattle.certificate.specs.declared.successors.Successor.{Successor}
 use Rattle.certificate.specs.Marks.{markAt, Marked, WellFormed, kindAt, needAt, lowest}
 use Rattle.certificate.specs.Successors.{successorsOf}
 use Rattle.certificate.specs.Levels.{levelsOf}

@@ -2,14 +2,13 @@
 use crate::Checked;
 use crate::Finding;
 use crate::findings::and_then;
+use crate::levels::levels_of;
 use crate::marks::kind_of;
 use crate::marks::need_of;
-use crate::successors::all_have_kind;
-use crate::successors::covers_all;
+use crate::successors::check_successors;
 use crate::successors::is_placed;
 use crate::successors::successors_of;
 use crate::vectors::check_vectors;
-use crate::vectors::levels_of;
 use isa::Continuation;
 use isa::Flow;
 use isa::Refusal;
@@ -24,7 +23,8 @@ ghost use lib.ListN.{length};
 ghost use Rattle.isa.specs.Table.{Timings};
 ghost use Rattle.isa.specs.Rom.{isImage};
 ghost use Rattle.certificate.specs.Marks.{lowest};
-ghost use Rattle.certificate.specs.Check.{found, answered, flowFound, markFound, marksFound, rulesFound, verdict, checkOf};
+ghost use Rattle.certificate.specs.Findings.{found};
+ghost use Rattle.certificate.specs.Check.{answered, flowFound, markFound, marksFound, rulesFound, verdict, checkOf};
 ghost use Rattle.certificate.specs.Levels.{levelsOf};
 
 // 15, 16 and 17 at a marked address, with where its instruction continues.
@@ -35,14 +35,8 @@ fn check_flow(certificate: &[u8], address: u16, mark: u8, flow: Flow, next: u16)
     if !is_placed(kind, flow) {
         return Finding::Fault(Refusal::MisplacedReturn(address));
     }
-    let onward = successors_of(kind, flow, next);
-    if !all_have_kind(certificate, onward) {
-        return Finding::Fault(Refusal::SuccessorKind(address));
-    }
-    if !covers_all(certificate, need_of(mark), onward) {
-        return Finding::Fault(Refusal::NeedTooSmall(address));
-    }
-    Finding::Passes
+    let successors = successors_of(kind, flow, next);
+    check_successors(certificate, address, need_of(mark), successors)
 }
 
 // The mark at an address: nothing where it is 0, else 14, decoding's refusals, 15, 16 and 17.

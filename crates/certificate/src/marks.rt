@@ -1,6 +1,4 @@
 // Marks: the kind in the high digit, the need in the low one.
-use isa::rom::RomByte;
-use isa::rom::rom_byte;
 ghost use mathlib.Core.Path.{_≡_};
 ghost use Rattle.certificate.specs.Marks.{markAt, kindOf, needOf, kindAt, needAt};
 
@@ -13,14 +11,18 @@ pub const SERVICE: u8 = 3;
 
 pub const SUBROUTINE: u8 = 4;
 
-// The mark of a program address, 0 outside ROM.
-fn mark_at(certificate: &[u8], address: u16) -> u8
+// The mark of a program address, 0 outside ROM. The last mark is that of FFFh.
+pub fn mark_at(certificate: &[u8], address: u16) -> u8
     ensures { λ r. ⌜ r ≡ markAt (now (certificate .entry)) address ⌝ }
 {
-    let RomByte::Byte(mark) = rom_byte(certificate, address) else {
+    let end = address as usize + certificate.len();
+    if 4096 <= address {
         return 0;
-    };
-    mark
+    }
+    if end < 4096 {
+        return 0;
+    }
+    certificate[end - 4096]
 }
 
 // The kind of a mark, 0 where there is no mark or it is malformed.

@@ -9,7 +9,8 @@ use borrow.Author.Needs.{needs}
 use lib.ListN.{length, getD, drop}
 use lib.Seq.{drop-cons, drop-length}
 use Rattle.certificate.specs.Marks.{lowest}
-use Rattle.certificate.specs.Check.{Found, passes, andThen, markFound, marksFound}
+use Rattle.certificate.specs.Findings.{Found, passes, andThen}
+use Rattle.certificate.specs.Check.{markFound, marksFound}
 use Rattle.certificate.proofs.check.check_marks.Statement.{statement}
 use Rattle.certificate.proofs.check.check_marks.Tie as tie
 

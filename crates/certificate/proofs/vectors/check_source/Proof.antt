@@ -1,5 +1,5 @@
 -- `vectors::check_source` meets its contract: by whether the source is wired.
-use Rattle.certificate.specs.Check.{sourceFound}
+use Rattle.certificate.specs.Vectors.{sourceFound}
 use borrow.Author.Needs.{needs}
 use Rattle.certificate.proofs.vectors.check_source.Statement.{statement}
 use Rattle.certificate.proofs.vectors.check_source.Tie as tie
