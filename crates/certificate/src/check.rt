@@ -3,6 +3,7 @@ use crate::Checked;
 use crate::Finding;
 use crate::findings::and_then;
 use crate::levels::levels_of;
+use crate::marks::MOST_LEVELS;
 use crate::marks::kind_of;
 use crate::marks::need_of;
 use crate::successors::check_successors;
@@ -13,6 +14,7 @@ use isa::Continuation;
 use isa::Flow;
 use isa::Refusal;
 use isa::flow_at::flow_at;
+use isa::rom::PROGRAM_SPACE;
 use isa::rom::is_image_length;
 use isa::sources::names_only_sources;
 use isa::table::timings;
@@ -67,7 +69,7 @@ fn check_marks(table: &[u8; 256], image: &[u8], certificate: &[u8]) -> Finding
     requires { ⌜ Timings (now table) × (isImage (length (now image)) ≡ true) × (length (now certificate) ≤ 4096) ⌝ }
     ensures { λ r. ⌜ found r ≡ marksFound (now (image .entry)) (now (certificate .entry)) (lowest (now (certificate .entry))) (now (certificate .entry)) ⌝ }
 {
-    let start = 4096 - certificate.len();
+    let start = PROGRAM_SPACE - certificate.len();
     let mut i = 0;
     while i < certificate.len() {
         let finding = check_mark(
@@ -97,7 +99,7 @@ fn check_rules(image: &[u8], certificate: &[u8], wired: u8) -> Checked
         return Checked::Refused(refusal);
     }
     let levels = levels_of(certificate, wired);
-    if 6 < levels {
+    if MOST_LEVELS < levels {
         return Checked::Refused(Refusal::TooManyLevels);
     }
     Checked::Accepted(levels)

@@ -34,13 +34,7 @@ pub fn is_placed(kind: u8, flow: Flow) -> bool
 {
     match flow {
         Flow::Return => kind == SUBROUTINE,
-        Flow::ReturnFromInterrupt => {
-            if kind == START_UP {
-                true
-            } else {
-                kind == SERVICE
-            }
-        }
+        Flow::ReturnFromInterrupt => kind == START_UP || kind == SERVICE,
         _ => true,
     }
 }

@@ -70,8 +70,5 @@ pub fn long_target(address: u16, displacement: i8) -> u16
 pub fn is_short(displacement: i8) -> bool
     ensures { λ r. ⌜ r ≡ inField 5 displacement ⌝ }
 {
-    if displacement < -16 {
-        return false;
-    }
-    displacement <= 15
+    -16 <= displacement && displacement <= 15
 }

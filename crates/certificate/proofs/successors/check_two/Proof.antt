@@ -1,10 +1,42 @@
 -- `successors::check_two` meets its contract: the kinds, then the needs.
+use mathlib.Core.Path.{_≡_}
+use mathlib.Core.Bool.{true}
 use borrow.Author.Tests.{not-true, not-false}
-use Rattle.certificate.specs.Successors.{allHaveKind, coversAll, successorsFound}
+use Rattle.certificate.specs.Successors.{hasKind, allHaveKind, covers, coversAll, successorsFound}
 use Rattle.certificate.proofs.Facts.{right-kind, wrong-kind, covered}
 use borrow.Author.Needs.{needs}
 use Rattle.certificate.proofs.successors.check_two.Statement.{statement}
 use Rattle.certificate.proofs.successors.check_two.Tie as tie
+
+-- the start, from the places where the first and the second kind have passed
+abbrev from-first : tie.Else1 → tie.Start
+from-first c = c .before .before .before .before .before
+
+abbrev from-second : tie.Else2 → tie.Start
+from-second c = from-first (c .before .before .before .before)
+
+-- what holds past each test
+first-kind : (c : tie.Else1) → hasKind (from-first c .args .certificate .now) (from-first c .args .first) ≡ true
+first-kind c =
+    right-kind _ (from-first c .args .first) (c .before .before .before .mark-at .ensures) (c .before .before .kind-of .ensures) (c .if1 .left)
+
+second-kind : (c : tie.Else2) → hasKind (from-second c .args .certificate .now) (from-second c .args .second) ≡ true
+second-kind c =
+    right-kind _ (from-second c .args .second) (c .before .before .before .mark-at2 .ensures) (c .before .before .kind-of2 .ensures) (c .if2 .left)
+
+first-covered : (c : tie.After-is-covered)
+    → covers (from-second (c .before) .args .certificate .now) (from-second (c .before) .args .need) (from-second (c .before) .args .first)
+    ≡ c .is-covered .result
+first-covered c =
+    let marked = c .before .before .before .before .before .before .before .before .mark-at .ensures in
+    covered _ (from-second (c .before) .args .first) marked _ (c .is-covered .ensures)
+
+second-covered : (c : tie.After-is-covered2)
+    → covers (from-second (c .before .before .before) .args .certificate .now) (from-second (c .before .before .before) .args .need) (from-second (c .before .before .before) .args .second)
+    ≡ c .is-covered2 .result
+second-covered c =
+    let marked = c .before .before .before .before .before .before .mark-at2 .ensures in
+    covered _ (from-second (c .before .before .before) .args .second) marked _ (c .is-covered2 .ensures)
 
 mark-at-requires : tie.Need-mark-at-requires
 mark-at-requires c κs = search needs
@@ -27,10 +59,10 @@ kind-of-requires-2 c κs = search needs
 returns-2 : tie.Need-returns-2
 unfolding allHaveKind coversAll successorsFound
 returns-2 c =
-    let first = c .before .before .before .before .before .before .before .before .before .args .first in
-    let second = c .before .before .before .before .before .before .before .before .before .args .second in
+    let before = c .before .before .before .before in
+    let second = from-first before .args .second in
     rw (
-      right-kind _ first (c .before .before .before .before .before .before .before .mark-at .ensures) (c .before .before .before .before .before .before .kind-of .ensures) (c .before .before .before .before .if1 .left),
+      first-kind before,
       wrong-kind _ second (c .before .before .before .mark-at2 .ensures) (c .before .before .kind-of2 .ensures) (c .if2 .taken),
     )
 
@@ -40,13 +72,11 @@ is-covered-requires c κs = search needs
 returns-3 : tie.Need-returns-3
 unfolding allHaveKind coversAll successorsFound
 returns-3 c =
-    let first = c .before .before .before .before .before .before .before .before .before .before .before .args .first in
-    let second = c .before .before .before .before .before .before .before .before .before .before .before .args .second in
-    let first-mark = c .before .before .before .before .before .before .before .before .before .mark-at .ensures in
+    let kinds = c .before .before in
     rw (
-      right-kind _ first first-mark (c .before .before .before .before .before .before .before .before .kind-of .ensures) (c .before .before .before .before .before .before .if1 .left),
-      right-kind _ second (c .before .before .before .before .before .mark-at2 .ensures) (c .before .before .before .before .kind-of2 .ensures) (c .before .before .if2 .left),
-      covered _ first first-mark _ (c .before .is-covered .ensures),
+      first-kind (kinds .before .before .before .before),
+      second-kind kinds,
+      first-covered (c .before),
       not-true (c .before .is-covered .result) (c .if3 .taken),
     )
 
@@ -56,32 +86,26 @@ is-covered-requires-2 c κs = search needs
 returns-4 : tie.Need-returns-4
 unfolding allHaveKind coversAll successorsFound
 returns-4 c =
-    let first = c .before .before .before .before .before .before .before .before .before .before .before .before .before .args .first in
-    let second = c .before .before .before .before .before .before .before .before .before .before .before .before .before .args .second in
-    let first-mark = c .before .before .before .before .before .before .before .before .before .before .before .mark-at .ensures in
-    let second-mark = c .before .before .before .before .before .before .before .mark-at2 .ensures in
+    let kinds = c .before .before .before .before in
     rw (
-      right-kind _ first first-mark (c .before .before .before .before .before .before .before .before .before .before .kind-of .ensures) (c .before .before .before .before .before .before .before .before .if1 .left),
-      right-kind _ second second-mark (c .before .before .before .before .before .before .kind-of2 .ensures) (c .before .before .before .before .if2 .left),
-      covered _ first first-mark _ (c .before .before .before .is-covered .ensures),
+      first-kind (kinds .before .before .before .before),
+      second-kind kinds,
+      first-covered (c .before .before .before),
       not-false (c .before .before .before .is-covered .result) (c .before .before .if3 .left),
-      covered _ second second-mark _ (c .before .is-covered2 .ensures),
+      second-covered (c .before),
       not-true (c .before .is-covered2 .result) (c .if4 .taken),
     )
 
 returns-5 : tie.Need-returns-5
 unfolding allHaveKind coversAll successorsFound
 returns-5 c =
-    let first = c .before .before .before .before .before .before .before .before .before .before .before .before .before .args .first in
-    let second = c .before .before .before .before .before .before .before .before .before .before .before .before .before .args .second in
-    let first-mark = c .before .before .before .before .before .before .before .before .before .before .before .mark-at .ensures in
-    let second-mark = c .before .before .before .before .before .before .before .mark-at2 .ensures in
+    let kinds = c .before .before .before .before in
     rw (
-      right-kind _ first first-mark (c .before .before .before .before .before .before .before .before .before .before .kind-of .ensures) (c .before .before .before .before .before .before .before .before .if1 .left),
-      right-kind _ second second-mark (c .before .before .before .before .before .before .kind-of2 .ensures) (c .before .before .before .before .if2 .left),
-      covered _ first first-mark _ (c .before .before .before .is-covered .ensures),
+      first-kind (kinds .before .before .before .before),
+      second-kind kinds,
+      first-covered (c .before .before .before),
       not-false (c .before .before .before .is-covered .result) (c .before .before .if3 .left),
-      covered _ second second-mark _ (c .before .is-covered2 .ensures),
+      second-covered (c .before),
       not-false (c .before .is-covered2 .result) (c .if4 .left),
     )
 

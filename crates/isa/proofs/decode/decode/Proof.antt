@@ -24,7 +24,7 @@ decode-in-range-requires c κs = search needs
 
 returns-3 : tie.Need-returns-3
 unfolding decodeAt
-returns-3 c = rw (← c .before .before .before .before .before .is-image-length .ensures, not-false (c .before .before .before .before .before .is-image-length .result) (c .before .before .before .before .if1 .left), lt-ltb _ _ (c .before .before .before .if2 .left)) (c .decode-in-range .ensures)
+returns-3 c = rw (← c .before .before .before .before .before .is-image-length .ensures, not-false (c .before .before .before .before .before .is-image-length .result) (c .before .before .before .before .if1 .left), lt-ltb _ _ (c .before .before .before .if2 .left)) (c .decode-in-range .ensures (c .before .before .timings .ensures))
 
 pub decode-spec : {M : Type 1} → statement M
 decode-spec =

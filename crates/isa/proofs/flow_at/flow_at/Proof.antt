@@ -1,9 +1,16 @@
 -- `flow_at::flow_at` meets its contract: decoding's refusals, then where the form continues.
 use borrow.Author.Needs.{needs}
-use mathlib.Core.Path.{sym, _∙_}
+use mathlib.Core.Path.{_≡_, sym, _∙_}
 use Rattle.isa.proofs.EntryFlow.{undefined, continues}
+use Rattle.isa.specs.Table.{bytesOf, Timings}
+use Rattle.isa.specs.Map.{entryOf}
 use Rattle.isa.proofs.flow_at.flow_at.Statement.{statement}
 use Rattle.isa.proofs.flow_at.flow_at.Tie as tie
+
+-- the opcode's length, where the table is the map's
+length-is : (c : tie.After-timing-of) → Timings (c .before .before .before .before .before .before .args .table .now)
+    → c .timing-of .result .length ≡ bytesOf (entryOf (c .before .before .opcode .given .0 .0))
+length-is c map = c .timing-of .ensures .0 ∙ map .lengths _ (search needs)
 
 rom-byte-requires : tie.Need-rom-byte-requires
 rom-byte-requires c κs = search needs
@@ -15,7 +22,7 @@ enum-told : tie.Need-enum-told
 enum-told c = search needs
 
 returns : tie.Need-returns
-returns c = rw (← c .before .before .rom-byte .ensures, c .enum-told .given .1)
+returns c map = rw (← c .before .before .rom-byte .ensures, c .enum-told .given .1)
 
 timing-of-requires : tie.Need-timing-of-requires
 timing-of-requires c κs = search needs
@@ -30,11 +37,11 @@ enum-told-2 : tie.Need-enum-told-2
 enum-told-2 c = search needs
 
 returns-2 : tie.Need-returns-2
-returns-2 c =
+returns-2 c map =
     rw (
       ← c .before .before .before .before .before .before .before .rom-byte .ensures,
       c .before .before .before .before .before .opcode .given .1,
-      ← c .before .before .before .timing-of .ensures .0,
+      ← length-is (c .before .before .before) map,
       ← c .before .before .operand-byte .ensures,
       c .enum-told2 .given .1,
     )
@@ -49,30 +56,30 @@ enum-told-3 : tie.Need-enum-told-3
 enum-told-3 c = search needs
 
 returns-3 : tie.Need-returns-3
-returns-3 c =
+returns-3 c map =
     rw (
       ← c .before .before .before .before .before .before .before .before .before .before .before .rom-byte .ensures,
       c .before .before .before .before .before .before .before .before .before .opcode .given .1,
-      ← c .before .before .before .before .before .before .before .timing-of .ensures .0,
+      ← length-is (c .before .before .before .before .before .before .before) map,
       ← c .before .before .before .before .before .before .operand-byte .ensures,
       c .before .before .before .before .first .given .1,
-      ← c .before .before .before .before .before .before .before .timing-of .ensures .0,
+      ← length-is (c .before .before .before .before .before .before .before) map,
       ← c .before .before .operand-byte2 .ensures,
       c .enum-told3 .given .1,
     )
 
 returns-4 : tie.Need-returns-4
-returns-4 c =
+returns-4 c map =
     rw (
       ← c .before .before .before .before .before .before .before .before .before .before .before .before .before .before .rom-byte .ensures,
       c .before .before .before .before .before .before .before .before .before .before .before .before .opcode .given .1,
-      ← c .before .before .before .before .before .before .before .before .before .before .timing-of .ensures .0,
+      ← length-is (c .before .before .before .before .before .before .before .before .before .before) map,
       ← c .before .before .before .before .before .before .before .before .before .operand-byte .ensures,
       c .before .before .before .before .before .before .before .first .given .1,
-      ← c .before .before .before .before .before .before .before .before .before .before .timing-of .ensures .0,
+      ← length-is (c .before .before .before .before .before .before .before .before .before .before) map,
       ← c .before .before .before .before .before .operand-byte2 .ensures,
       c .before .before .before .second .given .1,
-      undefined _ _ _ (sym (c .before .before .before .before .before .before .before .before .before .before .timing-of .ensures .0) ∙ c .if1 .taken),
+      undefined _ _ _ (sym (length-is (c .before .before .before .before .before .before .before .before .before .before) map) ∙ c .if1 .taken),
     )
 
 flow-by-requires : tie.Need-flow-by-requires
@@ -82,21 +89,21 @@ forward-requires : tie.Need-forward-requires
 forward-requires c κs = search needs
 
 returns-5 : tie.Need-returns-5
-returns-5 c =
+returns-5 c map =
     rw (
       ← c .before .before .before .before .before .before .before .before .before .before .before .before .before .before .before .before .rom-byte .ensures,
       c .before .before .before .before .before .before .before .before .before .before .before .before .before .before .opcode .given .1,
-      ← c .before .before .before .before .before .before .before .before .before .before .before .before .timing-of .ensures .0,
+      ← length-is (c .before .before .before .before .before .before .before .before .before .before .before .before) map,
       ← c .before .before .before .before .before .before .before .before .before .before .before .operand-byte .ensures,
       c .before .before .before .before .before .before .before .before .before .first .given .1,
-      ← c .before .before .before .before .before .before .before .before .before .before .before .before .timing-of .ensures .0,
+      ← length-is (c .before .before .before .before .before .before .before .before .before .before .before .before) map,
       ← c .before .before .before .before .before .before .before .operand-byte2 .ensures,
       c .before .before .before .before .before .second .given .1,
       c .before .flow-by .ensures,
       c .forward .ensures,
-      c .before .before .before .before .before .before .before .before .before .before .before .before .timing-of .ensures .0,
+      length-is (c .before .before .before .before .before .before .before .before .before .before .before .before) map,
     )
-    (sym (continues _ _ _ _ (λ none. c .before .before .if1 .left (c .before .before .before .before .before .before .before .before .before .before .before .before .timing-of .ensures .0 ∙ none))))
+    (sym (continues _ _ _ _ (λ none. c .before .before .if1 .left (length-is (c .before .before .before .before .before .before .before .before .before .before .before .before) map ∙ none))))
 
 pub flow-at-spec : {M : Type 1} → statement M
 flow-at-spec =
