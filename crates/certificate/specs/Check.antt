@@ -39,7 +39,8 @@ flowFound certificate a mark flow next =
 
 -- "4, 5, 4": what decoding refuses
 unfoldable pub decodedFound : List ℕ → (a mark : ℕ) → Answer Decoding → Found
-decodedFound certificate a mark (done (decode.instruction i bytes cycles)) = flowFound certificate a mark (flowOf i a) (forwardOf a bytes)
+decodedFound certificate a mark (done (decode.instruction i bytes cycles)) =
+    flowFound certificate a mark (flowOf i a) (forwardOf a bytes)
 decodedFound certificate a mark (refused refusal) = fault refusal
 
 -- "marked addresses .., at each: 14 malformed mark"

@@ -1,5 +1,5 @@
--- An instruction's rule by its successors: the rule holds exactly when the instruction may stand where it stands and every successor is as
--- it must be.
+-- An instruction's rule by its successors: the rule holds exactly when the instruction may stand where it stands and
+-- every successor is as it must be.
 use Prim.Native.Nat.{ℕ, _+_, _≤_}
 use mathlib.Core.Path.{_≡_}
 use mathlib.Core.Bool.{true}
@@ -10,8 +10,8 @@ use Rattle.certificate.specs.Marks.{kindAt, needAt}
 use Rattle.certificate.specs.Successors.{placed, successorsOf}
 use Rattle.certificate.specs.Rules.{FlowRule}
 
--- from an instruction at a to its successor s: "has the same kind", or "the target has kind 4"; "The need is at least each successor's,
--- and for CALL at least the target's plus 1."
+-- from an instruction at a to its successor s: "has the same kind", or "the target has kind 4"; "The need is at least
+-- each successor's, and for CALL at least the target's plus 1."
 pub record Link (certificate : List ℕ) (a : ℕ) (s : Successor) : Type 0 where
   pub kind : kindAt certificate (s .address) ≡ s .kind
   pub need : needAt certificate (s .address) + s .levels ≤ needAt certificate a

@@ -19,14 +19,15 @@ markAt certificate a =
 abbrev pub Marked : (certificate : List ℕ) → (address : ℕ) → Type 0
 Marked certificate a = markAt certificate a ≢ 0x00
 
--- "High digit, the kind: 0 unmarked (low digit 0 too), 1 start-up, 2 main, 3 service, 4 subroutine. Low digit, the need: 0 to 6 further levels."
+-- "High digit, the kind: 0 unmarked (low digit 0 too), 1 start-up, 2 main, 3 service, 4 subroutine. Low digit, the
+-- need: 0 to 6 further levels."
 pub record WellFormed (mark : ℕ) : Type 0 where
   pub kind-least : 1 ≤ mark / 16
   pub kind-most : mark / 16 ≤ 4
   pub need-most : mark % 16 ≤ 6
 
--- "High digit, the kind", and 0 for a mark that is none or malformed: "outside ROM, unmarked or of wrong kind, malformed marks counting
--- so" is then one test, that the kind is another
+-- "High digit, the kind", and 0 for a mark that is none or malformed: "outside ROM, unmarked or of wrong kind,
+-- malformed marks counting so" is then one test, that the kind is another
 abbrev pub kindOf : (mark : ℕ) → ℕ
 kindOf mark = cond (leb (mark / 16) 4 && leb (mark % 16) 6) (mark / 16) 0
 

@@ -30,8 +30,9 @@ continuesAt a k = record { address = a; kind = k; levels = 0 }
 abbrev pub callTarget : (address : ℕ) → Successor
 callTarget a = record { address = a; kind = 4; levels = 1 }
 
--- "each address where the instruction may continue, both ways of a condition, has the same kind. For CALL that is the address plus 2,
--- and the target has kind 4.", "these have no successor, but RETI in kind 1 has the next address, of kind 2"
+-- "each address where the instruction may continue, both ways of a condition, has the same kind. For CALL that is the
+-- address plus 2, and the target has kind 4.", "these have no successor, but RETI in kind 1 has the next address, of
+-- kind 2"
 unfoldable pub successorsOf : (kind : ℕ) → Flow → (next : ℕ) → List Successor
 successorsOf kind flow.Next next = continuesAt next kind ∷ []
 successorsOf kind (flow.Jump target) next = continuesAt target kind ∷ []

@@ -26,7 +26,8 @@ ghost use Rattle.isa.specs.Table.{Timings};
 ghost use Rattle.isa.specs.Rom.{isImage};
 ghost use Rattle.certificate.specs.Marks.{lowest};
 ghost use Rattle.certificate.specs.Findings.{found};
-ghost use Rattle.certificate.specs.Check.{answered, flowFound, markFound, marksFound, rulesFound, verdict, checkOf};
+ghost use Rattle.certificate.specs.Check.{flowFound, markFound, marksFound, rulesFound};
+ghost use Rattle.certificate.specs.Check.{answered, verdict, checkOf};
 ghost use Rattle.certificate.specs.Levels.{levelsOf};
 
 // 15, 16 and 17 at a marked address, with where its instruction continues.
@@ -67,7 +68,8 @@ fn check_mark(
 // The first fault among the marks, upward: one pass.
 fn check_marks(table: &[u8; 256], image: &[u8], certificate: &[u8]) -> Finding
     requires { ⌜ Timings (now table) × (isImage (length (now image)) ≡ true) × (length (now certificate) ≤ 4096) ⌝ }
-    ensures { λ r. ⌜ found r ≡ marksFound (now (image .entry)) (now (certificate .entry)) (lowest (now (certificate .entry))) (now (certificate .entry)) ⌝ }
+    ensures { λ r. ⌜ found r ≡ marksFound (now (image .entry)) (now (certificate .entry))
+        (lowest (now (certificate .entry))) (now (certificate .entry)) ⌝ }
 {
     let start = PROGRAM_SPACE - certificate.len();
     let mut i = 0;
@@ -90,7 +92,8 @@ fn check_marks(table: &[u8; 256], image: &[u8], certificate: &[u8]) -> Finding
 // The rules of a certificate of the right length: the marks upward, then the vectors, then 19.
 fn check_rules(image: &[u8], certificate: &[u8], wired: u8) -> Checked
     requires { ⌜ (isImage (length (now image)) ≡ true) × (length (now certificate) ≤ 4096) ⌝ }
-    ensures { λ r. ⌜ answered r ≡ verdict (levelsOf (now (certificate .entry)) wired) (rulesFound (now (image .entry)) (now (certificate .entry)) wired) ⌝ }
+    ensures { λ r. ⌜ answered r ≡ verdict (levelsOf (now (certificate .entry)) wired)
+        (rulesFound (now (image .entry)) (now (certificate .entry)) wired) ⌝ }
 {
     // A constant table is built where it is named: made once here, and lent to every mark.
     let table = timings();

@@ -12,9 +12,11 @@ use isa::Refusal;
 ghost use mathlib.Core.Path.{_≡_};
 ghost use mathlib.Core.List.{[], _∷_};
 ghost use Rattle.certificate.specs.Findings.{found};
-ghost use Rattle.certificate.specs.Successors.{placed, continuesAt, successorsOf, listed, coversMark, successorsFound};
+ghost use Rattle.certificate.specs.Successors.{placed, continuesAt, successorsOf, listed};
+ghost use Rattle.certificate.specs.Successors.{coversMark, successorsFound};
 
-// A successor of an instruction or the target of a CALL: the kind that its mark must have, and the levels that going there takes.
+// A successor of an instruction or the target of a CALL: the kind that its mark must have, and the levels that going
+// there takes.
 pub struct Successor {
     pub address: u16,
     pub kind: u8,

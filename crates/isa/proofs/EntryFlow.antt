@@ -1,4 +1,5 @@
--- Where a form continues, by the map's entry: an entry of no bytes is undefined, and every other one has an instruction.
+-- Where a form continues, by the map's entry: an entry of no bytes is undefined, and every other one has an
+-- instruction.
 use Prim.Native.Nat.{ℕ}
 use mathlib.Core.Path.{_≡_, refl}
 use native.Mathlib.Omega.{arith}

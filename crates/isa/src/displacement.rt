@@ -1,6 +1,7 @@
 // Signed displacements of relative jumps, and the addresses that they reach.
 ghost use mathlib.Core.Path.{_≡_};
-ghost use Rattle.isa.specs.Displacement.{shortDisplacement, longDisplacement, modulo, forwardOf, targetOf, shortTarget, longTarget};
+ghost use Rattle.isa.specs.Displacement.{shortDisplacement, longDisplacement, modulo};
+ghost use Rattle.isa.specs.Displacement.{forwardOf, targetOf, shortTarget, longTarget};
 ghost use Rattle.isa.specs.Encode.{inField};
 
 // The opcode's top five bits, signed.

@@ -1,4 +1,5 @@
--- `flow_at::flow_by` meets its contract: the low digit picks the column; the columns of the last arm all go on at the next address.
+-- `flow_at::flow_by` meets its contract: the low digit picks the column; the columns of the last arm all go on at the
+-- next address.
 use borrow.Author.Needs.{needs}
 use mathlib.Core.Path.{_≡_, refl}
 use mathlib.Core.Logic.{⊎-elim, inl, inr}
