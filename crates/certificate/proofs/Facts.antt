@@ -22,7 +22,8 @@ use Rattle.certificate.specs.Check.{flowFound, decodedFound, markFound}
 
 -- a marked address: 14, then what decoding answers
 pub marked : (image certificate : List ℕ) (a mark : ℕ) → mark ≢ 0
-    → markFound image certificate a mark ≡ unless (ltb 0 (kindOf mark)) (fault (located 14 a)) (decodedFound certificate a mark (decodeAt image a))
+    → markFound image certificate a mark
+    ≡ unless (ltb 0 (kindOf mark)) (fault (located 14 a)) (decodedFound certificate a mark (decodeAt image a))
 unfolding markFound
 marked image certificate a zero n = absurd (n refl)
 marked image certificate a (suc m) n = refl
@@ -32,7 +33,8 @@ abbrev pub continuationFound : List ℕ → (a mark : ℕ) → Answer Continuing
 continuationFound certificate a mark (done (flowAt.goes f next)) = flowFound certificate a mark f next
 continuationFound certificate a mark (refused refusal) = fault refusal
 
-pub by-continuation : (certificate : List ℕ) (a mark : ℕ) (answer : Answer Decoding) → decodedFound certificate a mark answer ≡ continuationFound certificate a mark (continuationFrom a answer)
+pub by-continuation : (certificate : List ℕ) (a mark : ℕ) (answer : Answer Decoding)
+    → decodedFound certificate a mark answer ≡ continuationFound certificate a mark (continuationFrom a answer)
 unfolding decodedFound
 by-continuation certificate a mark (done (decode.instruction i bytes cycles)) = refl
 by-continuation certificate a mark (refused refusal) = refl
@@ -42,7 +44,8 @@ pub not-both : {r : Numbered} → fault r ≡ passes → ⊥
 not-both e = let z : _≡_ {A = ℕ} 0 1 = cc in omega arith
 
 -- a test that passes
-pub unless-passes : (t : Bool) (r : Numbered) (more : Found) → unless t (fault r) more ≡ passes → (t ≡ true) × (more ≡ passes)
+pub unless-passes : (t : Bool) (r : Numbered) (more : Found) → unless t (fault r) more ≡ passes
+    → (t ≡ true) × (more ≡ passes)
 unless-passes true r more e = (refl, e)
 unless-passes false r more e = absurd (not-both e)
 
@@ -53,7 +56,8 @@ positive n = omega arith
 pub well-formed : (mark : ℕ) → 1 ≤ kindOf mark → WellFormed mark
 well-formed mark h = go (leb (mark / 16) 4) (leb (mark % 16) 6) refl refl h
   where
-    go : (s t : Bool) → leb (mark / 16) 4 ≡ s → leb (mark % 16) 6 ≡ t → 1 ≤ cond (s && t) (mark / 16) 0 → WellFormed mark
+    go : (s t : Bool) → leb (mark / 16) 4 ≡ s → leb (mark % 16) 6 ≡ t → 1 ≤ cond (s && t) (mark / 16) 0
+        → WellFormed mark
     go true true p q h = record { kind-least = h; kind-most = leb-true _ _ p; need-most = leb-true _ _ q }
     go true false p q h = absurd (omega arith)
     go false t p q h = absurd (omega arith)

@@ -1,9 +1,9 @@
 pub mod Facts
 pub mod Links
-pub mod Services
+pub mod SourceLevels
 pub mod Sound
 pub mod Complete
 pub mod Agreement
 pub mod Deciding
-pub mod Ordered
+pub mod Refusals
 pub mod Cases

@@ -14,13 +14,15 @@ use Rattle.isa.specs.declared.Flow.the-variants as flow
 use Rattle.certificate.specs.declared.successors.Successor.{Successor}
 use Rattle.certificate.specs.Findings.{passes}
 use Rattle.certificate.specs.Marks.{kindAt, needAt}
-use Rattle.certificate.specs.Successors.{placed, continuesAt, successorsOf, allHaveKind, coversAll, successorsFound}
+use Rattle.certificate.specs.Successors.{placed, continuesAt, successorsOf, allHaveKind, coversAll}
+use Rattle.certificate.specs.Successors.{successorsFound}
 use Rattle.certificate.specs.Rules.{Continues, EndsStartUp, FlowRule}
 use Rattle.certificate.specs.Links.{Link, Every, Linked, FlowRuleExactly}
 use Rattle.certificate.proofs.Facts.{both-true, unless-passes}
 
 module _ (certificate : List ℕ) (a : ℕ) where
-  link-to : (n kind : ℕ) → kindAt certificate n ≡ kind → needAt certificate n ≤ needAt certificate a → Link certificate a (continuesAt n kind)
+  link-to : (n kind : ℕ) → kindAt certificate n ≡ kind → needAt certificate n ≤ needAt certificate a
+      → Link certificate a (continuesAt n kind)
   link-to n kind k l = record { kind = k; need = rw add-zero l }
 
   same-kind : (n : ℕ) → Continues certificate a n → Link certificate a (continuesAt n (kindAt certificate a))
@@ -38,7 +40,10 @@ module _ (certificate : List ℕ) (a : ℕ) where
   linked (flow.Jump t) n r = record { stands = refl; links = (same-kind t r, tt) }
   linked (flow.Branch b t) n r = record { stands = refl; links = (same-kind t (r .0), (same-kind n (r .1), tt)) }
   linked (flow.Call t) n r =
-      record { stands = refl; links = (record { kind = r .target-kind; need = r .target-need }, (same-kind n (r .back), tt)) }
+      record {
+        stands = refl;
+        links = (record { kind = r .target-kind; need = r .target-need }, (same-kind n (r .back), tt));
+      }
   linked flow.Return n r = record { stands = eq-eqb _ 4 r; links = tt }
   linked flow.ReturnFromInterrupt n (inl k) =
       let no : eqb (kindAt certificate a) 1 ≡ false = ne-eqb _ 1 (λ (z : kindAt certificate a ≡ 1). omega arith) in
@@ -49,10 +54,13 @@ module _ (certificate : List ℕ) (a : ℕ) where
   linked flow.Sleep n r = record { stands = refl; links = (same-kind n r, tt) }
 
   -- RETI: of a service, or of start-up code
-  reti-rule : (n : ℕ) (start : Bool) → eqb (kindAt certificate a) 1 ≡ start → (start || eqb (kindAt certificate a) 3) ≡ true
-      → Every (Link certificate a) (cond start (continuesAt n 2 ∷ []) []) → (kindAt certificate a ≡ 3) ⊎ EndsStartUp certificate a n
+  reti-rule : (n : ℕ) (start : Bool) → eqb (kindAt certificate a) 1 ≡ start
+      → (start || eqb (kindAt certificate a) 3) ≡ true
+      → Every (Link certificate a) (cond start (continuesAt n 2 ∷ []) [])
+      → (kindAt certificate a ≡ 3) ⊎ EndsStartUp certificate a n
   reti-rule n false s p l = inl (eqb-true _ 3 p)
-  reti-rule n true s p l = inr (record { kind = eqb-true _ 1 s; next-kind = l .0 .kind; next-need = need-of-link (l .0) })
+  reti-rule n true s p l =
+      inr (record { kind = eqb-true _ 1 s; next-kind = l .0 .kind; next-need = need-of-link (l .0) })
 
   rule : (f : Flow) (n : ℕ) → Linked certificate a f n → FlowRule certificate a f n
   unfolding placed successorsOf
@@ -66,7 +74,8 @@ module _ (certificate : List ℕ) (a : ℕ) where
   rule flow.Sleep n l = continues n (l .links .0)
 
   -- links and the tests 16 and 17
-  kinds-pass : (successors : List Successor) → Every (Link certificate a) successors → allHaveKind certificate successors ≡ true
+  kinds-pass : (successors : List Successor) → Every (Link certificate a) successors
+      → allHaveKind certificate successors ≡ true
   unfolding allHaveKind
   kinds-pass [] l = refl
   kinds-pass (s ∷ successors) l = rw (eq-eqb _ _ (l .0 .kind)) (kinds-pass successors (l .1))
@@ -91,7 +100,8 @@ module _ (certificate : List ℕ) (a : ℕ) where
       let l₂ = both-true _ _ l in
       (record { kind = eqb-true _ _ (k₂ .0); need = leb-true _ _ (l₂ .0) }, links-of successors (k₂ .1) (l₂ .1))
 
-  pub pass-links : (successors : List Successor) → successorsFound certificate a (needAt certificate a) successors ≡ passes
+  pub pass-links : (successors : List Successor)
+      → successorsFound certificate a (needAt certificate a) successors ≡ passes
       → Every (Link certificate a) successors
   unfolding successorsFound
   pass-links successors e =

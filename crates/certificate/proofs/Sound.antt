@@ -24,7 +24,8 @@ use Rattle.certificate.specs.Findings.{Found, passes, fault, andThen}
 use Rattle.certificate.specs.Successors.{placed}
 use Rattle.certificate.specs.Vectors.{vectorFound, sourceFound, vectorsFound}
 use Rattle.certificate.specs.Levels.{levelsOf}
-use Rattle.certificate.specs.Check.{accepted, flowFound, decodedFound, markFound, marksFound, rulesFound, verdict, checkOf}
+use Rattle.certificate.specs.Check.{accepted, flowFound, decodedFound, markFound, marksFound, rulesFound, verdict}
+use Rattle.certificate.specs.Check.{checkOf}
 use Rattle.certificate.proofs.Facts.{marked, not-both, unless-passes, well-formed, image-length, at-most-4096}
 use Rattle.certificate.proofs.Links.{pass-links, flow-rule-exactly}
 use Rattle.certificate.specs.Rules.{FlowRule, Lawful, Rules}
@@ -62,32 +63,41 @@ marked-in-rom certificate a n = go (ltb a 4096) (leb 4096 (a + length certificat
     go true false p q n = absurd (n refl)
     go false t p q n = absurd (n refl)
 
-mark-passes : (image certificate : List ℕ) → length certificate ≤ 4096 → marksFound image certificate (lowest certificate) certificate ≡ passes
+mark-passes : (image certificate : List ℕ) → length certificate ≤ 4096
+    → marksFound image certificate (lowest certificate) certificate ≡ passes
     → (a : ℕ) → Marked certificate a → markFound image certificate a (markAt certificate a) ≡ passes
 mark-passes image certificate l e a n =
     let r = marked-in-rom certificate a n in
     let most = r .most in
     let least = r .least in
     let back : lowest certificate + (a + length certificate - 4096) ≡ a = omega arith in
-    let p = each-passes image certificate (lowest certificate) certificate e (a + length certificate - 4096) (omega arith) in
+    let p =
+        each-passes image certificate (lowest certificate) certificate e
+        (a + length certificate - 4096) (omega arith) in
     rw (r .mark) (rw back at p)
 
 -- the tests 15, 16 and 17 make the rule
-flow-rule : (certificate : List ℕ) (a : ℕ) (f : Flow) (n : ℕ) → flowFound certificate a (markAt certificate a) f n ≡ passes → FlowRule certificate a f n
+flow-rule : (certificate : List ℕ) (a : ℕ) (f : Flow) (n : ℕ)
+    → flowFound certificate a (markAt certificate a) f n ≡ passes → FlowRule certificate a f n
 unfolding flowFound kindAt needAt
 flow-rule certificate a f n e =
     let p = unless-passes (placed (kindAt certificate a) f) (located 15 a) _ e in
     flow-rule-exactly certificate a f n .rule (record { stands = p .0; links = pass-links certificate a _ (p .1) })
 
 -- a marked address that passes
-pub lawful : (image certificate : List ℕ) (a : ℕ) → Marked certificate a → markFound image certificate a (markAt certificate a) ≡ passes
+pub lawful : (image certificate : List ℕ) (a : ℕ) → Marked certificate a
+    → markFound image certificate a (markAt certificate a) ≡ passes
     → Lawful image certificate a
 unfolding decodedFound
 lawful image certificate a n e =
-    let s = unless-passes (ltb 0 (kindOf (markAt certificate a))) (located 14 a) _ (sym (marked image certificate a (markAt certificate a) n) ∙ e) in
-    go (well-formed (markAt certificate a) (ltb-true 0 (kindOf (markAt certificate a)) (s .0))) (decodeAt image a) refl (s .1)
+    let s =
+        unless-passes (ltb 0 (kindOf (markAt certificate a))) (located 14 a) _
+        (sym (marked image certificate a (markAt certificate a) n) ∙ e) in
+    go (well-formed (markAt certificate a) (ltb-true 0 (kindOf (markAt certificate a)) (s .0))) (decodeAt image a) refl
+    (s .1)
   where
-    go : WellFormed (markAt certificate a) → (d : Answer Decoding) → decodeAt image a ≡ d → decodedFound certificate a (markAt certificate a) d ≡ passes
+    go : WellFormed (markAt certificate a) → (d : Answer Decoding) → decodeAt image a ≡ d
+        → decodedFound certificate a (markAt certificate a) d ≡ passes
         → Lawful image certificate a
     go w (done (decode.instruction i bytes cycles)) d e =
         let rule = flow-rule certificate a (flowOf i a) (forwardOf a bytes) e in
@@ -95,12 +105,14 @@ lawful image certificate a n e =
     go w (refused r) d e = absurd (not-both e)
 
 -- the vectors
-vector-kind : (certificate : List ℕ) (vector kind : ℕ) → vectorFound certificate vector kind ≡ passes → kindAt certificate vector ≡ kind
+vector-kind : (certificate : List ℕ) (vector kind : ℕ) → vectorFound certificate vector kind ≡ passes
+    → kindAt certificate vector ≡ kind
 unfolding vectorFound
 vector-kind certificate vector kind e =
     eqb-true _ kind (unless-passes (eqb (kindAt certificate vector) kind) (located 18 vector) passes e .0)
 
-source-kind : (certificate : List ℕ) (wired : ℕ) (s : Source) → sourceFound certificate wired s ≡ passes → isNamed wired s ≡ true
+source-kind : (certificate : List ℕ) (wired : ℕ) (s : Source) → sourceFound certificate wired s ≡ passes
+    → isNamed wired s ≡ true
     → kindAt certificate (vectorOf s) ≡ 3
 unfolding sourceFound
 source-kind certificate wired s e w = vector-kind certificate (vectorOf s) 3 (rw w at e)
@@ -141,7 +153,9 @@ check-sound image certificate wired levels e =
     let marks = marksFound image certificate (lowest certificate) certificate in
     let all = both-pass (andThen marks (vectorsFound certificate wired)) _ (c₃ .1) in
     let found = both-pass marks (vectorsFound certificate wired) (all .0) in
-    let six = leb-true (levelsOf certificate wired) 6 (unless-passes (leb (levelsOf certificate wired) 6) (plain 19) passes (all .1) .0) in
+    let six =
+        leb-true (levelsOf certificate wired) 6
+        (unless-passes (leb (levelsOf certificate wired) 6) (plain 19) passes (all .1) .0) in
     let length-is = image-length (length image) (c₁ .0) in
     let same = eqb-true (length certificate) (length image) (c₂ .0) in
     let fits : length certificate ≤ 4096 = omega (arith, at-most-4096 length-is) in

@@ -72,8 +72,7 @@ fn check_marks(table: &[u8; 256], image: &[u8], certificate: &[u8]) -> Finding
         (lowest (now (certificate .entry))) (now (certificate .entry)) ⌝ }
 {
     let start = PROGRAM_SPACE - certificate.len();
-    let mut i = 0;
-    while i < certificate.len() {
+    for i in 0..certificate.len() {
         let finding = check_mark(
             table,
             image,
@@ -84,7 +83,6 @@ fn check_marks(table: &[u8; 256], image: &[u8], certificate: &[u8]) -> Finding
         if let Finding::Fault(_) = finding {
             return finding;
         }
-        i += 1;
     }
     Finding::Passes
 }

@@ -46,7 +46,8 @@ withOpcode image address (Byte opcode) =
     withFirst image address opcode (operandAt image address 1 (bytesOf (entryOf opcode)))
 withOpcode image address Outside = refused (located 4 address)
 
--- "4 opcode byte outside ROM; 5 undefined opcode; 4 operand byte outside ROM": what stands at an address of program space
+-- "4 opcode byte outside ROM; 5 undefined opcode; 4 operand byte outside ROM": what stands at an address of program
+-- space
 abbrev pub decodeOf : List ℕ → ℕ → Answer Decoding
 decodeOf image address = withOpcode image address (romAt image address)
 

@@ -4,7 +4,9 @@ use mathlib.Core.Path.{_≡_}
 use mathlib.Core.List.{List}
 use lib.ListN.{getD}
 use Rattle.isa.specs.Map.{Addressing, rr, short, [X], [Y], Entry, entryOf}
-use Rattle.isa.specs.Map.{JRNZ, JRNC, JRZ, JRC, CALL, JP, JRR, JRS, RES, SET, LD-A, LD-to, INC, DEC, ADD, SUB, AND, CP, LDI-A, LDI-rr, ADDI, SUBI, ANDI, CPI, COM, RLC, RET, RETI, STOP, WAIT, #}
+use Rattle.isa.specs.Map.{JRNZ, JRNC, JRZ, JRC, CALL, JP, JRR, JRS, RES, SET}
+use Rattle.isa.specs.Map.{LD-A, LD-to, INC, DEC, ADD, SUB, AND, CP}
+use Rattle.isa.specs.Map.{LDI-A, LDI-rr, ADDI, SUBI, ANDI, CPI, COM, RLC, RET, RETI, STOP, WAIT, #}
 
 -- the bytes of an instruction: one, and one more for each of its operand bytes
 abbrev addressingBytes : Addressing → ℕ

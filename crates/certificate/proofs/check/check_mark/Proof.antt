@@ -16,8 +16,10 @@ start c = c .before .before .before .before .before
 
 -- a mark with a kind: what is found is by where the instruction continues
 by-flow : (c : tie.After-flow-at)
-    → markFound (start (c .before) .args .image .now) (start (c .before) .args .certificate .now) (start (c .before) .args .address) (start (c .before) .args .mark)
-    ≡ continuationFound (start (c .before) .args .certificate .now) (start (c .before) .args .address) (start (c .before) .args .mark) (continuationOf (c .flow-at .result))
+    → markFound (start (c .before) .args .image .now) (start (c .before) .args .certificate .now)
+    (start (c .before) .args .address) (start (c .before) .args .mark)
+    ≡ continuationFound (start (c .before) .args .certificate .now) (start (c .before) .args .address)
+    (start (c .before) .args .mark) (continuationOf (c .flow-at .result))
 by-flow c =
     let kind = c .before .before .kind-of in
     let map = start (c .before) .pre .0 in
@@ -26,7 +28,8 @@ by-flow c =
       ← kind .ensures,
       lt-ltb 0 (kind .result) (positive (c .before .if2 .left)),
       by-continuation _ _ _ _,
-      ← (c .flow-at .ensures map ∙ ap (continuationFrom _) (in-range _ _ (start (c .before) .pre .1) (start (c .before) .pre .2))),
+      ← (c .flow-at .ensures map
+      ∙ ap (continuationFrom _) (in-range _ _ (start (c .before) .pre .1) (start (c .before) .pre .2))),
     )
 
 returns : tie.Need-returns
@@ -58,7 +61,8 @@ enum-known-refusal : tie.Need-enum-known-refusal
 enum-known-refusal c = search needs
 
 returns-3 : tie.Need-returns-3
-returns-3 c = rw (by-flow (c .before .before .before .before), c .before .before .flow .given .1) (c .check-flow .ensures)
+returns-3 c =
+    rw (by-flow (c .before .before .before .before), c .before .before .flow .given .1) (c .check-flow .ensures)
 
 returns-4 : tie.Need-returns-4
 returns-4 c = rw (by-flow (c .before .before .before), c .before .refusal .given .1)

@@ -1,5 +1,5 @@
 -- `levels::source_levels` meets its contract: its calls.
-use Rattle.certificate.proofs.Services.{source-levels}
+use Rattle.certificate.proofs.SourceLevels.{source-levels}
 use borrow.Author.Needs.{needs}
 use Rattle.certificate.proofs.levels.source_levels.Statement.{statement}
 use Rattle.certificate.proofs.levels.source_levels.Tie as tie

@@ -1,7 +1,8 @@
 -- `successors::check_two` meets its contract: the kinds, then the needs.
 use mathlib.Core.Path.{_≡_}
-use mathlib.Core.Bool.{true}
+use mathlib.Core.Bool.{Bool, true}
 use borrow.Author.Tests.{not-true, not-false}
+use Rattle.certificate.specs.declared.successors.Successor.{Successor}
 use Rattle.certificate.specs.Successors.{hasKind, allHaveKind, covers, coversAll, successorsFound}
 use Rattle.certificate.proofs.Facts.{right-kind, wrong-kind, covered}
 use borrow.Author.Needs.{needs}
@@ -18,21 +19,25 @@ from-second c = from-first (c .before .before .before .before)
 -- what holds past each test
 first-kind : (c : tie.Else1) → hasKind (from-first c .args .certificate .now) (from-first c .args .first) ≡ true
 first-kind c =
-    right-kind _ (from-first c .args .first) (c .before .before .before .mark-at .ensures) (c .before .before .kind-of .ensures) (c .if1 .left)
+    right-kind _ (from-first c .args .first) (c .before .before .before .mark-at .ensures)
+    (c .before .before .kind-of .ensures) (c .if1 .left)
 
 second-kind : (c : tie.Else2) → hasKind (from-second c .args .certificate .now) (from-second c .args .second) ≡ true
 second-kind c =
-    right-kind _ (from-second c .args .second) (c .before .before .before .mark-at2 .ensures) (c .before .before .kind-of2 .ensures) (c .if2 .left)
+    right-kind _ (from-second c .args .second) (c .before .before .before .mark-at2 .ensures)
+    (c .before .before .kind-of2 .ensures) (c .if2 .left)
+
+abbrev covers-one : tie.Start → Successor → Bool
+covers-one start s = covers (start .args .certificate .now) (start .args .need) s
 
 first-covered : (c : tie.After-is-covered)
-    → covers (from-second (c .before) .args .certificate .now) (from-second (c .before) .args .need) (from-second (c .before) .args .first)
-    ≡ c .is-covered .result
+    → covers-one (from-second (c .before)) (from-second (c .before) .args .first) ≡ c .is-covered .result
 first-covered c =
     let marked = c .before .before .before .before .before .before .before .before .mark-at .ensures in
     covered _ (from-second (c .before) .args .first) marked _ (c .is-covered .ensures)
 
 second-covered : (c : tie.After-is-covered2)
-    → covers (from-second (c .before .before .before) .args .certificate .now) (from-second (c .before .before .before) .args .need) (from-second (c .before .before .before) .args .second)
+    → covers-one (from-second (c .before .before .before)) (from-second (c .before .before .before) .args .second)
     ≡ c .is-covered2 .result
 second-covered c =
     let marked = c .before .before .before .before .before .before .mark-at2 .ensures in
@@ -47,8 +52,9 @@ kind-of-requires c κs = search needs
 returns : tie.Need-returns
 unfolding allHaveKind coversAll successorsFound
 returns c =
-    let first = c .before .before .before .before .before .args .first in
-    rw (wrong-kind _ first (c .before .before .before .mark-at .ensures) (c .before .before .kind-of .ensures) (c .if1 .taken))
+    let marked = c .before .before .before in
+    let first = marked .before .before .args .first in
+    rw (wrong-kind _ first (marked .mark-at .ensures) (c .before .before .kind-of .ensures) (c .if1 .taken))
 
 mark-at-requires-2 : tie.Need-mark-at-requires-2
 mark-at-requires-2 c κs = search needs
@@ -63,7 +69,8 @@ returns-2 c =
     let second = from-first before .args .second in
     rw (
       first-kind before,
-      wrong-kind _ second (c .before .before .before .mark-at2 .ensures) (c .before .before .kind-of2 .ensures) (c .if2 .taken),
+      wrong-kind _ second (c .before .before .before .mark-at2 .ensures) (c .before .before .kind-of2 .ensures)
+          (c .if2 .taken),
     )
 
 is-covered-requires : tie.Need-is-covered-requires

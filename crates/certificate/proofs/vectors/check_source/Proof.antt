@@ -15,7 +15,13 @@ check-vector-requires c κs = search needs
 
 returns : tie.Need-returns
 unfolding sourceFound
-returns c = rw (← c .before .before .before .names .ensures, c .before .before .if1 .taken, ← c .before .vector-of .ensures) (c .check-vector .ensures)
+returns c =
+    rw (
+      ← c .before .before .before .names .ensures,
+      c .before .before .if1 .taken,
+      ← c .before .vector-of .ensures,
+    )
+    (c .check-vector .ensures)
 
 returns-2 : tie.Need-returns-2
 unfolding sourceFound

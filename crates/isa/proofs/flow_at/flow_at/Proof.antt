@@ -40,7 +40,8 @@ length-is c map = c .timing-of .ensures .0 ∙ map .lengths _ (search needs)
 
 first-is : (c : tie.After-first) → Map (opcode-before c) → operand (opcode-before c) 1 ≡ Byte (c .first .given .0 .0)
 first-is c map =
-    rw (← length-is (c .before .before .before) map) (sym (c .before .before .operand-byte .ensures) ∙ c .first .given .1)
+    rw (← length-is (c .before .before .before) map)
+    (sym (c .before .before .operand-byte .ensures) ∙ c .first .given .1)
 
 second-is : (c : tie.After-second) → Map (opcode-before (first-before c))
     → operand (opcode-before (first-before c)) 2 ≡ Byte (c .second .given .0 .0)
