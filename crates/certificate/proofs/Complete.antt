@@ -51,7 +51,7 @@ module _ (image certificate : List ℕ) (wired levels : ℕ) (rules : Rules imag
       let l = rules .marked a n in
       let r = l .runs in
       let linked =
-          flow-rule-exactly certificate a (flowOf (r .instruction) a) (forwardOf a (r .bytes)) .linked (r .rule) in
+      flow-rule-exactly certificate a (flowOf (r .instruction) a) (forwardOf a (r .bytes)) .linked (r .rule) in
       rw (
         marked image certificate a (markAt certificate a) n,
         lt-ltb 0 (kindOf (markAt certificate a)) (has-kind (l .mark)),

@@ -151,10 +151,13 @@ module _ (certificate : List ℕ) where
       (ask (malformed certificate a) (ltb 0 (kindOf (markAt certificate a)))
       (decodedFound certificate a (markAt certificate a) (decodeAt image a))
       (λ t p. p .1 (well-formed (markAt certificate a) (ltb-true 0 (kindOf (markAt certificate a)) t)))
-      (λ t. (n, λ f. let h = ltb-false 0 (kindOf (markAt certificate a)) t in
-      let k = kind-of (markAt certificate a) f in
-      let l = f .kind-least in
-      omega arith))
+      (λ t. (
+        n,
+        λ f. let h = ltb-false 0 (kindOf (markAt certificate a)) t in
+            let k = kind-of (markAt certificate a) f in
+            let l = f .kind-least in
+            omega arith,
+      ))
       (λ _. decoded-decides a (decodeAt image a) w n))
 
   -- the marks of a part of the certificate

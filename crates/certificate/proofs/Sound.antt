@@ -72,8 +72,8 @@ mark-passes image certificate l e a n =
     let least = r .least in
     let back : lowest certificate + (a + length certificate - 4096) ≡ a = omega arith in
     let p =
-        each-passes image certificate (lowest certificate) certificate e
-        (a + length certificate - 4096) (omega arith) in
+    each-passes image certificate (lowest certificate) certificate e
+    (a + length certificate - 4096) (omega arith) in
     rw (r .mark) (rw back at p)
 
 -- the tests 15, 16 and 17 make the rule
@@ -91,8 +91,8 @@ pub lawful : (image certificate : List ℕ) (a : ℕ) → Marked certificate a
 unfolding decodedFound
 lawful image certificate a n e =
     let s =
-        unless-passes (ltb 0 (kindOf (markAt certificate a))) (located 14 a) _
-        (sym (marked image certificate a (markAt certificate a) n) ∙ e) in
+    unless-passes (ltb 0 (kindOf (markAt certificate a))) (located 14 a) _
+    (sym (marked image certificate a (markAt certificate a) n) ∙ e) in
     go (well-formed (markAt certificate a) (ltb-true 0 (kindOf (markAt certificate a)) (s .0))) (decodeAt image a) refl
     (s .1)
   where
@@ -154,8 +154,8 @@ check-sound image certificate wired levels e =
     let all = both-pass (andThen marks (vectorsFound certificate wired)) _ (c₃ .1) in
     let found = both-pass marks (vectorsFound certificate wired) (all .0) in
     let six =
-        leb-true (levelsOf certificate wired) 6
-        (unless-passes (leb (levelsOf certificate wired) 6) (plain 19) passes (all .1) .0) in
+    leb-true (levelsOf certificate wired) 6
+    (unless-passes (leb (levelsOf certificate wired) 6) (plain 19) passes (all .1) .0) in
     let length-is = image-length (length image) (c₁ .0) in
     let same = eqb-true (length certificate) (length image) (c₂ .0) in
     let fits : length certificate ≤ 4096 = omega (arith, at-most-4096 length-is) in

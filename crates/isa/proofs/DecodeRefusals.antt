@@ -35,12 +35,12 @@ undefined-form Undefined e = refl
 
 undefined-opcode :
     (image : List ℕ) (a k : ℕ) → Opcode image a k → member k undefinedOpcodes ≡ true
-        → decodeAt image a ≡ refused (located 5 a)
+    → decodeAt image a ≡ refused (located 5 a)
 unfolding operandAt
 undefined-opcode image a k o m =
     let empty : bytesOf (entryOf k) ≡ 0 = undefined-listed .no-length k (o .byte) m in
     let form : formOf k 0 0 ≡ Undefined =
-        undefined-form (formOf k 0 0) (undefined-listed .exactly k 0 0 (o .byte) ∙ m) in
+    undefined-form (formOf k 0 0) (undefined-listed .exactly k 0 0 (o .byte) ∙ m) in
     from-opcode image a k o ∙ rw (empty, empty, form)
 
 -- an operand byte outside ROM
@@ -62,7 +62,7 @@ operand-outside image a k o =
     → withFirst image a k (operandAt image a 1 n) ≡ refused (located 4 a))
     3 (
       λ h e. (let here : forwardOf a 0 ≡ a = omega (arith, o .below) in
-      let z : Outside ≡ Byte k = sym (rw here at e) ∙ o .here in cc),
+          let z : Outside ≡ Byte k = sym (rw here at e) ∙ o .here in cc),
       (
         λ h e. rw (lt-ltb 1 n h, e),
         (λ h e. second-outside image a k (operandAt image a 1 n) (rw (lt-ltb 2 n h, e)), tt),

@@ -45,9 +45,9 @@ written-decodes i n image size a h held =
     let opcode : romAt image a ≡ Byte (getD bs 0 0) = rw here at (held 0 (some (encodeOf i) n)) in
     let count : bytesOf (entryOf (getD bs 0 0)) ≡ length bs = decodes-back i n .1 in
     let first : operandAt image a 1 (length bs) ≡ Byte (getD bs 1 0) =
-        operand-held image a bs held 1 (ltb 1 (length bs)) refl in
+    operand-held image a bs held 1 (ltb 1 (length bs)) refl in
     let second : operandAt image a 2 (length bs) ≡ Byte (getD bs 2 0) =
-        operand-held image a bs held 2 (ltb 2 (length bs)) refl in
+    operand-held image a bs held 2 (ltb 2 (length bs)) refl in
     rw (size, lt-ltb a 4096 h, opcode, count, first, count, second, decodes-back i n .0, count)
 
 -- three bytes that were read stand in the image, as far as the instruction goes
@@ -86,7 +86,7 @@ decoded-writes image all a i n c q =
     let hs : r .s < 256 = operand-byte image all a 2 size (r .s) (r .second) in
     let few : size < 4 = bytes-few (r .k) hk in
     let are : bytes (encodeOf i) ≡ take size (r .k ∷ r .f ∷ r .s ∷ []) =
-        rw (r .form) at (writes-back (r .k) (r .f) (r .s) hk hf hs) in (
+    rw (r .form) at (writes-back (r .k) (r .f) (r .s) hk hf hs) in (
       ap length are ∙ length-take size (r .k ∷ r .f ∷ r .s ∷ []) ∙ omega arith,
       rw are (holds-taken image a (r .k) (r .f) (r .s) size (r .below) (r .opcode) (r .first) (r .second)),
     )

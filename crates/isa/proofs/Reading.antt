@@ -35,7 +35,7 @@ pub record Read (image : List ℕ) (a : ℕ) (i : Instruction) (n : ℕ) : Type 
 -- a test before a refusal has passed where the answer is an instruction
 passed :
     (b : Bool) (x : Answer Decoding) (r : Numbered) (i : Instruction) (n c : ℕ)
-        → cond b x (refused r) ≡ done (instruction i n c) →
+    → cond b x (refused r) ≡ done (instruction i n c) →
     (b ≡ true) × (x ≡ done (instruction i n c))
 passed true x r i n c q = (refl, q)
 passed false x r i n c q = let z : _≡_ {A = ℕ} 0 1 = cc in absurd (omega arith)

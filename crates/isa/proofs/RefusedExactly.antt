@@ -104,7 +104,7 @@ on-short : (short x y rr : ℕ) → short < 64 → x < 256 → y < 256 → rr < 
 on-short short x y rr hs hx hy hr (Direct a) = with-byte rr a hr
 on-short short x y rr hs hx hy hr (Short r) =
     chosen-bytes (ltb r 4) (One (r * 64 + short)) (λ t. let below : r < 4 =
-        ltb-true r 4 t in one-byte (r * 64 + short) (omega arith))
+    ltb-true r 4 t in one-byte (r * 64 + short) (omega arith))
 on-short short x y rr hs hx hy hr ThroughX = one-byte x hx
 on-short short x y rr hs hx hy hr ThroughY = one-byte y hy
 

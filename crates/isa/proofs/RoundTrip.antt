@@ -90,7 +90,7 @@ short-jump mk base b column d =
 -- CALL or JP
 extended-jump :
     (mk : ℕ → Instruction) (base : ℕ) → base < 16 → ((k f : ℕ) → k % 16 ≡ base → Makes k f 0 (mk (extended k f)) 2)
-        → (t : ℕ) →
+    → (t : ℕ) →
     Back (extendedJump base t) (mk t)
 extended-jump mk base b column t =
     chosen (ltb t 4096) (Two (t % 16 * 16 + base) (t / 16)) (mk t)
@@ -123,7 +123,7 @@ bit-jump mk base column bit address d =
 -- RES or SET
 bit-direct :
     (mk : ℕ → ℕ → Instruction) (base : ℕ)
-        → ((bit : ℕ) → bit < 8 → (f : ℕ) → Makes (withBit base bit) f 0 (mk bit f) 2) →
+    → ((bit : ℕ) → bit < 8 → (f : ℕ) → Makes (withBit base bit) f 0 (mk bit f) 2) →
     (bit address : ℕ) → Back (bitDirect base bit address) (mk bit address)
 bit-direct mk base column bit address =
     chosen (ltb bit 8) (withByte (withBit base bit) address) (mk bit address)
@@ -144,7 +144,7 @@ with-short mk short x y rr d s bx by ThroughY n = by
 
 without-short :
     (mk : Operand → Instruction) (x y rr : ℕ) → ((a : ℕ) → Makes rr a 0 (mk (Direct a)) 2)
-        → Makes x 0 0 (mk ThroughX) 1 →
+    → Makes x 0 0 (mk ThroughX) 1 →
     Makes y 0 0 (mk ThroughY) 1 → (o : Operand) → Back (onData x y rr o) (mk o)
 without-short mk x y rr d bx by (Direct a) n = byte (λ a. mk (Direct a)) rr d a n
 without-short mk x y rr d bx by (Short r) n = absurd (n refl)
@@ -225,10 +225,10 @@ Again k f s = formBytes (formOf k f s) ≡ take (bytesOf (entryOf k)) (k ∷ f �
 short-again : (base k : ℕ) → k < 256 → k % 8 ≡ base → bytes (shortJump base (shortDisplacement k)) ≡ k ∷ []
 short-again base k h e =
     let fits : inField 5 (shortDisplacement k) ≡ true =
-        eqB→eq (inField 5 (shortDisplacement k)) true
-        (at (λ j. eqB (inField 5 (shortDisplacement j)) true) 256 tt k h) in
+    eqB→eq (inField 5 (shortDisplacement k)) true
+    (at (λ j. eqB (inField 5 (shortDisplacement j)) true) 256 tt k h) in
     let field : modulo 32 (shortDisplacement k) ≡ k / 8 =
-        sameN (λ j. modulo 32 (shortDisplacement j)) (λ j. j / 8) tt k h in
+    sameN (λ j. modulo 32 (shortDisplacement j)) (λ j. j / 8) tt k h in
     let whole : k / 8 * 8 + base ≡ k = omega arith in
     rw (fits, field, whole)
 

@@ -68,7 +68,7 @@ from-first Unencodable buffer n q = cc
 
 others-stay :
     (e : Encoded) (buffer : List ℕ) (n : ℕ) → outcome e (length buffer) ≡ done n
-        → drop n (bufferAfter e buffer) ≡ drop n buffer
+    → drop n (bufferAfter e buffer) ≡ drop n buffer
 unfolding outcome bufferAfter
 others-stay (One a) buffer n q = rest (bytes (One a)) buffer (leb 1 (length buffer)) n q
 others-stay (Two a b) buffer n q = rest (bytes (Two a b)) buffer (leb 2 (length buffer)) n q

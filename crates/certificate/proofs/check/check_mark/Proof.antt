@@ -29,7 +29,7 @@ by-flow c =
       lt-ltb 0 (kind .result) (positive (c .before .if2 .left)),
       by-continuation _ _ _ _,
       ← (c .flow-at .ensures map
-      ∙ ap (continuationFrom _) (in-range _ _ (start (c .before) .pre .1) (start (c .before) .pre .2))),
+          ∙ ap (continuationFrom _) (in-range _ _ (start (c .before) .pre .1) (start (c .before) .pre .2))),
     )
 
 returns : tie.Need-returns
