@@ -14,7 +14,7 @@ use Rattle.control.specs.Requests.{serviceMode}
 use Rattle.certificate.specs.Marks.{kindAt, needAt}
 use Rattle.certificate.specs.Levels.{sourceLevels, levelsFor}
 use Rattle.certificate.specs.Rules.{Continues, Calls, EndsStartUp}
-use Rattle.certificate.proofs.Services.{source-levels}
+use Rattle.certificate.proofs.SourceLevels.{source-levels}
 use Rattle.bench.specs.Deeds.{Deed, took, called, returned, left, began, other}
 use Rattle.bench.proofs.Frames.{bound, Over, source-normal, nmi-normal, nmi-interrupt, Frames, start-up, main, subroutine, service, within}
 

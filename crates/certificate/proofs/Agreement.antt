@@ -5,4 +5,7 @@ use Rattle.certificate.proofs.Complete.{check-complete}
 
 pub agreement : Agreement
 agreement image certificate wired levels =
-    record { sound = check-sound image certificate wired levels; complete = check-complete image certificate wired levels }
+    record {
+      sound = check-sound image certificate wired levels;
+      complete = check-complete image certificate wired levels;
+    }

@@ -8,11 +8,15 @@ use Rattle.isa.specs.ControlFlow
 use Rattle.certificate.specs.Marks
 use Rattle.certificate.specs.Successors
 use Rattle.certificate.specs.Levels
-use Rattle.certificate.specs.Check.{checkOf, marksFound, markFound, decodedFound, flowFound, vectorsFound, sourceFound, vectorFound}
+use Rattle.certificate.specs.Vectors.{vectorsFound, sourceFound, vectorFound}
+use Rattle.certificate.specs.Check.{checkOf, marksFound, markFound, decodedFound, flowFound}
 use Rattle.certificate.specs.Cases.{CheckCases}
 
 pub check-cases : CheckCases
-unfolding checkOf marksFound markFound decodedFound flowFound vectorsFound sourceFound vectorFound Marks.markAt Marks.kindAt Marks.needAt Successors.placed Successors.successorsOf Successors.allHaveKind Successors.coversAll Levels.sourceLevels Levels.levelsFor Levels.levelsOf Map.entryOf Table.bytesOf Table.cyclesOf Map.formAs Map.formOf Rom.romAt Rom.operandAt Decode.decodeAt ControlFlow.flowOf
+unfolding checkOf marksFound markFound decodedFound flowFound vectorsFound sourceFound vectorFound Marks.markAt
+    Marks.kindAt Marks.needAt Successors.placed Successors.successorsOf Successors.allHaveKind Successors.coversAll
+    Successors.successorsFound Levels.sourceLevels Levels.levelsFor Levels.levelsOf Map.entryOf Table.bytesOf
+    Table.cyclesOf Map.formAs Map.formOf Rom.romAt Rom.operandAt Decode.decodeAt ControlFlow.flowOf
 check-cases =
     record {
       p11 = refl;

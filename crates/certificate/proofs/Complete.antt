@@ -6,23 +6,23 @@ use mathlib.Core.Path.{_≡_, refl, ap, sym}
 use mathlib.Core.Logic.{_⊎_, inl, inr}
 use mathlib.Core.Bool.{Bool, true, false, cond, or-true}
 use mathlib.Core.List.{List, [], _∷_}
-use lib.Dec.{leb, eqb}
+use lib.Dec.{eqb}
 use lib.ListN.{length, getD}
-use borrow.Author.Tests.{le-leb, lt-ltb, eq-eqb, ne-eqb}
+use borrow.Author.Tests.{le-leb, lt-ltb, eq-eqb}
 use Rattle.isa.specs.Rom.{isImage}
 use Rattle.isa.specs.Sources.{isNamed, vectorOf}
 use Rattle.isa.specs.Displacement.{forwardOf}
 use Rattle.isa.specs.ControlFlow.{flowOf}
 use Rattle.isa.specs.declared.Source.{Source}
 use Rattle.isa.specs.declared.Source.the-variants.{Nmi, First, Second, Third, Fourth}
-use Rattle.isa.specs.declared.Flow.{Flow}
-use Rattle.isa.specs.declared.Flow.the-variants as flow
 use Rattle.certificate.specs.Marks.{markAt, Marked, WellFormed, kindOf, kindAt, needAt, lowest}
-use Rattle.certificate.specs.Successors.{placed, successorsOf, allHaveKind, coversAll}
+use Rattle.certificate.specs.Findings.{passes}
+use Rattle.certificate.specs.Vectors.{vectorFound, sourceFound, vectorsFound}
 use Rattle.certificate.specs.Levels.{levelsOf}
-use Rattle.certificate.specs.Check.{accepted, passes, flowFound, decodedFound, markFound, marksFound, vectorFound, sourceFound, vectorsFound, checkOf}
-use Rattle.certificate.specs.Rules.{Continues, FlowRule, Rules}
+use Rattle.certificate.specs.Check.{accepted, flowFound, decodedFound, markFound, marksFound, checkOf}
+use Rattle.certificate.specs.Rules.{Rules}
 use Rattle.certificate.proofs.Facts.{marked, kind-of, mark-is, at-most-4096}
+use Rattle.certificate.proofs.Links.{links-pass, flow-rule-exactly}
 
 has-kind : {mark : ℕ} → WellFormed mark → 0 < kindOf mark
 has-kind {mark} w = rw (kind-of mark w) (w .kind-least)
@@ -45,41 +45,20 @@ image-is n (inl e) = rw (eq-eqb n 2048 e)
 image-is n (inr e) = rw (eq-eqb n 4096 e) (or-true (eqb n 2048))
 
 module _ (image certificate : List ℕ) (wired levels : ℕ) (rules : Rules image certificate wired levels) where
-  kind-one : (a n : ℕ) → Continues certificate a n → eqb (kindAt certificate n) (kindAt certificate a) ≡ true
-  kind-one a n c = eq-eqb _ _ (c .kind)
-
-  need-one : (a n : ℕ) → Continues certificate a n → leb (needAt certificate n + 0) (needAt certificate a) ≡ true
-  need-one a n c = rw add-zero (le-leb _ _ (c .need))
-
-  -- a rule that holds passes its tests: 15, 16, 17
-  rule-passes : (a : ℕ) (f : Flow) (n : ℕ) → FlowRule certificate a f n
-      → (placed (kindAt certificate a) f ≡ true)
-      × (allHaveKind certificate (successorsOf (kindAt certificate a) f n) ≡ true)
-      × (coversAll certificate (needAt certificate a) (successorsOf (kindAt certificate a) f n) ≡ true)
-  unfolding placed successorsOf allHaveKind coversAll
-  rule-passes a flow.Next n r = (refl, rw (kind-one a n r), rw (need-one a n r))
-  rule-passes a (flow.Jump t) n r = (refl, rw (kind-one a t r), rw (need-one a t r))
-  rule-passes a (flow.Branch b t) n r =
-      (refl, rw (kind-one a t (r .0), kind-one a n (r .1)), rw (need-one a t (r .0), need-one a n (r .1)))
-  rule-passes a (flow.Call t) n r =
-      (refl, rw (eq-eqb _ 4 (r .target-kind), kind-one a n (r .back)), rw (le-leb _ _ (r .target-need), need-one a n (r .back)))
-  rule-passes a flow.Return n r = (eq-eqb _ 4 r, refl, refl)
-  rule-passes a flow.ReturnFromInterrupt n (inl k) =
-      let no : eqb (kindAt certificate a) 1 ≡ false = ne-eqb (kindAt certificate a) 1 (λ (z : kindAt certificate a ≡ 1). omega arith) in
-      (rw no (eq-eqb _ 3 k), rw no, rw no)
-  rule-passes a flow.ReturnFromInterrupt n (inr e) =
-      let yes : eqb (kindAt certificate a) 1 ≡ true = eq-eqb _ 1 (e .kind) in
-      let need : leb (needAt certificate n + 0) (needAt certificate a) ≡ true = rw add-zero (le-leb _ _ (e .next-need)) in
-      (rw yes, rw (yes, eq-eqb _ 2 (e .next-kind)), rw (yes, need))
-  rule-passes a flow.Sleep n r = (refl, rw (kind-one a n r), rw (need-one a n r))
-
   marked-passes : (a : ℕ) → Marked certificate a → markFound image certificate a (markAt certificate a) ≡ passes
   unfolding decodedFound flowFound kindAt needAt
   marked-passes a n =
       let l = rules .marked a n in
       let r = l .runs in
-      let p = rule-passes a (flowOf (r .instruction) a) (forwardOf a (r .bytes)) (r .rule) in
-      rw (marked image certificate a (markAt certificate a) n, lt-ltb 0 (kindOf (markAt certificate a)) (has-kind (l .mark)), r .decodes, p .0, p .1, p .2)
+      let linked =
+      flow-rule-exactly certificate a (flowOf (r .instruction) a) (forwardOf a (r .bytes)) .linked (r .rule) in
+      rw (
+        marked image certificate a (markAt certificate a) n,
+        lt-ltb 0 (kindOf (markAt certificate a)) (has-kind (l .mark)),
+        r .decodes,
+        linked .stands,
+        links-pass certificate a _ (linked .links),
+      )
 
   mark-passes : (a mark : ℕ) → markAt certificate a ≡ mark → markFound image certificate a mark ≡ passes
   unfolding markFound

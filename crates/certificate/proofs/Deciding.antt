@@ -5,7 +5,8 @@ use mathlib.Core.Logic.{inl, inr}
 use mathlib.Core.Bool.{Bool, true, false}
 use mathlib.Core.List.{List, [], _∷_, _++_}
 use Rattle.isa.specs.Refusals.{unless}
-use Rattle.certificate.specs.Check.{Found, passes, fault, andThen, verdict}
+use Rattle.certificate.specs.Findings.{Found, passes, fault, andThen}
+use Rattle.certificate.specs.Check.{verdict}
 use Rattle.certificate.specs.Refusals.{Question, None, FirstApplies, Described}
 
 -- a finding answers questions: it passes where none applies, and is a fault with the first that does
@@ -29,7 +30,8 @@ pub skip : (q : Question) {qs : List Question} {f : Found} → (q .Applies → �
 skip q {qs} {f} not-so d = record { decided = skip-it q qs f not-so (d .decided) }
 
 -- a test that answers a question, before others, which may take for granted that it passed
-pub ask : (q : Question) {qs : List Question} (t : Bool) (f : Found) → (t ≡ true → q .Applies → ⊥) → (t ≡ false → q .Applies)
+pub ask : (q : Question) {qs : List Question} (t : Bool) (f : Found) → (t ≡ true → q .Applies → ⊥)
+    → (t ≡ false → q .Applies)
     → (t ≡ true → Decides qs f) → Decides (q ∷ qs) (unless t (fault (q .refusal)) f)
 ask q true f not-so is-so more = skip q (not-so refl) (more refl)
 ask q false f not-so is-so more = record { decided = inl (is-so refl, refl) }
@@ -42,7 +44,8 @@ then-it (q ∷ qs) qs′ passes g d e = skip-it q (qs ++ qs′) g (d .0) (then-i
 then-it (q ∷ qs) qs′ (fault r) g (inl a) e = inl a
 then-it (q ∷ qs) qs′ (fault r) g (inr d) e = inr (d .0, then-it qs qs′ (fault r) g (d .1) e)
 
-pub decides-then : {qs qs′ : List Question} (f g : Found) → Decides qs f → Decides qs′ g → Decides (qs ++ qs′) (andThen f g)
+pub decides-then : {qs qs′ : List Question} (f g : Found) → Decides qs f → Decides qs′ g
+    → Decides (qs ++ qs′) (andThen f g)
 decides-then {qs} {qs′} f g d e = record { decided = then-it qs qs′ f g (d .decided) (e .decided) }
 
 -- the answer of a finding

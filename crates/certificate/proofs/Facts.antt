@@ -3,23 +3,27 @@ use Prim.Native.Nat.{ℕ, zero, suc, _+_, _-_, _≤_, _<_, _/_, _%_}
 use native.Mathlib.Omega.{arith}
 use mathlib.Core.Bool.{Bool, true, false, cond, _&&_, _||_, false≢true}
 use mathlib.Core.Logic.{_⊎_, inl, inr, _≢_}
-use borrow.Author.Tests.{leb-true, le-leb, lt-ltb, eqb-true}
-use mathlib.Core.Path.{_≡_, refl}
+use borrow.Author.Tests.{leb-true, le-leb, lt-ltb, eqb-true, eq-eqb, ne-eqb}
+use mathlib.Core.Path.{_≡_, refl, sym}
 use mathlib.Core.List.{List}
 use lib.Dec.{ltb, leb, eqb}
 use lib.ListN.{length, getD}
 use Rattle.isa.specs.Decode as decode
-use Rattle.isa.specs.Rom.{isImage, romAt}
+use Rattle.isa.specs.Rom.{isImage}
 use Rattle.isa.specs.Decode.{Decoding, decodeAt}
 use Rattle.isa.specs.FlowAt as flowAt
 use Rattle.isa.specs.FlowAt.{Continuing, continuationFrom}
 use Rattle.isa.specs.Refusals.{Numbered, located, Answer, done, refused, unless}
-use Rattle.certificate.specs.Marks.{markAt, WellFormed, kindOf, lowest}
-use Rattle.certificate.specs.Check.{Found, passes, fault, flowFound, decodedFound, markFound}
+use Rattle.certificate.specs.Marks.{markAt, WellFormed, kindOf, kindAt, needAt, lowest}
+use Rattle.certificate.specs.Successors.{hasKind, coversMark, covers}
+use Rattle.certificate.specs.declared.successors.Successor.{Successor}
+use Rattle.certificate.specs.Findings.{Found, passes, fault}
+use Rattle.certificate.specs.Check.{flowFound, decodedFound, markFound}
 
 -- a marked address: 14, then what decoding answers
 pub marked : (image certificate : List ℕ) (a mark : ℕ) → mark ≢ 0
-    → markFound image certificate a mark ≡ unless (ltb 0 (kindOf mark)) (fault (located 14 a)) (decodedFound certificate a mark (decodeAt image a))
+    → markFound image certificate a mark
+    ≡ unless (ltb 0 (kindOf mark)) (fault (located 14 a)) (decodedFound certificate a mark (decodeAt image a))
 unfolding markFound
 marked image certificate a zero n = absurd (n refl)
 marked image certificate a (suc m) n = refl
@@ -29,7 +33,8 @@ abbrev pub continuationFound : List ℕ → (a mark : ℕ) → Answer Continuing
 continuationFound certificate a mark (done (flowAt.goes f next)) = flowFound certificate a mark f next
 continuationFound certificate a mark (refused refusal) = fault refusal
 
-pub by-continuation : (certificate : List ℕ) (a mark : ℕ) (answer : Answer Decoding) → decodedFound certificate a mark answer ≡ continuationFound certificate a mark (continuationFrom a answer)
+pub by-continuation : (certificate : List ℕ) (a mark : ℕ) (answer : Answer Decoding)
+    → decodedFound certificate a mark answer ≡ continuationFound certificate a mark (continuationFrom a answer)
 unfolding decodedFound
 by-continuation certificate a mark (done (decode.instruction i bytes cycles)) = refl
 by-continuation certificate a mark (refused refusal) = refl
@@ -38,6 +43,12 @@ by-continuation certificate a mark (refused refusal) = refl
 pub not-both : {r : Numbered} → fault r ≡ passes → ⊥
 not-both e = let z : _≡_ {A = ℕ} 0 1 = cc in omega arith
 
+-- a test that passes
+pub unless-passes : (t : Bool) (r : Numbered) (more : Found) → unless t (fault r) more ≡ passes
+    → (t ≡ true) × (more ≡ passes)
+unless-passes true r more e = (refl, e)
+unless-passes false r more e = absurd (not-both e)
+
 pub positive : {k : ℕ} → k ≢ 0 → 0 < k
 positive n = omega arith
 
@@ -45,7 +56,8 @@ positive n = omega arith
 pub well-formed : (mark : ℕ) → 1 ≤ kindOf mark → WellFormed mark
 well-formed mark h = go (leb (mark / 16) 4) (leb (mark % 16) 6) refl refl h
   where
-    go : (s t : Bool) → leb (mark / 16) 4 ≡ s → leb (mark % 16) 6 ≡ t → 1 ≤ cond (s && t) (mark / 16) 0 → WellFormed mark
+    go : (s t : Bool) → leb (mark / 16) 4 ≡ s → leb (mark % 16) 6 ≡ t → 1 ≤ cond (s && t) (mark / 16) 0
+        → WellFormed mark
     go true true p q h = record { kind-least = h; kind-most = leb-true _ _ p; need-most = leb-true _ _ q }
     go true false p q h = absurd (omega arith)
     go false t p q h = absurd (omega arith)
@@ -56,7 +68,7 @@ kind-of mark w = rw (le-leb _ _ (w .kind-most), le-leb _ _ (w .need-most))
 -- the mark of the i-th ROM byte
 pub mark-is : (certificate : List ℕ) (i : ℕ) → length certificate ≤ 4096 → i < length certificate
     → markAt certificate (lowest certificate + i) ≡ getD certificate i 0
-unfolding markAt romAt
+unfolding markAt
 mark-is certificate i fits h =
     let below : lowest certificate + i < 4096 = omega arith in
     let above : 4096 ≤ lowest certificate + i + length certificate = omega arith in
@@ -80,3 +92,17 @@ image-length n e = go (eqb n 2048) (eqb n 4096) refl refl e
 pub at-most-4096 : {n : ℕ} → (n ≡ 2048) ⊎ (n ≡ 4096) → n ≤ 4096
 at-most-4096 (inl e) = omega arith
 at-most-4096 (inr e) = omega arith
+
+-- the tests of a successor, by its mark
+module _ (certificate : List ℕ) (s : Successor) {mark : ℕ} (at : mark ≡ markAt certificate (s .address)) where
+  pub right-kind : {kind : ℕ} → kind ≡ kindOf mark → kind ≡ s .kind → hasKind certificate s ≡ true
+  unfolding kindAt
+  right-kind e k = rw (← at, ← e) (eq-eqb _ _ k)
+
+  pub wrong-kind : {kind : ℕ} → kind ≡ kindOf mark → kind ≢ s .kind → hasKind certificate s ≡ false
+  unfolding kindAt
+  wrong-kind e k = rw (← at, ← e) (ne-eqb _ _ k)
+
+  pub covered : (need : ℕ) {r : Bool} → r ≡ coversMark need mark (s .levels) → covers certificate need s ≡ r
+  unfolding needAt
+  covered need e = rw (← at) (sym e)

@@ -1,8 +1,9 @@
 pub mod Facts
-pub mod Services
+pub mod Links
+pub mod SourceLevels
 pub mod Sound
 pub mod Complete
 pub mod Agreement
 pub mod Deciding
-pub mod Ordered
+pub mod Refusals
 pub mod Cases

@@ -3,35 +3,32 @@ use Prim.Native.Nat.{ℕ, zero, suc, _+_, _-_, _≤_, _<_}
 use native.Mathlib.Nat.{add-zero}
 use native.Mathlib.Omega.{arith}
 use mathlib.Core.Path.{_≡_, refl, sym, _∙_}
-use mathlib.Core.Logic.{_⊎_, inl, inr, _≢_}
-use mathlib.Core.Bool.{Bool, true, false, cond, _&&_, _||_}
+use mathlib.Core.Logic.{_≢_}
+use mathlib.Core.Bool.{Bool, true, false, cond, _&&_}
 use mathlib.Core.List.{List, [], _∷_}
 use lib.Dec.{leb, ltb, eqb}
 use lib.ListN.{length, getD}
 use borrow.Author.Tests.{leb-true, ltb-true, eqb-true}
 use Rattle.isa.specs.Decode as decode
-use Rattle.isa.specs.Rom.{isImage, romAt}
+use Rattle.isa.specs.Rom.{isImage}
 use Rattle.isa.specs.Decode.{Decoding, decodeAt}
-use Rattle.isa.specs.Refusals.{Numbered, plain, located, Answer, done, refused, unless}
+use Rattle.isa.specs.Refusals.{plain, located, Answer, done, refused}
 use Rattle.isa.specs.Sources.{isNamed, namesOnlySources, vectorOf}
 use Rattle.isa.specs.Displacement.{forwardOf}
 use Rattle.isa.specs.ControlFlow.{flowOf}
 use Rattle.isa.specs.declared.Flow.{Flow}
-use Rattle.isa.specs.declared.Flow.the-variants as flow
 use Rattle.isa.specs.declared.Source.{Source}
 use Rattle.isa.specs.declared.Source.the-variants.{Nmi, First, Second, Third, Fourth}
-use Rattle.isa.specs.declared.rom.RomByte.the-variants.{Byte, Outside}
-use Rattle.certificate.specs.Marks.{markIn, markAt, Marked, WellFormed, kindOf, kindAt, needAt, lowest}
-use Rattle.certificate.specs.Successors.{placed, successorsOf, allHaveKind, coversAll}
+use Rattle.certificate.specs.Marks.{markAt, Marked, WellFormed, kindOf, kindAt, needAt, lowest}
+use Rattle.certificate.specs.Findings.{Found, passes, fault, andThen}
+use Rattle.certificate.specs.Successors.{placed}
+use Rattle.certificate.specs.Vectors.{vectorFound, sourceFound, vectorsFound}
 use Rattle.certificate.specs.Levels.{levelsOf}
-use Rattle.certificate.specs.Check.{accepted, Found, passes, fault, andThen, flowFound, decodedFound, markFound, marksFound, vectorFound, sourceFound, vectorsFound, rulesFound, verdict, checkOf}
-use Rattle.certificate.proofs.Facts.{marked, not-both, well-formed, both-true, image-length, at-most-4096}
-use Rattle.certificate.specs.Rules.{Continues, EndsStartUp, FlowRule, Lawful, Rules}
-
--- a test that passes
-unless-passes : (t : Bool) (r : Numbered) (more : Found) → unless t (fault r) more ≡ passes → (t ≡ true) × (more ≡ passes)
-unless-passes true r more e = (refl, e)
-unless-passes false r more e = absurd (not-both e)
+use Rattle.certificate.specs.Check.{accepted, flowFound, decodedFound, markFound, marksFound, rulesFound, verdict}
+use Rattle.certificate.specs.Check.{checkOf}
+use Rattle.certificate.proofs.Facts.{marked, not-both, unless-passes, well-formed, image-length, at-most-4096}
+use Rattle.certificate.proofs.Links.{pass-links, flow-rule-exactly}
+use Rattle.certificate.specs.Rules.{FlowRule, Lawful, Rules}
 
 -- two parts that pass
 both-pass : (f g : Found) → andThen f g ≡ passes → (f ≡ passes) × (g ≡ passes)
@@ -57,93 +54,50 @@ pub record InRom (certificate : List ℕ) (a : ℕ) : Type 0 where
   pub mark : markAt certificate a ≡ getD certificate (a + length certificate - 4096) 0
 
 pub marked-in-rom : (certificate : List ℕ) (a : ℕ) → Marked certificate a → InRom certificate a
-unfolding markAt romAt
+unfolding markAt
 marked-in-rom certificate a n = go (ltb a 4096) (leb 4096 (a + length certificate)) refl refl n
   where
     go : (s t : Bool) → ltb a 4096 ≡ s → leb 4096 (a + length certificate) ≡ t
-        → markIn (cond s (cond t (Byte (getD certificate (a + length certificate - 4096) 0)) Outside) Outside) ≢ 0 → InRom certificate a
+        → cond (s && t) (getD certificate (a + length certificate - 4096) 0) 0 ≢ 0 → InRom certificate a
     go true true p q n = record { most = ltb-true _ _ p; least = leb-true _ _ q; mark = rw (p, q) }
     go true false p q n = absurd (n refl)
     go false t p q n = absurd (n refl)
 
-mark-passes : (image certificate : List ℕ) → length certificate ≤ 4096 → marksFound image certificate (lowest certificate) certificate ≡ passes
+mark-passes : (image certificate : List ℕ) → length certificate ≤ 4096
+    → marksFound image certificate (lowest certificate) certificate ≡ passes
     → (a : ℕ) → Marked certificate a → markFound image certificate a (markAt certificate a) ≡ passes
 mark-passes image certificate l e a n =
     let r = marked-in-rom certificate a n in
     let most = r .most in
     let least = r .least in
     let back : lowest certificate + (a + length certificate - 4096) ≡ a = omega arith in
-    let p = each-passes image certificate (lowest certificate) certificate e (a + length certificate - 4096) (omega arith) in
+    let p =
+    each-passes image certificate (lowest certificate) certificate e
+    (a + length certificate - 4096) (omega arith) in
     rw (r .mark) (rw back at p)
 
--- successors that pass
-continues : (certificate : List ℕ) (a n : ℕ) → eqb (kindAt certificate n) (kindAt certificate a) ≡ true
-    → leb (needAt certificate n + 0) (needAt certificate a) ≡ true → Continues certificate a n
-continues certificate a n k l =
-    let need = leb-true (needAt certificate n + 0) (needAt certificate a) l in
-    record { kind = eqb-true _ _ k; need = omega arith }
-
-single : (certificate : List ℕ) (a n : ℕ) → (eqb (kindAt certificate n) (kindAt certificate a) && true) ≡ true
-    → (leb (needAt certificate n + 0) (needAt certificate a) && true) ≡ true → Continues certificate a n
-single certificate a n k l = continues certificate a n (both-true _ true k .0) (both-true _ true l .0)
-
--- RETI: of a service, or of start-up code
-reti-rule : (certificate : List ℕ) (a n : ℕ) (start : Bool) → eqb (kindAt certificate a) 1 ≡ start → (start || eqb (kindAt certificate a) 3) ≡ true
-    → allHaveKind certificate (successorsOf (kindAt certificate a) flow.ReturnFromInterrupt n) ≡ true
-    → coversAll certificate (needAt certificate a) (successorsOf (kindAt certificate a) flow.ReturnFromInterrupt n) ≡ true
-    → (kindAt certificate a ≡ 3) ⊎ EndsStartUp certificate a n
-unfolding successorsOf allHaveKind coversAll
-reti-rule certificate a n false s p k l = inl (eqb-true _ 3 p)
-reti-rule certificate a n true s p k l =
-    let k′ = rw s at k in
-    let l′ = rw s at l in
-    let need = leb-true (needAt certificate n + 0) (needAt certificate a) (both-true _ true l′ .0) in
-    inr (record {
-      kind = eqb-true _ 1 s;
-      next-kind = eqb-true _ 2 (both-true _ true k′ .0);
-      next-need = omega arith;
-    })
-
--- tests that pass make the rule: 15, 16, 17
-rule-of : (certificate : List ℕ) (a : ℕ) (f : Flow) (n : ℕ) → placed (kindAt certificate a) f ≡ true
-    → allHaveKind certificate (successorsOf (kindAt certificate a) f n) ≡ true
-    → coversAll certificate (needAt certificate a) (successorsOf (kindAt certificate a) f n) ≡ true → FlowRule certificate a f n
-unfolding placed successorsOf allHaveKind coversAll
-rule-of certificate a flow.Next n p k l = single certificate a n k l
-rule-of certificate a (flow.Jump t) n p k l = single certificate a t k l
-rule-of certificate a (flow.Branch b t) n p k l =
-    let k₂ = both-true _ _ k in
-    let l₂ = both-true _ _ l in
-    (continues certificate a t (k₂ .0) (l₂ .0), single certificate a n (k₂ .1) (l₂ .1))
-rule-of certificate a (flow.Call t) n p k l =
-    let k₂ = both-true _ _ k in
-    let l₂ = both-true _ _ l in
-    record {
-      target-kind = eqb-true _ 4 (k₂ .0);
-      target-need = leb-true _ _ (l₂ .0);
-      back = single certificate a n (k₂ .1) (l₂ .1);
-    }
-rule-of certificate a flow.Return n p k l = eqb-true _ 4 p
-rule-of certificate a flow.ReturnFromInterrupt n p k l = reti-rule certificate a n (eqb (kindAt certificate a) 1) refl p k l
-rule-of certificate a flow.Sleep n p k l = single certificate a n k l
-
-flow-rule : (certificate : List ℕ) (a : ℕ) (f : Flow) (n : ℕ) → flowFound certificate a (markAt certificate a) f n ≡ passes → FlowRule certificate a f n
+-- the tests 15, 16 and 17 make the rule
+flow-rule : (certificate : List ℕ) (a : ℕ) (f : Flow) (n : ℕ)
+    → flowFound certificate a (markAt certificate a) f n ≡ passes → FlowRule certificate a f n
 unfolding flowFound kindAt needAt
 flow-rule certificate a f n e =
     let p = unless-passes (placed (kindAt certificate a) f) (located 15 a) _ e in
-    let k = unless-passes (allHaveKind certificate (successorsOf (kindAt certificate a) f n)) (located 16 a) _ (p .1) in
-    let l = unless-passes (coversAll certificate (needAt certificate a) (successorsOf (kindAt certificate a) f n)) (located 17 a) _ (k .1) in
-    rule-of certificate a f n (p .0) (k .0) (l .0)
+    flow-rule-exactly certificate a f n .rule (record { stands = p .0; links = pass-links certificate a _ (p .1) })
 
 -- a marked address that passes
-pub lawful : (image certificate : List ℕ) (a : ℕ) → Marked certificate a → markFound image certificate a (markAt certificate a) ≡ passes
+pub lawful : (image certificate : List ℕ) (a : ℕ) → Marked certificate a
+    → markFound image certificate a (markAt certificate a) ≡ passes
     → Lawful image certificate a
 unfolding decodedFound
 lawful image certificate a n e =
-    let s = unless-passes (ltb 0 (kindOf (markAt certificate a))) (located 14 a) _ (sym (marked image certificate a (markAt certificate a) n) ∙ e) in
-    go (well-formed (markAt certificate a) (ltb-true 0 (kindOf (markAt certificate a)) (s .0))) (decodeAt image a) refl (s .1)
+    let s =
+    unless-passes (ltb 0 (kindOf (markAt certificate a))) (located 14 a) _
+    (sym (marked image certificate a (markAt certificate a) n) ∙ e) in
+    go (well-formed (markAt certificate a) (ltb-true 0 (kindOf (markAt certificate a)) (s .0))) (decodeAt image a) refl
+    (s .1)
   where
-    go : WellFormed (markAt certificate a) → (d : Answer Decoding) → decodeAt image a ≡ d → decodedFound certificate a (markAt certificate a) d ≡ passes
+    go : WellFormed (markAt certificate a) → (d : Answer Decoding) → decodeAt image a ≡ d
+        → decodedFound certificate a (markAt certificate a) d ≡ passes
         → Lawful image certificate a
     go w (done (decode.instruction i bytes cycles)) d e =
         let rule = flow-rule certificate a (flowOf i a) (forwardOf a bytes) e in
@@ -151,12 +105,14 @@ lawful image certificate a n e =
     go w (refused r) d e = absurd (not-both e)
 
 -- the vectors
-vector-kind : (certificate : List ℕ) (vector kind : ℕ) → vectorFound certificate vector kind ≡ passes → kindAt certificate vector ≡ kind
+vector-kind : (certificate : List ℕ) (vector kind : ℕ) → vectorFound certificate vector kind ≡ passes
+    → kindAt certificate vector ≡ kind
 unfolding vectorFound
 vector-kind certificate vector kind e =
     eqb-true _ kind (unless-passes (eqb (kindAt certificate vector) kind) (located 18 vector) passes e .0)
 
-source-kind : (certificate : List ℕ) (wired : ℕ) (s : Source) → sourceFound certificate wired s ≡ passes → isNamed wired s ≡ true
+source-kind : (certificate : List ℕ) (wired : ℕ) (s : Source) → sourceFound certificate wired s ≡ passes
+    → isNamed wired s ≡ true
     → kindAt certificate (vectorOf s) ≡ 3
 unfolding sourceFound
 source-kind certificate wired s e w = vector-kind certificate (vectorOf s) 3 (rw w at e)
@@ -197,7 +153,9 @@ check-sound image certificate wired levels e =
     let marks = marksFound image certificate (lowest certificate) certificate in
     let all = both-pass (andThen marks (vectorsFound certificate wired)) _ (c₃ .1) in
     let found = both-pass marks (vectorsFound certificate wired) (all .0) in
-    let six = leb-true (levelsOf certificate wired) 6 (unless-passes (leb (levelsOf certificate wired) 6) (plain 19) passes (all .1) .0) in
+    let six =
+    leb-true (levelsOf certificate wired) 6
+    (unless-passes (leb (levelsOf certificate wired) 6) (plain 19) passes (all .1) .0) in
     let length-is = image-length (length image) (c₁ .0) in
     let same = eqb-true (length certificate) (length image) (c₂ .0) in
     let fits : length certificate ≤ 4096 = omega (arith, at-most-4096 length-is) in

@@ -1,6 +1,5 @@
 -- What the certificate check answers (document 01, "Check"): the first refusal that applies, or the number of levels.
-use Prim.Native.Nat.{ℕ, zero, suc, _-_}
-use mathlib.Core.Bool.{Bool, true, false, cond}
+use Prim.Native.Nat.{ℕ, zero, suc}
 use mathlib.Core.List.{List, [], _∷_}
 use lib.Dec.{leb, ltb, eqb}
 use lib.ListN.{length}
@@ -9,17 +8,15 @@ use Rattle.isa.specs.Rom.{isImage}
 use Rattle.isa.specs.Decode.{Decoding, decodeAt}
 use Rattle.isa.specs.Displacement.{forwardOf}
 use Rattle.isa.specs.ControlFlow.{flowOf}
-use Rattle.isa.specs.Refusals.{Numbered, plain, located, numbered, Answer, done, refused, unless}
-use Rattle.isa.specs.Sources.{isNamed, namesOnlySources, vectorOf}
+use Rattle.isa.specs.Refusals.{plain, located, numbered, Answer, done, refused, unless}
+use Rattle.isa.specs.Sources.{namesOnlySources}
 use Rattle.isa.specs.declared.Flow.{Flow}
-use Rattle.isa.specs.declared.Source.{Source}
-use Rattle.isa.specs.declared.Source.the-variants.{Nmi, First, Second, Third, Fourth}
-use Rattle.certificate.specs.declared.Finding.{Finding}
-use Rattle.certificate.specs.declared.Finding.the-variants.{Passes, Fault}
 use Rattle.certificate.specs.declared.Checked.{Checked}
 use Rattle.certificate.specs.declared.Checked.the-variants.{Accepted, Refused}
-use Rattle.certificate.specs.Marks.{kindOf, needOf, kindAt, lowest}
-use Rattle.certificate.specs.Successors.{placed, successorsOf, allHaveKind, coversAll}
+use Rattle.certificate.specs.Findings.{Found, passes, fault, andThen}
+use Rattle.certificate.specs.Marks.{kindOf, needOf, lowest}
+use Rattle.certificate.specs.Successors.{placed, successorsOf, successorsFound}
+use Rattle.certificate.specs.Vectors.{vectorsFound}
 use Rattle.certificate.specs.Levels.{levelsOf}
 
 -- the check's answer: "the number is Levels", or "A refusal is a number"
@@ -34,31 +31,16 @@ abbrev pub answered : Checked → Verdict
 answered (Accepted levels) = accepted levels
 answered (Refused refusal) = refused (numbered refusal)
 
--- what a part of the check finds
-pub data Found : Type 0 where
-  passes : Found
-  fault : Numbered → Found
-
--- the program's finding by document 01's numbers
-abbrev pub found : Finding → Found
-found Passes = passes
-found (Fault refusal) = fault (numbered refusal)
-
--- "The first that applies is given": the first of two parts
-abbrev pub andThen : Found → Found → Found
-andThen passes more = more
-andThen (fault refusal) more = fault refusal
-
--- "15 misplaced RET or RETI; 16 successor or CALL target outside ROM, unmarked or of wrong kind, malformed marks counting so; 17 need too small"
+-- "15 misplaced RET or RETI; 16 ..; 17 .."
 unfoldable pub flowFound : List ℕ → (a mark : ℕ) → Flow → (next : ℕ) → Found
 flowFound certificate a mark flow next =
     unless (placed (kindOf mark) flow) (fault (located 15 a))
-    (unless (allHaveKind certificate (successorsOf (kindOf mark) flow next)) (fault (located 16 a))
-    (unless (coversAll certificate (needOf mark) (successorsOf (kindOf mark) flow next)) (fault (located 17 a)) passes))
+    (successorsFound certificate a (needOf mark) (successorsOf (kindOf mark) flow next))
 
 -- "4, 5, 4": what decoding refuses
 unfoldable pub decodedFound : List ℕ → (a mark : ℕ) → Answer Decoding → Found
-decodedFound certificate a mark (done (decode.instruction i bytes cycles)) = flowFound certificate a mark (flowOf i a) (forwardOf a bytes)
+decodedFound certificate a mark (done (decode.instruction i bytes cycles)) =
+    flowFound certificate a mark (flowOf i a) (forwardOf a bytes)
 decodedFound certificate a mark (refused refusal) = fault refusal
 
 -- "marked addresses .., at each: 14 malformed mark"
@@ -73,23 +55,6 @@ marksFound image certificate a [] = passes
 marksFound image certificate a (mark ∷ marks) =
     let more = marksFound image certificate (suc a) marks in
     andThen (markFound image certificate a mark) more
-
--- "18 vector kind": a vector that must have a kind
-unfoldable pub vectorFound : List ℕ → (vector kind : ℕ) → Found
-vectorFound certificate vector kind = unless (eqb (kindAt certificate vector) kind) (fault (located 18 vector)) passes
-
--- "Each wired source's vector has kind 3."
-unfoldable pub sourceFound : List ℕ → (wired : ℕ) → Source → Found
-sourceFound certificate wired s = cond (isNamed wired s) (vectorFound certificate (vectorOf s) 3) passes
-
--- "Then 18 vector kind, FFEh first, then sources upward"
-unfoldable pub vectorsFound : List ℕ → (wired : ℕ) → Found
-vectorsFound certificate wired =
-    andThen (vectorFound certificate 0xFFE 1)
-    (andThen (sourceFound certificate wired Nmi)
-    (andThen (sourceFound certificate wired First)
-    (andThen (sourceFound certificate wired Second)
-    (andThen (sourceFound certificate wired Third) (sourceFound certificate wired Fourth)))))
 
 -- "19 more than six levels"
 abbrev pub levelsFound : List ℕ → (wired : ℕ) → Found

@@ -11,7 +11,8 @@ use Rattle.certificate.specs.Marks.{needAt}
 abbrev pub wiredNeeds : List ℕ → (wired : ℕ) → List Source → List ℕ
 wiredNeeds certificate wired [] = []
 wiredNeeds certificate wired (s ∷ sources) =
-    cond (isNamed wired s) (needAt certificate (vectorOf s) ∷ wiredNeeds certificate wired sources) (wiredNeeds certificate wired sources)
+    let others = wiredNeeds certificate wired sources in
+    cond (isNamed wired s) (needAt certificate (vectorOf s) ∷ others) others
 
 -- "greatest need"
 abbrev pub greatest : List ℕ → ℕ
@@ -31,6 +32,7 @@ sourceLevels certificate wired = ifAny (wiredNeeds certificate wired (First ∷ 
 unfoldable pub levelsFor : List ℕ → (wired : ℕ) → Source → ℕ
 levelsFor certificate wired s = cond (isNamed wired s) (1 + needAt certificate (vectorOf s)) 0
 
--- "Levels = need at FFEh, plus (1 + greatest need among the wired sources 1 to 4) if any, plus (1 + need at FFCh) if NMI is wired."
+-- "Levels = need at FFEh, plus (1 + greatest need among the wired sources 1 to 4) if any, plus (1 + need at FFCh) if
+-- NMI is wired."
 unfoldable pub levelsOf : List ℕ → (wired : ℕ) → ℕ
 levelsOf certificate wired = needAt certificate 0xFFE + sourceLevels certificate wired + levelsFor certificate wired Nmi

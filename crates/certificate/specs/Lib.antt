@@ -1,8 +1,11 @@
+pub mod Findings
 pub mod Marks
 pub mod Successors
+pub mod Vectors
 pub mod Levels
 pub mod Check
 pub mod Rules
+pub mod Links
 pub mod Agreement
 pub mod Refusals
 pub mod Cases

@@ -1,39 +1,33 @@
 -- The certificate's marks (document 01, "The certificate").
-use Prim.Native.Nat.{ℕ, _-_, _/_, _%_, _≤_}
+use Prim.Native.Nat.{ℕ, _+_, _-_, _/_, _%_, _≤_}
 use mathlib.Core.Bool.{cond, _&&_}
 use mathlib.Core.Logic.{_≢_}
 use mathlib.Core.List.{List}
-use lib.Dec.{leb}
-use lib.ListN.{length}
-use Rattle.isa.specs.Rom.{romAt}
-use Rattle.isa.specs.declared.rom.RomByte.{RomByte}
-use Rattle.isa.specs.declared.rom.RomByte.the-variants.{Byte, Outside}
-
--- the mark that stands in a byte; outside ROM there is none
-abbrev pub markIn : RomByte → ℕ
-markIn (Byte mark) = mark
-markIn Outside = 0x00
-
--- "One mark for each ROM byte, lowest address first.": an address has its mark where the image has its byte
-unfoldable pub markAt : (certificate : List ℕ) → (address : ℕ) → ℕ
-markAt certificate a = markIn (romAt certificate a)
+use lib.Dec.{leb, ltb}
+use lib.ListN.{length, getD}
 
 -- "lowest address first": that of the first mark, 800h or 000h
 abbrev pub lowest : (certificate : List ℕ) → ℕ
 lowest certificate = 4096 - length certificate
 
+-- "One mark for each ROM byte, lowest address first.": the last one is that of FFFh, and outside ROM there is none
+unfoldable pub markAt : (certificate : List ℕ) → (address : ℕ) → ℕ
+markAt certificate a =
+    cond (ltb a 4096 && leb 4096 (a + length certificate)) (getD certificate (a + length certificate - 4096) 0x00) 0x00
+
 -- "An address is marked when its mark isn't 00h."
 abbrev pub Marked : (certificate : List ℕ) → (address : ℕ) → Type 0
 Marked certificate a = markAt certificate a ≢ 0x00
 
--- "High digit, the kind: 0 unmarked (low digit 0 too), 1 start-up, 2 main, 3 service, 4 subroutine. Low digit, the need: 0 to 6 further levels."
+-- "High digit, the kind: 0 unmarked (low digit 0 too), 1 start-up, 2 main, 3 service, 4 subroutine. Low digit, the
+-- need: 0 to 6 further levels."
 pub record WellFormed (mark : ℕ) : Type 0 where
   pub kind-least : 1 ≤ mark / 16
   pub kind-most : mark / 16 ≤ 4
   pub need-most : mark % 16 ≤ 6
 
--- "High digit, the kind", and 0 for a mark that is none or malformed: "outside ROM, unmarked or of wrong kind, malformed marks counting
--- so" is then one test, that the kind is another
+-- "High digit, the kind", and 0 for a mark that is none or malformed: "outside ROM, unmarked or of wrong kind,
+-- malformed marks counting so" is then one test, that the kind is another
 abbrev pub kindOf : (mark : ℕ) → ℕ
 kindOf mark = cond (leb (mark / 16) 4 && leb (mark % 16) 6) (mark / 16) 0
 

@@ -15,7 +15,7 @@ use Rattle.isa.specs.declared.Flow.{Flow}
 use Rattle.isa.specs.declared.Flow.the-variants as flow
 use Rattle.isa.specs.declared.Source.{Source}
 use Rattle.isa.specs.declared.Source.the-variants.{Nmi, First, Second, Third, Fourth}
-use Rattle.certificate.specs.declared.Successor.{Successor}
+use Rattle.certificate.specs.declared.successors.Successor.{Successor}
 use Rattle.certificate.specs.Marks.{markAt, Marked, WellFormed, kindAt, needAt, lowest}
 use Rattle.certificate.specs.Successors.{successorsOf}
 use Rattle.certificate.specs.Levels.{levelsOf}
@@ -55,7 +55,8 @@ Misplaced kind flow.Return = kind ≢ 4
 Misplaced kind flow.ReturnFromInterrupt = (kind ≢ 1) × (kind ≢ 3)
 Misplaced kind flow.Sleep = ⊥
 
--- "a defined instruction wholly in ROM" stands at a, by what decoding answers, and P holds of its flow and its next address
+-- "a defined instruction wholly in ROM" stands at a, by what decoding answers, and P holds of its flow and its next
+-- address
 abbrev pub Decodes : Answer Decoding → (a : ℕ) → (Flow → ℕ → Type 0) → Type 0
 Decodes (done (decode.instruction i bytes cycles)) a P = P (flowOf i a) (forwardOf a bytes)
 Decodes (refused r) a P = ⊥
@@ -83,22 +84,26 @@ module _ (certificate : List ℕ) where
 
   -- "15 misplaced RET or RETI"
   abbrev pub misplacedReturn : Answer Decoding → (a : ℕ) → Question
-  misplacedReturn d a = asks (located 15 a) (Marked certificate a × Decodes d a (λ f next. Misplaced (kindAt certificate a) f))
+  misplacedReturn d a =
+      asks (located 15 a) (Marked certificate a × Decodes d a (λ f next. Misplaced (kindAt certificate a) f))
 
   -- "16 successor or CALL target outside ROM, unmarked or of wrong kind"
   abbrev pub successorKind : Answer Decoding → (a : ℕ) → Question
   successorKind d a =
-      asks (located 16 a) (Marked certificate a × Decodes d a (λ f next. Some WrongKind (successorsOf (kindAt certificate a) f next)))
+      asks (located 16 a)
+      (Marked certificate a × Decodes d a (λ f next. Some WrongKind (successorsOf (kindAt certificate a) f next)))
 
   -- "17 need too small"
   abbrev pub needTooSmall : Answer Decoding → (a : ℕ) → Question
   needTooSmall d a =
       asks (located 17 a)
-      (Marked certificate a × Decodes d a (λ f next. Some (TooSmall (needAt certificate a)) (successorsOf (kindAt certificate a) f next)))
+      (Marked certificate a
+      × Decodes d a (λ f next. Some (TooSmall (needAt certificate a)) (successorsOf (kindAt certificate a) f next)))
 
   -- "4, 5, 4; 15 ..; 16 ..; 17 .."
   abbrev pub atInstruction : Answer Decoding → (a : ℕ) → List Question
-  atInstruction d a = outsideRom d a ∷ undefinedOpcode d a ∷ misplacedReturn d a ∷ successorKind d a ∷ needTooSmall d a ∷ []
+  atInstruction d a =
+      outsideRom d a ∷ undefinedOpcode d a ∷ misplacedReturn d a ∷ successorKind d a ∷ needTooSmall d a ∷ []
 
   -- "at each: 14 malformed mark; .."
   abbrev pub atMark : Answer Decoding → (a : ℕ) → List Question
@@ -120,7 +125,8 @@ module _ (certificate : List ℕ) where
   -- "Then 18 vector kind, FFEh first, then sources upward"
   abbrev pub atVectors : (wired : ℕ) → List Question
   atVectors wired =
-      startUp ∷ atSource wired Nmi ∷ atSource wired First ∷ atSource wired Second ∷ atSource wired Third ∷ atSource wired Fourth ∷ []
+      startUp ∷ atSource wired Nmi ∷ atSource wired First ∷ atSource wired Second ∷ atSource wired Third ∷
+      atSource wired Fourth ∷ []
 
   -- "13 (certificate not the image's length)"
   abbrev pub certificateLength : (image : List ℕ) → Question
@@ -142,7 +148,8 @@ unknownSource wired = asks (plain 11) (namesOnlySources wired ≡ false)
 abbrev pub questions : (image certificate : List ℕ) → (wired : ℕ) → List Question
 questions image certificate wired =
     imageLength image ∷ certificateLength certificate image ∷ unknownSource wired ∷
-    ((atMarks certificate image (length certificate) (lowest certificate) ++ atVectors certificate wired) ++ (tooManyLevels certificate wired ∷ []))
+    ((atMarks certificate image (length certificate) (lowest certificate) ++ atVectors certificate wired)
+    ++ (tooManyLevels certificate wired ∷ []))
 
 -- "Accepted means that nothing under Check below applies; the number is Levels."; refused: the first that applies
 abbrev pub Described : List Question → (levels : ℕ) → Verdict → Type 0
@@ -150,6 +157,7 @@ Described qs levels (done number) = None qs × (number ≡ levels)
 Described qs levels (refused r) = FirstApplies qs r
 
 -- every refusal that the check gives applies, and none before it in the order does; it accepts where none applies
+-- proved by answers-first, proofs/Refusals
 abbrev pub AnswersFirst : Type 0
 AnswersFirst =
     (image certificate : List ℕ) (wired : ℕ)

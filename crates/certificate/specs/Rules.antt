@@ -40,7 +40,8 @@ pub record EndsStartUp (certificate : List ℕ) (a next : ℕ) : Type 0 where
 abbrev pub FlowRule : (certificate : List ℕ) → (a : ℕ) → Flow → (next : ℕ) → Type 0
 FlowRule certificate a flow.Next next = Continues certificate a next
 FlowRule certificate a (flow.Jump target) next = Continues certificate a target
-FlowRule certificate a (flow.Branch condition target) next = Continues certificate a target × Continues certificate a next
+FlowRule certificate a (flow.Branch condition target) next =
+    Continues certificate a target × Continues certificate a next
 FlowRule certificate a (flow.Call target) next = Calls certificate a target next
 FlowRule certificate a flow.Return next = kindAt certificate a ≡ 4
 FlowRule certificate a flow.ReturnFromInterrupt next = (kindAt certificate a ≡ 3) ⊎ EndsStartUp certificate a next

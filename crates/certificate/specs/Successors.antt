@@ -3,12 +3,14 @@ use Prim.Native.Nat.{ℕ, _+_}
 use mathlib.Core.Bool.{Bool, true, cond, _&&_, _||_}
 use mathlib.Core.List.{List, [], _∷_}
 use lib.Dec.{leb, eqb}
+use Rattle.isa.specs.Refusals.{located, unless}
 use Rattle.isa.specs.declared.Flow.{Flow}
 use Rattle.isa.specs.declared.Flow.the-variants as flow
-use Rattle.certificate.specs.declared.Successor.{Successor}
-use Rattle.certificate.specs.declared.Onward.{Onward}
-use Rattle.certificate.specs.declared.Onward.the-variants.{Nowhere, One, Two}
-use Rattle.certificate.specs.Marks.{kindAt, needAt}
+use Rattle.certificate.specs.declared.successors.Successor.{Successor}
+use Rattle.certificate.specs.declared.successors.Successors.{Successors}
+use Rattle.certificate.specs.declared.successors.Successors.the-variants.{None, One, Two}
+use Rattle.certificate.specs.Findings.{Found, passes, fault}
+use Rattle.certificate.specs.Marks.{needOf, kindAt, needAt}
 
 -- "RET stands only in kind 4, RETI only in 1 and 3"
 unfoldable pub placed : (kind : ℕ) → Flow → Bool
@@ -28,8 +30,9 @@ continuesAt a k = record { address = a; kind = k; levels = 0 }
 abbrev pub callTarget : (address : ℕ) → Successor
 callTarget a = record { address = a; kind = 4; levels = 1 }
 
--- "each address where the instruction may continue, both ways of a condition, has the same kind. For CALL that is the address plus 2,
--- and the target has kind 4.", "these have no successor, but RETI in kind 1 has the next address, of kind 2"
+-- "each address where the instruction may continue, both ways of a condition, has the same kind. For CALL that is the
+-- address plus 2, and the target has kind 4.", "these have no successor, but RETI in kind 1 has the next address, of
+-- kind 2"
 unfoldable pub successorsOf : (kind : ℕ) → Flow → (next : ℕ) → List Successor
 successorsOf kind flow.Next next = continuesAt next kind ∷ []
 successorsOf kind (flow.Jump target) next = continuesAt target kind ∷ []
@@ -40,8 +43,8 @@ successorsOf kind flow.ReturnFromInterrupt next = cond (eqb kind 1) (continuesAt
 successorsOf kind flow.Sleep next = continuesAt next kind ∷ []
 
 -- the program's successors as a list
-abbrev pub listed : Onward → List Successor
-listed Nowhere = []
+abbrev pub listed : Successors → List Successor
+listed None = []
 listed (One s) = s ∷ []
 listed (Two s t) = s ∷ t ∷ []
 
@@ -58,10 +61,20 @@ hasKind certificate s = eqb (kindAt certificate (s .address)) (s .kind)
 unfoldable pub allHaveKind : List ℕ → List Successor → Bool
 allHaveKind certificate successors = every (hasKind certificate) successors
 
--- a need is at least one's, with the levels that going there takes
+-- a need is at least that of a mark, with the levels that going there takes
+abbrev pub coversMark : (need mark levels : ℕ) → Bool
+coversMark need mark levels = leb (needOf mark + levels) need
+
+-- a need is at least that of one successor
 abbrev pub covers : List ℕ → (need : ℕ) → Successor → Bool
 covers certificate need s = leb (needAt certificate (s .address) + s .levels) need
 
 -- "The need is at least each successor's, and for CALL at least the target's plus 1."
 unfoldable pub coversAll : List ℕ → (need : ℕ) → List Successor → Bool
 coversAll certificate need successors = every (covers certificate need) successors
+
+-- "16 successor or CALL target outside ROM, unmarked or of wrong kind, malformed marks counting so; 17 need too small"
+unfoldable pub successorsFound : List ℕ → (a need : ℕ) → List Successor → Found
+successorsFound certificate a need successors =
+    unless (allHaveKind certificate successors) (fault (located 16 a))
+    (unless (coversAll certificate need successors) (fault (located 17 a)) passes)

@@ -2,18 +2,19 @@
 use crate::Checked;
 use crate::Finding;
 use crate::findings::and_then;
+use crate::levels::levels_of;
+use crate::marks::MOST_LEVELS;
 use crate::marks::kind_of;
 use crate::marks::need_of;
-use crate::successors::all_have_kind;
-use crate::successors::covers_all;
+use crate::successors::check_successors;
 use crate::successors::is_placed;
 use crate::successors::successors_of;
 use crate::vectors::check_vectors;
-use crate::vectors::levels_of;
 use isa::Continuation;
 use isa::Flow;
 use isa::Refusal;
 use isa::flow_at::flow_at;
+use isa::rom::PROGRAM_SPACE;
 use isa::rom::is_image_length;
 use isa::sources::names_only_sources;
 use isa::table::timings;
@@ -24,7 +25,9 @@ ghost use lib.ListN.{length};
 ghost use Rattle.isa.specs.Table.{Timings};
 ghost use Rattle.isa.specs.Rom.{isImage};
 ghost use Rattle.certificate.specs.Marks.{lowest};
-ghost use Rattle.certificate.specs.Check.{found, answered, flowFound, markFound, marksFound, rulesFound, verdict, checkOf};
+ghost use Rattle.certificate.specs.Findings.{found};
+ghost use Rattle.certificate.specs.Check.{flowFound, markFound, marksFound, rulesFound};
+ghost use Rattle.certificate.specs.Check.{answered, verdict, checkOf};
 ghost use Rattle.certificate.specs.Levels.{levelsOf};
 
 // 15, 16 and 17 at a marked address, with where its instruction continues.
@@ -35,14 +38,8 @@ fn check_flow(certificate: &[u8], address: u16, mark: u8, flow: Flow, next: u16)
     if !is_placed(kind, flow) {
         return Finding::Fault(Refusal::MisplacedReturn(address));
     }
-    let onward = successors_of(kind, flow, next);
-    if !all_have_kind(certificate, onward) {
-        return Finding::Fault(Refusal::SuccessorKind(address));
-    }
-    if !covers_all(certificate, need_of(mark), onward) {
-        return Finding::Fault(Refusal::NeedTooSmall(address));
-    }
-    Finding::Passes
+    let successors = successors_of(kind, flow, next);
+    check_successors(certificate, address, need_of(mark), successors)
 }
 
 // The mark at an address: nothing where it is 0, else 14, decoding's refusals, 15, 16 and 17.
@@ -71,11 +68,11 @@ fn check_mark(
 // The first fault among the marks, upward: one pass.
 fn check_marks(table: &[u8; 256], image: &[u8], certificate: &[u8]) -> Finding
     requires { ⌜ Timings (now table) × (isImage (length (now image)) ≡ true) × (length (now certificate) ≤ 4096) ⌝ }
-    ensures { λ r. ⌜ found r ≡ marksFound (now (image .entry)) (now (certificate .entry)) (lowest (now (certificate .entry))) (now (certificate .entry)) ⌝ }
+    ensures { λ r. ⌜ found r ≡ marksFound (now (image .entry)) (now (certificate .entry))
+        (lowest (now (certificate .entry))) (now (certificate .entry)) ⌝ }
 {
-    let start = 4096 - certificate.len();
-    let mut i = 0;
-    while i < certificate.len() {
+    let start = PROGRAM_SPACE - certificate.len();
+    for i in 0..certificate.len() {
         let finding = check_mark(
             table,
             image,
@@ -86,7 +83,6 @@ fn check_marks(table: &[u8; 256], image: &[u8], certificate: &[u8]) -> Finding
         if let Finding::Fault(_) = finding {
             return finding;
         }
-        i += 1;
     }
     Finding::Passes
 }
@@ -94,7 +90,8 @@ fn check_marks(table: &[u8; 256], image: &[u8], certificate: &[u8]) -> Finding
 // The rules of a certificate of the right length: the marks upward, then the vectors, then 19.
 fn check_rules(image: &[u8], certificate: &[u8], wired: u8) -> Checked
     requires { ⌜ (isImage (length (now image)) ≡ true) × (length (now certificate) ≤ 4096) ⌝ }
-    ensures { λ r. ⌜ answered r ≡ verdict (levelsOf (now (certificate .entry)) wired) (rulesFound (now (image .entry)) (now (certificate .entry)) wired) ⌝ }
+    ensures { λ r. ⌜ answered r ≡ verdict (levelsOf (now (certificate .entry)) wired)
+        (rulesFound (now (image .entry)) (now (certificate .entry)) wired) ⌝ }
 {
     // A constant table is built where it is named: made once here, and lent to every mark.
     let table = timings();
@@ -103,7 +100,7 @@ fn check_rules(image: &[u8], certificate: &[u8], wired: u8) -> Checked
         return Checked::Refused(refusal);
     }
     let levels = levels_of(certificate, wired);
-    if 6 < levels {
+    if MOST_LEVELS < levels {
         return Checked::Refused(Refusal::TooManyLevels);
     }
     Checked::Accepted(levels)

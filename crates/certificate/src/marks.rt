@@ -1,6 +1,5 @@
 // Marks: the kind in the high digit, the need in the low one.
-use isa::rom::RomByte;
-use isa::rom::rom_byte;
+use isa::rom::PROGRAM_SPACE;
 ghost use mathlib.Core.Path.{_≡_};
 ghost use Rattle.certificate.specs.Marks.{markAt, kindOf, needOf, kindAt, needAt};
 
@@ -13,14 +12,19 @@ pub const SERVICE: u8 = 3;
 
 pub const SUBROUTINE: u8 = 4;
 
-// The mark of a program address, 0 outside ROM.
-fn mark_at(certificate: &[u8], address: u16) -> u8
+// The levels of the stack: no need, and no certificate's levels, may be more.
+pub const MOST_LEVELS: u8 = 6;
+
+// The mark of a program address, 0 outside ROM. The last mark is that of FFFh.
+pub fn mark_at(certificate: &[u8], address: u16) -> u8
     ensures { λ r. ⌜ r ≡ markAt (now (certificate .entry)) address ⌝ }
 {
-    let RomByte::Byte(mark) = rom_byte(certificate, address) else {
+    let at = address as usize;
+    let end = at + certificate.len();
+    if PROGRAM_SPACE <= at || end < PROGRAM_SPACE {
         return 0;
-    };
-    mark
+    }
+    certificate[end - PROGRAM_SPACE]
 }
 
 // The kind of a mark, 0 where there is no mark or it is malformed.
@@ -28,10 +32,7 @@ pub fn kind_of(mark: u8) -> u8
     ensures { λ r. ⌜ r ≡ kindOf mark ⌝ }
 {
     let kind = mark / 16;
-    if SUBROUTINE < kind {
-        return 0;
-    }
-    if 6 < mark % 16 {
+    if SUBROUTINE < kind || MOST_LEVELS < mark % 16 {
         return 0;
     }
     kind

@@ -13,7 +13,8 @@ use Rattle.isa.specs.Decode.{decodeAt}
 use Rattle.machine.specs.declared.Machine.{Machine}
 use Rattle.machine.specs.Step.{stepOf}
 use Rattle.certificate.specs.Levels.{levelsOf}
-use Rattle.certificate.specs.Check.{fault, verdict, checkOf}
+use Rattle.certificate.specs.Findings.{fault}
+use Rattle.certificate.specs.Check.{verdict, checkOf}
 
 step-by : (image : List ℕ) (m : Machine) (n : ℕ) (b : Bool) → ltb n 256 ≡ b → stepOf image m (cond b n 255) ≡ stepOf image m n
 unfolding stepOf

@@ -9,7 +9,7 @@ use lib.ListN.{length}
 use borrow.Author.Tests.{lt-ltb}
 use Rattle.isa.specs.Decode as decode
 use Rattle.isa.specs.Rom.{isImage, romAt, operandAt}
-use Rattle.isa.specs.Decode.{Decoding, withForm, withSecond, withFirst, withOpcode, decodeAt}
+use Rattle.isa.specs.Decode.{Decoding, withForm, withSecond, withFirst, withOpcode, decodeOf, decodeAt}
 use Rattle.isa.specs.Table.{bytesOf}
 use Rattle.isa.specs.Map.{entryOf, formOf}
 use Rattle.isa.specs.Refusals.{Numbered, located, Answer, done, refused}
@@ -49,6 +49,6 @@ unfolding decodeAt
 at-address image a e h = rw (e, lt-ltb a 4096 h) (at-opcode image a (romAt image a))
 
 -- where length and address are tested already
-pub in-range : (image : List ℕ) (a : ℕ) → isImage (length image) ≡ true → a < 4096 → withOpcode image a (romAt image a) ≡ decodeAt image a
+pub in-range : (image : List ℕ) (a : ℕ) → isImage (length image) ≡ true → a < 4096 → decodeOf image a ≡ decodeAt image a
 unfolding decodeAt
 in-range image a e h = rw (e, lt-ltb a 4096 h)

@@ -25,13 +25,16 @@ counts =
 zero-listed :
     (f : ℕ → ℕ) → T (all (λ k. cond (member k undefinedOpcodes) (eqb (f k) 0) true) 256) → (k : ℕ) → k < 256 →
     member k undefinedOpcodes ≡ true → f k ≡ 0
-zero-listed f t k h e = eqb→eq (f k) 0 (rw e at (at (λ k. cond (member k undefinedOpcodes) (eqb (f k) 0) true) 256 t k h))
+zero-listed f t k h e =
+    eqb→eq (f k) 0 (rw e at (at (λ k. cond (member k undefinedOpcodes) (eqb (f k) 0) true) 256 t k h))
 
 pub undefined-listed : UndefinedListed
 unfolding entryOf bytesOf cyclesOf formOf formAs
 undefined-listed =
     record {
-      exactly = λ k f s h. eqB→eq (isUndefined (formOf k f s)) (member k undefinedOpcodes) (at (λ j. eqB (isUndefined (formOf j f s)) (member j undefinedOpcodes)) 256 tt k h);
+      exactly =
+          λ k f s h. eqB→eq (isUndefined (formOf k f s)) (member k undefinedOpcodes)
+          (at (λ j. eqB (isUndefined (formOf j f s)) (member j undefinedOpcodes)) 256 tt k h);
       no-length = zero-listed (λ k. bytesOf (entryOf k)) tt;
       no-cycles = zero-listed (λ k. cyclesOf (entryOf k)) tt;
     }

@@ -34,11 +34,13 @@ undefined-form (Is i) e = cc
 undefined-form Undefined e = refl
 
 undefined-opcode :
-    (image : List ℕ) (a k : ℕ) → Opcode image a k → member k undefinedOpcodes ≡ true → decodeAt image a ≡ refused (located 5 a)
+    (image : List ℕ) (a k : ℕ) → Opcode image a k → member k undefinedOpcodes ≡ true
+    → decodeAt image a ≡ refused (located 5 a)
 unfolding operandAt
 undefined-opcode image a k o m =
     let empty : bytesOf (entryOf k) ≡ 0 = undefined-listed .no-length k (o .byte) m in
-    let form : formOf k 0 0 ≡ Undefined = undefined-form (formOf k 0 0) (undefined-listed .exactly k 0 0 (o .byte) ∙ m) in
+    let form : formOf k 0 0 ≡ Undefined =
+    undefined-form (formOf k 0 0) (undefined-listed .exactly k 0 0 (o .byte) ∙ m) in
     from-opcode image a k o ∙ rw (empty, empty, form)
 
 -- an operand byte outside ROM
@@ -55,8 +57,12 @@ operand-outside :
 unfolding operandAt
 operand-outside image a k o =
     let n : ℕ = bytesOf (entryOf k) in
-    pick (λ j. j < n → romAt image (forwardOf a j) ≡ Outside → withFirst image a k (operandAt image a 1 n) ≡ refused (located 4 a)) 3 (
-      λ h e. (let here : forwardOf a 0 ≡ a = omega (arith, o .below) in let z : Outside ≡ Byte k = sym (rw here at e) ∙ o .here in cc),
+    pick
+    (λ j. j < n → romAt image (forwardOf a j) ≡ Outside
+    → withFirst image a k (operandAt image a 1 n) ≡ refused (located 4 a))
+    3 (
+      λ h e. (let here : forwardOf a 0 ≡ a = omega (arith, o .below) in
+          let z : Outside ≡ Byte k = sym (rw here at e) ∙ o .here in cc),
       (
         λ h e. rw (lt-ltb 1 n h, e),
         (λ h e. second-outside image a k (operandAt image a 1 n) (rw (lt-ltb 2 n h, e)), tt),
@@ -67,7 +73,8 @@ operand-outside image a k o =
 module _
     (image : List ℕ) (a k : ℕ) (o : Opcode image a k)
     (defined : member k undefinedOpcodes ≡ false) (whole : Cut image a k → ⊥) (r : Numbered) where
-  in-rom : (j : ℕ) (b : Bool) → ltb j (bytesOf (entryOf k)) ≡ b → operandAt image a j (bytesOf (entryOf k)) ≡ Outside → ⊥
+  in-rom : (j : ℕ) (b : Bool) → ltb j (bytesOf (entryOf k)) ≡ b → operandAt image a j (bytesOf (entryOf k)) ≡ Outside
+      → ⊥
   unfolding operandAt
   in-rom j true t e =
       whole (record { offset = j; inside = ltb-true j (bytesOf (entryOf k)) t; outside = rw t at e })
@@ -79,7 +86,8 @@ module _
       let z : true ≡ false = (rw e at (undefined-listed .exactly k f s (o .byte))) ∙ defined in
       let y : _≡_ {A = ℕ} 0 1 = cc in omega arith
 
-  not-second : (f : ℕ) (x : RomByte) → operandAt image a 2 (bytesOf (entryOf k)) ≡ x → withSecond a k f x ≡ refused r → ⊥
+  not-second : (f : ℕ) (x : RomByte) → operandAt image a 2 (bytesOf (entryOf k)) ≡ x → withSecond a k f x ≡ refused r
+      → ⊥
   not-second f (Byte s) e q = not-form f s (formOf k f s) refl q
   not-second f Outside e q = in-rom 2 (ltb 2 (bytesOf (entryOf k))) refl e
 
@@ -100,6 +108,7 @@ decode-refusals =
       undefined-opcode = undefined-opcode;
       operand-outside = λ image a k o cut.
           (let few : bytesOf (entryOf k) < 4 = bytes-few k (o .byte) in
-          from-opcode image a k o ∙ operand-outside image a k o (cut .offset) (omega (arith, cut .inside)) (cut .inside) (cut .outside));
+          from-opcode image a k o ∙ operand-outside image a k o (cut .offset) (omega (arith, cut .inside)) (cut .inside)
+          (cut .outside));
       none-else = none-else;
     }

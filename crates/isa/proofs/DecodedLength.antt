@@ -4,7 +4,9 @@ use mathlib.Core.Path.{_≡_, refl, sym, _∙_}
 use Rattle.isa.specs.declared.Form.{Form}
 use Rattle.isa.specs.declared.Form.the-variants.{Is, Undefined}
 use Rattle.isa.specs.Table.{bytesOf}
-use Rattle.isa.specs.Map.{Addressing, rr, short, [X], [Y], Entry, JRNZ, JRNC, JRZ, JRC, CALL, JP, JRR, JRS, RES, SET, LD-A, LD-to, INC, DEC, ADD, SUB, AND, CP, LDI-A, LDI-rr, ADDI, SUBI, ANDI, CPI, COM, RLC, RET, RETI, STOP, WAIT, #, entryOf, formAs, formOf}
+use Rattle.isa.specs.Map.{Addressing, rr, short, [X], [Y], Entry, JRNZ, JRNC, JRZ, JRC, CALL, JP, JRR, JRS, RES}
+use Rattle.isa.specs.Map.{SET, LD-A, LD-to, INC, DEC, ADD, SUB, AND, CP, LDI-A, LDI-rr, ADDI, SUBI, ANDI, CPI}
+use Rattle.isa.specs.Map.{COM, RLC, RET, RETI, STOP, WAIT, #, entryOf, formAs, formOf}
 use Rattle.isa.specs.Lengths.{lengthOf, DecodedLength}
 use Rattle.isa.proofs.Reading.{Read, reading}
 

@@ -1,11 +1,14 @@
--- Where a form continues, by the map's entry: an entry of no bytes is undefined, and every other one has an instruction.
+-- Where a form continues, by the map's entry: an entry of no bytes is undefined, and every other one has an
+-- instruction.
 use Prim.Native.Nat.{ℕ}
 use mathlib.Core.Path.{_≡_, refl}
 use native.Mathlib.Omega.{arith}
 use Rattle.isa.specs.declared.Form.the-variants.{Is, Undefined}
 use Rattle.isa.specs.Displacement.{forwardOf}
 use Rattle.isa.specs.Table.{bytesOf}
-use Rattle.isa.specs.Map.{Addressing, rr, short, [X], [Y], Entry, JRNZ, JRNC, JRZ, JRC, CALL, JP, JRR, JRS, RES, SET, LD-A, LD-to, INC, DEC, ADD, SUB, AND, CP, LDI-A, LDI-rr, ADDI, SUBI, ANDI, CPI, COM, RLC, RET, RETI, STOP, WAIT, #, entryOf, formAs, formOf}
+use Rattle.isa.specs.Map.{Addressing, rr, short, [X], [Y], Entry, JRNZ, JRNC, JRZ, JRC, CALL, JP, JRR, JRS, RES}
+use Rattle.isa.specs.Map.{SET, LD-A, LD-to, INC, DEC, ADD, SUB, AND, CP, LDI-A, LDI-rr, ADDI, SUBI, ANDI, CPI}
+use Rattle.isa.specs.Map.{COM, RLC, RET, RETI, STOP, WAIT, #, entryOf, formAs, formOf}
 use Rattle.isa.specs.Refusals.{done}
 use Rattle.isa.specs.Decode.{withForm}
 use Rattle.isa.specs.FlowAt.{goes, continuationFrom, flowAs}
@@ -61,7 +64,9 @@ no-bytes STOP k f s h = absurd (one h)
 no-bytes WAIT k f s h = absurd (one h)
 no-bytes # k f s h = refl
 
-some-bytes : (e : Entry) (a k f s : ℕ) → (bytesOf e ≡ 0 → ⊥) → continuationFrom a (withForm a k (formAs e k f s)) ≡ done (goes (flowAs (formAs e k f s) a) (forwardOf a (bytesOf (entryOf k))))
+some-bytes : (e : Entry) (a k f s : ℕ) → (bytesOf e ≡ 0 → ⊥)
+    → continuationFrom a (withForm a k (formAs e k f s))
+    ≡ done (goes (flowAs (formAs e k f s) a) (forwardOf a (bytesOf (entryOf k))))
 unfolding bytesOf formAs
 some-bytes JRNZ a k f s h = refl
 some-bytes JRNC a k f s h = refl
@@ -101,6 +106,8 @@ unfolding formOf
 undefined k f s h = no-bytes (entryOf k) k f s h
 
 -- any other continues as its form does
-pub continues : (a k f s : ℕ) → (bytesOf (entryOf k) ≡ 0 → ⊥) → continuationFrom a (withForm a k (formOf k f s)) ≡ done (goes (flowAs (formOf k f s) a) (forwardOf a (bytesOf (entryOf k))))
+pub continues : (a k f s : ℕ) → (bytesOf (entryOf k) ≡ 0 → ⊥)
+    → continuationFrom a (withForm a k (formOf k f s))
+    ≡ done (goes (flowAs (formOf k f s) a) (forwardOf a (bytesOf (entryOf k))))
 unfolding formOf
 continues a k f s h = some-bytes (entryOf k) a k f s h

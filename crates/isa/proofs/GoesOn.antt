@@ -1,4 +1,5 @@
--- The instructions that all go on at the next address, by the numbers of their cases: for a match whose last arm takes them together.
+-- The instructions that all go on at the next address, by the numbers of their cases: for a match whose last arm takes
+-- them together.
 use Prim.Native.Nat.{ℕ}
 use mathlib.Core.Path.{_≡_, refl}
 use mathlib.Core.List.{List, [], _∷_}

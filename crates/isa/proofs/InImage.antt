@@ -44,14 +44,17 @@ written-decodes i n image size a h held =
     let here : (a + 0) % 4096 ≡ a = omega arith in
     let opcode : romAt image a ≡ Byte (getD bs 0 0) = rw here at (held 0 (some (encodeOf i) n)) in
     let count : bytesOf (entryOf (getD bs 0 0)) ≡ length bs = decodes-back i n .1 in
-    let first : operandAt image a 1 (length bs) ≡ Byte (getD bs 1 0) = operand-held image a bs held 1 (ltb 1 (length bs)) refl in
-    let second : operandAt image a 2 (length bs) ≡ Byte (getD bs 2 0) = operand-held image a bs held 2 (ltb 2 (length bs)) refl in
+    let first : operandAt image a 1 (length bs) ≡ Byte (getD bs 1 0) =
+    operand-held image a bs held 1 (ltb 1 (length bs)) refl in
+    let second : operandAt image a 2 (length bs) ≡ Byte (getD bs 2 0) =
+    operand-held image a bs held 2 (ltb 2 (length bs)) refl in
     rw (size, lt-ltb a 4096 h, opcode, count, first, count, second, decodes-back i n .0, count)
 
 -- three bytes that were read stand in the image, as far as the instruction goes
 held-by :
     (image : List ℕ) (a k f s n : ℕ) → a < 4096 → romAt image a ≡ Byte k → operandAt image a 1 n ≡ Byte f →
-    operandAt image a 2 n ≡ Byte s → (j : ℕ) → j < 3 → j < n → romAt image (forwardOf a j) ≡ Byte (getD (k ∷ f ∷ s ∷ []) j 0)
+    operandAt image a 2 n ≡ Byte s → (j : ℕ) → j < 3 → j < n → romAt image (forwardOf a j) ≡ Byte
+    (getD (k ∷ f ∷ s ∷ []) j 0)
 unfolding operandAt
 held-by image a k f s n h e0 e1 e2 =
     pick (λ j. j < n → romAt image (forwardOf a j) ≡ Byte (getD (k ∷ f ∷ s ∷ []) j 0)) 3 (
@@ -82,7 +85,8 @@ decoded-writes image all a i n c q =
     let hf : r .f < 256 = operand-byte image all a 1 size (r .f) (r .first) in
     let hs : r .s < 256 = operand-byte image all a 2 size (r .s) (r .second) in
     let few : size < 4 = bytes-few (r .k) hk in
-    let are : bytes (encodeOf i) ≡ take size (r .k ∷ r .f ∷ r .s ∷ []) = rw (r .form) at (writes-back (r .k) (r .f) (r .s) hk hf hs) in (
+    let are : bytes (encodeOf i) ≡ take size (r .k ∷ r .f ∷ r .s ∷ []) =
+    rw (r .form) at (writes-back (r .k) (r .f) (r .s) hk hf hs) in (
       ap length are ∙ length-take size (r .k ∷ r .f ∷ r .s ∷ []) ∙ omega arith,
       rw are (holds-taken image a (r .k) (r .f) (r .s) size (r .below) (r .opcode) (r .first) (r .second)),
     )

@@ -34,7 +34,8 @@ pub record Read (image : List ℕ) (a : ℕ) (i : Instruction) (n : ℕ) : Type 
 
 -- a test before a refusal has passed where the answer is an instruction
 passed :
-    (b : Bool) (x : Answer Decoding) (r : Numbered) (i : Instruction) (n c : ℕ) → cond b x (refused r) ≡ done (instruction i n c) →
+    (b : Bool) (x : Answer Decoding) (r : Numbered) (i : Instruction) (n c : ℕ)
+    → cond b x (refused r) ≡ done (instruction i n c) →
     (b ≡ true) × (x ≡ done (instruction i n c))
 passed true x r i n c q = (refl, q)
 passed false x r i n c q = let z : _≡_ {A = ℕ} 0 1 = cc in absurd (omega arith)
@@ -42,7 +43,8 @@ passed false x r i n c q = let z : _≡_ {A = ℕ} 0 1 = cc in absurd (omega ari
 module _ (image : List ℕ) (a : ℕ) (below : a < 4096) (i : Instruction) (n c : ℕ) where
   from-form :
       (k f s : ℕ) → romAt image a ≡ Byte k → operandAt image a 1 (bytesOf (entryOf k)) ≡ Byte f →
-      operandAt image a 2 (bytesOf (entryOf k)) ≡ Byte s → (x : Form) → formOf k f s ≡ x → withForm a k x ≡ done (instruction i n c) →
+      operandAt image a 2 (bytesOf (entryOf k)) ≡ Byte s → (x : Form) → formOf k f s ≡ x → withForm a k x ≡ done
+      (instruction i n c) →
       Read image a i n
   from-form k f s e0 e1 e2 Undefined e q = let z : _≡_ {A = ℕ} 0 1 = cc in absurd (omega arith)
   from-form k f s e0 e1 e2 (Is j) e q =
@@ -74,10 +76,12 @@ module _ (image : List ℕ) (a : ℕ) (below : a < 4096) (i : Instruction) (n c 
   from-opcode (Byte k) e0 q = from-first k e0 (operandAt image a 1 (bytesOf (entryOf k))) refl q
   from-opcode Outside e0 q = let z : _≡_ {A = ℕ} 0 1 = cc in absurd (omega arith)
 
-pub reading : (image : List ℕ) (a : ℕ) (i : Instruction) (n c : ℕ) → decodeAt image a ≡ done (instruction i n c) → Read image a i n
+pub reading : (image : List ℕ) (a : ℕ) (i : Instruction) (n c : ℕ) → decodeAt image a ≡ done (instruction i n c)
+    → Read image a i n
 unfolding decodeAt
 reading image a i n c q =
-    let sized : (isImage (length image) ≡ true) × (cond (ltb a 4096) (withOpcode image a (romAt image a)) (refused (plain 3)) ≡ done (instruction i n c)) =
+    let sized : (isImage (length image) ≡ true)
+    × (cond (ltb a 4096) (withOpcode image a (romAt image a)) (refused (plain 3)) ≡ done (instruction i n c)) =
     passed (isImage (length image)) _ (plain 1) i n c q in
     let ranged : (ltb a 4096 ≡ true) × (withOpcode image a (romAt image a) ≡ done (instruction i n c)) =
     passed (ltb a 4096) _ (plain 3) i n c (sized .1) in
@@ -101,10 +105,12 @@ unfolding romAt
 rom-byte image all a =
     let at : ℕ = a + length image - 4096 in
     chosen-byte (ltb a 4096) _ Outside
-    (chosen-byte (leb 4096 (a + length image)) (Byte (getD image at 0)) Outside (λ k. same-byte (getD image at 0) k (all at)) no-byte)
+    (chosen-byte (leb 4096 (a + length image)) (Byte (getD image at 0)) Outside
+    (λ k. same-byte (getD image at 0) k (all at)) no-byte)
     no-byte
 
 pub operand-byte : (image : List ℕ) → Bytes image → (a j n k : ℕ) → operandAt image a j n ≡ Byte k → k < 256
 unfolding operandAt
 operand-byte image all a j n =
-    chosen-byte (ltb j n) (romAt image (forwardOf a j)) (Byte 0) (rom-byte image all (forwardOf a j)) (λ k. same-byte 0 k (omega arith))
+    chosen-byte (ltb j n) (romAt image (forwardOf a j)) (Byte 0) (rom-byte image all (forwardOf a j))
+    (λ k. same-byte 0 k (omega arith))

@@ -22,7 +22,8 @@ use Rattle.isa.specs.Table.{bytesOf}
 use Rattle.isa.specs.Map.{formOf, formAs, entryOf}
 use Rattle.isa.specs.Rom.{isImage, romAt}
 use Rattle.isa.specs.Write.{outcome}
-use Rattle.isa.specs.Encode.{encodeOf, bytes, inField, withByte, withBytes, shortJump, extendedJump, withBit, bitJump, bitDirect, onData, onShort}
+use Rattle.isa.specs.Encode.{encodeOf, bytes, inField, withByte, withBytes, shortJump, extendedJump, withBit}
+use Rattle.isa.specs.Encode.{bitJump, bitDirect, onData, onShort}
 use Rattle.isa.specs.Counts.{isUndefined}
 use Rattle.isa.specs.Cases.{placed}
 use Rattle.isa.specs.RoundTrip.{Bytes, Holds, Undecoded, RefusedExactly}
@@ -90,17 +91,20 @@ with-bit base bit h g = omega arith
 bit-jump : (base bit address : ℕ) (d : ℤ) → base < 32 → Bytes (bytes (bitJump base bit address d))
 bit-jump base bit address d h =
     chosen-bytes (ltb bit 8 && inField 8 d) (withBytes (withBit base bit) address (modulo 256 d))
-    (λ t. with-bytes (withBit base bit) address (modulo 256 d) (with-bit base bit h (ltb-true bit 8 (and-left (ltb bit 8) (inField 8 d) t))))
+    (λ t. with-bytes (withBit base bit) address (modulo 256 d)
+    (with-bit base bit h (ltb-true bit 8 (and-left (ltb bit 8) (inField 8 d) t))))
 
 bit-direct : (base bit address : ℕ) → base < 32 → Bytes (bytes (bitDirect base bit address))
 bit-direct base bit address h =
     chosen-bytes (ltb bit 8) (withByte (withBit base bit) address)
     (λ t. with-byte (withBit base bit) address (with-bit base bit h (ltb-true bit 8 t)))
 
-on-short : (short x y rr : ℕ) → short < 64 → x < 256 → y < 256 → rr < 256 → (o : Operand) → Bytes (bytes (onShort short x y rr o))
+on-short : (short x y rr : ℕ) → short < 64 → x < 256 → y < 256 → rr < 256 → (o : Operand)
+    → Bytes (bytes (onShort short x y rr o))
 on-short short x y rr hs hx hy hr (Direct a) = with-byte rr a hr
 on-short short x y rr hs hx hy hr (Short r) =
-    chosen-bytes (ltb r 4) (One (r * 64 + short)) (λ t. let below : r < 4 = ltb-true r 4 t in one-byte (r * 64 + short) (omega arith))
+    chosen-bytes (ltb r 4) (One (r * 64 + short)) (λ t. let below : r < 4 =
+    ltb-true r 4 t in one-byte (r * 64 + short) (omega arith))
 on-short short x y rr hs hx hy hr ThroughX = one-byte x hx
 on-short short x y rr hs hx hy hr ThroughY = one-byte y hy
 
@@ -171,7 +175,8 @@ placed-holds : (bs : List ℕ) → length bs ≤ 3 → Holds (placed 0 bs) 0 bs
 placed-holds bs h j m =
     let here : forwardOf 0 j ≡ j = omega arith in
     rw here
-    (rom-of-4K (placed 0 bs) (placed-length bs h) j (omega arith) ∙ ap Byte (List·getD-append bs (replicate (4096 - 0 - length bs) 0) 0 j m))
+    (rom-of-4K (placed 0 bs) (placed-length bs h) j (omega arith)
+    ∙ ap Byte (List·getD-append bs (replicate (4096 - 0 - length bs) 0) 0 j m))
 
 -- an instruction that is not refused stands in that image
 beyond-or-not : (e : Encoded) → (e ≡ Unencodable) ⊎ (e ≡ Unencodable → ⊥)

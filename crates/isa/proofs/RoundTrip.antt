@@ -21,7 +21,8 @@ use Rattle.isa.specs.declared.Encoded.the-variants.{One, Two, Three, Une
 use Rattle.isa.specs.Displacement.{modulo, shortDisplacement, longDisplacement, signed}
 use Rattle.isa.specs.Table.{bytesOf}
 use Rattle.isa.specs.Map.{formOf, formAs, entryOf, extended}
-use Rattle.isa.specs.Encode.{encodeOf, bytes, inField, withByte, withBytes, shortJump, extendedJump, withBit, bitJump, bitDirect, onData, onShort}
+use Rattle.isa.specs.Encode.{encodeOf, bytes, inField, withByte, withBytes, shortJump, extendedJump, withBit}
+use Rattle.isa.specs.Encode.{bitJump, bitDirect, onData, onShort}
 use Rattle.isa.proofs.Column.{Each, pick, pick8, pick16, rows}
 use Rattle.isa.proofs.Finite.{at, atSigned, eqZ, eqZ→eq, eqB, eqB→eq, sameN}
 
@@ -52,8 +53,12 @@ and-right false b e = let z : _≡_ {A = Bool} false true = e in cc
 
 -- a displacement of a field of five bits, and of eight, is what its field reads as
 short-back : (d : ℤ) → inField 5 d ≡ true → signed 5 (modulo 32 d) ≡ d
-short-back (pos n) h = eqZ→eq (signed 5 (modulo 32 (pos n))) (pos n) (at (λ k. eqZ (signed 5 (modulo 32 (pos k))) (pos k)) 16 tt n (ltb-true n 16 h))
-short-back (negsuc n) h = eqZ→eq (signed 5 (modulo 32 (negsuc n))) (negsuc n) (at (λ k. eqZ (signed 5 (modulo 32 (negsuc k))) (negsuc k)) 16 tt n (ltb-true n 16 h))
+short-back (pos n) h =
+    eqZ→eq (signed 5 (modulo 32 (pos n))) (pos n)
+    (at (λ k. eqZ (signed 5 (modulo 32 (pos k))) (pos k)) 16 tt n (ltb-true n 16 h))
+short-back (negsuc n) h =
+    eqZ→eq (signed 5 (modulo 32 (negsuc n))) (negsuc n)
+    (at (λ k. eqZ (signed 5 (modulo 32 (negsuc k))) (negsuc k)) 16 tt n (ltb-true n 16 h))
 
 long-back : (d : ℤ) → inField 8 d ≡ true → signed 8 (modulo 256 d) ≡ d
 long-back d h =
@@ -84,7 +89,8 @@ short-jump mk base b column d =
 
 -- CALL or JP
 extended-jump :
-    (mk : ℕ → Instruction) (base : ℕ) → base < 16 → ((k f : ℕ) → k % 16 ≡ base → Makes k f 0 (mk (extended k f)) 2) → (t : ℕ) →
+    (mk : ℕ → Instruction) (base : ℕ) → base < 16 → ((k f : ℕ) → k % 16 ≡ base → Makes k f 0 (mk (extended k f)) 2)
+    → (t : ℕ) →
     Back (extendedJump base t) (mk t)
 extended-jump mk base b column t =
     chosen (ltb t 4096) (Two (t % 16 * 16 + base) (t / 16)) (mk t)
@@ -116,7 +122,8 @@ bit-jump mk base column bit address d =
 
 -- RES or SET
 bit-direct :
-    (mk : ℕ → ℕ → Instruction) (base : ℕ) → ((bit : ℕ) → bit < 8 → (f : ℕ) → Makes (withBit base bit) f 0 (mk bit f) 2) →
+    (mk : ℕ → ℕ → Instruction) (base : ℕ)
+    → ((bit : ℕ) → bit < 8 → (f : ℕ) → Makes (withBit base bit) f 0 (mk bit f) 2) →
     (bit address : ℕ) → Back (bitDirect base bit address) (mk bit address)
 bit-direct mk base column bit address =
     chosen (ltb bit 8) (withByte (withBit base bit) address) (mk bit address)
@@ -125,16 +132,19 @@ bit-direct mk base column bit address =
 -- an instruction on a data operand, from each kind of operand
 with-short :
     (mk : Operand → Instruction) (short x y rr : ℕ) → ((a : ℕ) → Makes rr a 0 (mk (Direct a)) 2) →
-    Each (λ r. Makes (r * 64 + short) 0 0 (mk (Short r)) 1) 4 → Makes x 0 0 (mk ThroughX) 1 → Makes y 0 0 (mk ThroughY) 1 →
+    Each (λ r. Makes (r * 64 + short) 0 0 (mk (Short r)) 1) 4 → Makes x 0 0 (mk ThroughX) 1 → Makes y 0 0 (mk ThroughY)
+    1 →
     (o : Operand) → Back (onShort short x y rr o) (mk o)
 with-short mk short x y rr d s bx by (Direct a) n = byte (λ a. mk (Direct a)) rr d a n
 with-short mk short x y rr d s bx by (Short r) n =
-    chosen (ltb r 4) (One (r * 64 + short)) (mk (Short r)) (λ h _. pick (λ r. Makes (r * 64 + short) 0 0 (mk (Short r)) 1) 4 s r (ltb-true r 4 h)) n
+    chosen (ltb r 4) (One (r * 64 + short)) (mk (Short r))
+    (λ h _. pick (λ r. Makes (r * 64 + short) 0 0 (mk (Short r)) 1) 4 s r (ltb-true r 4 h)) n
 with-short mk short x y rr d s bx by ThroughX n = bx
 with-short mk short x y rr d s bx by ThroughY n = by
 
 without-short :
-    (mk : Operand → Instruction) (x y rr : ℕ) → ((a : ℕ) → Makes rr a 0 (mk (Direct a)) 2) → Makes x 0 0 (mk ThroughX) 1 →
+    (mk : Operand → Instruction) (x y rr : ℕ) → ((a : ℕ) → Makes rr a 0 (mk (Direct a)) 2)
+    → Makes x 0 0 (mk ThroughX) 1 →
     Makes y 0 0 (mk ThroughY) 1 → (o : Operand) → Back (onData x y rr o) (mk o)
 without-short mk x y rr d bx by (Direct a) n = byte (λ a. mk (Direct a)) rr d a n
 without-short mk x y rr d bx by (Short r) n = absurd (n refl)
@@ -144,10 +154,14 @@ without-short mk x y rr d bx by ThroughY n = by
 -- the bytes of every instruction that is not refused decode to it
 pub decodes-back : (i : Instruction) → Back (encodeOf i) i
 unfolding encodeOf formOf formAs entryOf bytesOf
-decodes-back (I.Jrnz d) = short-jump (λ d. I.Jrnz d) 0x00 (omega arith) (λ k. ⊎-elim (λ e. (rw e, rw e)) (λ e. (rw e, rw e))) d
-decodes-back (I.Jrnc d) = short-jump (λ d. I.Jrnc d) 0x02 (omega arith) (λ k. ⊎-elim (λ e. (rw e, rw e)) (λ e. (rw e, rw e))) d
-decodes-back (I.Jrz d) = short-jump (λ d. I.Jrz d) 0x04 (omega arith) (λ k. ⊎-elim (λ e. (rw e, rw e)) (λ e. (rw e, rw e))) d
-decodes-back (I.Jrc d) = short-jump (λ d. I.Jrc d) 0x06 (omega arith) (λ k. ⊎-elim (λ e. (rw e, rw e)) (λ e. (rw e, rw e))) d
+decodes-back (I.Jrnz d) =
+    short-jump (λ d. I.Jrnz d) 0x00 (omega arith) (λ k. ⊎-elim (λ e. (rw e, rw e)) (λ e. (rw e, rw e))) d
+decodes-back (I.Jrnc d) =
+    short-jump (λ d. I.Jrnc d) 0x02 (omega arith) (λ k. ⊎-elim (λ e. (rw e, rw e)) (λ e. (rw e, rw e))) d
+decodes-back (I.Jrz d) =
+    short-jump (λ d. I.Jrz d) 0x04 (omega arith) (λ k. ⊎-elim (λ e. (rw e, rw e)) (λ e. (rw e, rw e))) d
+decodes-back (I.Jrc d) =
+    short-jump (λ d. I.Jrc d) 0x06 (omega arith) (λ k. ⊎-elim (λ e. (rw e, rw e)) (λ e. (rw e, rw e))) d
 decodes-back (I.Call t) = extended-jump (λ t. I.Call t) 0x01 (omega arith) (λ k f e. (rw e, rw e)) t
 decodes-back (I.Jp t) = extended-jump (λ t. I.Jp t) 0x09 (omega arith) (λ k f e. (rw e, rw e)) t
 decodes-back (I.Jrr b a d) =
@@ -170,10 +184,18 @@ decodes-back (I.Set b a) =
     (pick8 (λ b. (f : ℕ) → Makes (withBit 0x1B b) f 0 (I.Set b f) 2)
     (λ f. (refl, refl)) (λ f. (refl, refl)) (λ f. (refl, refl)) (λ f. (refl, refl))
     (λ f. (refl, refl)) (λ f. (refl, refl)) (λ f. (refl, refl)) (λ f. (refl, refl))) b a
-decodes-back (I.LoadA o) = with-short (λ o. I.LoadA o) 0x35 0x07 0x0F 0x1F (λ a. (refl, refl)) ((refl, refl), ((refl, refl), ((refl, refl), ((refl, refl), tt)))) (refl, refl) (refl, refl) o
-decodes-back (I.StoreA o) = with-short (λ o. I.StoreA o) 0x3D 0x87 0x8F 0x9F (λ a. (refl, refl)) ((refl, refl), ((refl, refl), ((refl, refl), ((refl, refl), tt)))) (refl, refl) (refl, refl) o
-decodes-back (I.Inc o) = with-short (λ o. I.Inc o) 0x15 0x67 0x6F 0x7F (λ a. (refl, refl)) ((refl, refl), ((refl, refl), ((refl, refl), ((refl, refl), tt)))) (refl, refl) (refl, refl) o
-decodes-back (I.Dec o) = with-short (λ o. I.Dec o) 0x1D 0xE7 0xEF 0xFF (λ a. (refl, refl)) ((refl, refl), ((refl, refl), ((refl, refl), ((refl, refl), tt)))) (refl, refl) (refl, refl) o
+decodes-back (I.LoadA o) =
+    with-short (λ o. I.LoadA o) 0x35 0x07 0x0F 0x1F (λ a. (refl, refl))
+    ((refl, refl), ((refl, refl), ((refl, refl), ((refl, refl), tt)))) (refl, refl) (refl, refl) o
+decodes-back (I.StoreA o) =
+    with-short (λ o. I.StoreA o) 0x3D 0x87 0x8F 0x9F (λ a. (refl, refl))
+    ((refl, refl), ((refl, refl), ((refl, refl), ((refl, refl), tt)))) (refl, refl) (refl, refl) o
+decodes-back (I.Inc o) =
+    with-short (λ o. I.Inc o) 0x15 0x67 0x6F 0x7F (λ a. (refl, refl))
+    ((refl, refl), ((refl, refl), ((refl, refl), ((refl, refl), tt)))) (refl, refl) (refl, refl) o
+decodes-back (I.Dec o) =
+    with-short (λ o. I.Dec o) 0x1D 0xE7 0xEF 0xFF (λ a. (refl, refl))
+    ((refl, refl), ((refl, refl), ((refl, refl), ((refl, refl), tt)))) (refl, refl) (refl, refl) o
 decodes-back (I.Add o) = without-short (λ o. I.Add o) 0x47 0x4F 0x5F (λ a. (refl, refl)) (refl, refl) (refl, refl) o
 decodes-back (I.Sub o) = without-short (λ o. I.Sub o) 0xC7 0xCF 0xDF (λ a. (refl, refl)) (refl, refl) (refl, refl) o
 decodes-back (I.And o) = without-short (λ o. I.And o) 0xA7 0xAF 0xBF (λ a. (refl, refl)) (refl, refl) (refl, refl) o
@@ -202,19 +224,24 @@ Again k f s = formBytes (formOf k f s) ≡ take (bytesOf (entryOf k)) (k ∷ f �
 
 short-again : (base k : ℕ) → k < 256 → k % 8 ≡ base → bytes (shortJump base (shortDisplacement k)) ≡ k ∷ []
 short-again base k h e =
-    let fits : inField 5 (shortDisplacement k) ≡ true = eqB→eq (inField 5 (shortDisplacement k)) true (at (λ j. eqB (inField 5 (shortDisplacement j)) true) 256 tt k h) in
-    let field : modulo 32 (shortDisplacement k) ≡ k / 8 = sameN (λ j. modulo 32 (shortDisplacement j)) (λ j. j / 8) tt k h in
+    let fits : inField 5 (shortDisplacement k) ≡ true =
+    eqB→eq (inField 5 (shortDisplacement k)) true
+    (at (λ j. eqB (inField 5 (shortDisplacement j)) true) 256 tt k h) in
+    let field : modulo 32 (shortDisplacement k) ≡ k / 8 =
+    sameN (λ j. modulo 32 (shortDisplacement j)) (λ j. j / 8) tt k h in
     let whole : k / 8 * 8 + base ≡ k = omega arith in
     rw (fits, field, whole)
 
-extended-again : (base k f : ℕ) → k < 256 → f < 256 → k % 16 ≡ base → bytes (extendedJump base (extended k f)) ≡ k ∷ f ∷ []
+extended-again : (base k f : ℕ) → k < 256 → f < 256 → k % 16 ≡ base
+    → bytes (extendedJump base (extended k f)) ≡ k ∷ f ∷ []
 extended-again base k f h g e =
     let opcode : (f * 16 + k / 16) % 16 * 16 + base ≡ k = omega arith in
     let second : (f * 16 + k / 16) / 16 ≡ f = omega arith in
     rw (lt-ltb (f * 16 + k / 16) 4096 (omega arith), opcode, second)
 
 long-fits : (s : ℕ) → s < 256 → inField 8 (longDisplacement s) ≡ true
-long-fits s h = eqB→eq (inField 8 (longDisplacement s)) true (at (λ j. eqB (inField 8 (longDisplacement j)) true) 256 tt s h)
+long-fits s h =
+    eqB→eq (inField 8 (longDisplacement s)) true (at (λ j. eqB (inField 8 (longDisplacement j)) true) 256 tt s h)
 
 long-again : (s : ℕ) → s < 256 → modulo 256 (longDisplacement s) ≡ s
 long-again s h = sameN (λ j. modulo 256 (longDisplacement j)) (λ j. j) tt s h
@@ -229,7 +256,8 @@ module _ (f s : ℕ) (hf : f < 256) (hs : s < 256) where
 
   bit-again :
       (k : ℕ) →
-      bytes (cond (inField 8 (longDisplacement s)) (withBytes k f (modulo 256 (longDisplacement s))) Unencodable) ≡ k ∷ f ∷ s ∷ []
+      bytes (cond (inField 8 (longDisplacement s)) (withBytes k f (modulo 256 (longDisplacement s))) Unencodable) ≡ k
+      ∷ f ∷ s ∷ []
   bit-again k = rw (long-fits s hs, long-again s hs, one-fits, lt-ltb s 256 hs)
 
   -- column by column; a row with operand bytes by their tests

@@ -6,7 +6,9 @@ use Rattle.isa.specs.declared.Form.{Form}
 use Rattle.isa.specs.declared.Form.the-variants.{Is, Undefined}
 use Rattle.isa.specs.Displacement.{modulo, forwardOf, shortDisplacement, longDisplacement, targetOf}
 use Rattle.isa.specs.Table.{bytesOf}
-use Rattle.isa.specs.Map.{Entry, JRNZ, JRNC, JRZ, JRC, CALL, JP, JRR, JRS, RES, SET, LD-A, LD-to, INC, DEC, ADD, SUB, AND, CP, LDI-A, LDI-rr, ADDI, SUBI, ANDI, CPI, COM, RLC, RET, RETI, STOP, WAIT, #, entryOf, extended, formAs, formOf}
+use Rattle.isa.specs.Map.{Entry, JRNZ, JRNC, JRZ, JRC, CALL, JP, JRR, JRS, RES, SET, LD-A, LD-to, INC, DEC, ADD}
+use Rattle.isa.specs.Map.{SUB, AND, CP, LDI-A, LDI-rr, ADDI, SUBI, ANDI, CPI, COM, RLC, RET, RETI, STOP, WAIT, #}
+use Rattle.isa.specs.Map.{entryOf, extended, formAs, formOf}
 use Rattle.isa.specs.ControlFlow.{flowOf}
 use Rattle.isa.specs.Targets.{InRange, TargetsInRange}
 use Rattle.isa.proofs.Reading.{Read, reading, rom-byte, operand-byte}

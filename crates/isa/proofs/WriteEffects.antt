@@ -42,21 +42,24 @@ too-short (Two a b) size h = rw (lt-leb 2 size h)
 too-short (Three a b c) size h = rw (lt-leb 3 size h)
 too-short Unencodable size h = absurd (omega arith)
 
-fits : (e : Encoded) (size : ℕ) → (e ≡ Unencodable → ⊥) → length (bytes e) ≤ size → outcome e size ≡ done (length (bytes e))
+fits : (e : Encoded) (size : ℕ) → (e ≡ Unencodable → ⊥) → length (bytes e) ≤ size
+    → outcome e size ≡ done (length (bytes e))
 unfolding outcome
 fits (One a) size n h = rw (le-leb 1 size h)
 fits (Two a b) size n h = rw (le-leb 2 size h)
 fits (Three a b c) size n h = rw (le-leb 3 size h)
 fits Unencodable size n h = absurd (n refl)
 
-untouched : (e : Encoded) (buffer : List ℕ) (r : Numbered) → outcome e (length buffer) ≡ refused r → bufferAfter e buffer ≡ buffer
+untouched : (e : Encoded) (buffer : List ℕ) (r : Numbered) → outcome e (length buffer) ≡ refused r
+    → bufferAfter e buffer ≡ buffer
 unfolding outcome bufferAfter
 untouched (One a) buffer r q = kept (bytes (One a)) buffer (leb 1 (length buffer)) r q
 untouched (Two a b) buffer r q = kept (bytes (Two a b)) buffer (leb 2 (length buffer)) r q
 untouched (Three a b c) buffer r q = kept (bytes (Three a b c)) buffer (leb 3 (length buffer)) r q
 untouched Unencodable buffer r q = rw (le-leb 0 (length buffer) (omega arith))
 
-from-first : (e : Encoded) (buffer : List ℕ) (n : ℕ) → outcome e (length buffer) ≡ done n → take n (bufferAfter e buffer) ≡ bytes e
+from-first : (e : Encoded) (buffer : List ℕ) (n : ℕ) → outcome e (length buffer) ≡ done n
+    → take n (bufferAfter e buffer) ≡ bytes e
 unfolding outcome bufferAfter
 from-first (One a) buffer n q = first (bytes (One a)) buffer (leb 1 (length buffer)) n q
 from-first (Two a b) buffer n q = first (bytes (Two a b)) buffer (leb 2 (length buffer)) n q
@@ -64,7 +67,8 @@ from-first (Three a b c) buffer n q = first (bytes (Three a b c)) buffer (leb 3 
 from-first Unencodable buffer n q = cc
 
 others-stay :
-    (e : Encoded) (buffer : List ℕ) (n : ℕ) → outcome e (length buffer) ≡ done n → drop n (bufferAfter e buffer) ≡ drop n buffer
+    (e : Encoded) (buffer : List ℕ) (n : ℕ) → outcome e (length buffer) ≡ done n
+    → drop n (bufferAfter e buffer) ≡ drop n buffer
 unfolding outcome bufferAfter
 others-stay (One a) buffer n q = rest (bytes (One a)) buffer (leb 1 (length buffer)) n q
 others-stay (Two a b) buffer n q = rest (bytes (Two a b)) buffer (leb 2 (length buffer)) n q

@@ -29,6 +29,7 @@ abbrev pub ofCycles : ℕ → ℕ
 ofCycles n = count (λ k. eqb (cyclesOf (entryOf k)) n) 256
 
 -- "Of the other 244, 166 take one byte, 61 two, 17 three; 132 last two cycles, 96 four, 16 five."
+-- proved by counts, proofs/Counts
 pub record Counts : Type 0 where
   pub of-all : defined ≡ 244
   pub of-one-byte : ofLength 1 ≡ 166
@@ -47,6 +48,7 @@ member k [] = false
 member k (x ∷ xs) = eqb k x || member k xs
 
 -- these and no others, whatever bytes follow; and "the twelve undefined ones hold 0 and 0"
+-- proved by undefined-listed, proofs/Counts
 pub record UndefinedListed : Type 0 where
   pub exactly : (k first second : ℕ) → k < 256 → isUndefined (formOf k first second) ≡ member k undefinedOpcodes
   pub no-length : (k : ℕ) → k < 256 → member k undefinedOpcodes ≡ true → bytesOf (entryOf k) ≡ 0

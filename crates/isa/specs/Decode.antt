@@ -46,9 +46,14 @@ withOpcode image address (Byte opcode) =
     withFirst image address opcode (operandAt image address 1 (bytesOf (entryOf opcode)))
 withOpcode image address Outside = refused (located 4 address)
 
+-- "4 opcode byte outside ROM; 5 undefined opcode; 4 operand byte outside ROM": what stands at an address of program
+-- space
+abbrev pub decodeOf : List ℕ → ℕ → Answer Decoding
+decodeOf image address = withOpcode image address (romAt image address)
+
 -- "Decode at an address: 1 image length; 3 address above FFFh"
 unfoldable pub decodeAt : List ℕ → ℕ → Answer Decoding
 decodeAt image address =
     cond (isImage (length image))
-    (cond (ltb address 4096) (withOpcode image address (romAt image address)) (refused (plain 3)))
+    (cond (ltb address 4096) (decodeOf image address) (refused (plain 3)))
     (refused (plain 1))

@@ -26,17 +26,22 @@ pub record Cut (image : List ℕ) (a k : ℕ) : Type 0 where
   pub inside : offset < bytesOf (entryOf k)
   pub outside : romAt image (forwardOf a offset) ≡ Outside
 
--- "Decode at an address: 1 image length; 3 address above FFFh; 4 opcode byte outside ROM; 5 undefined opcode; 4 operand byte outside
--- ROM." "The first that applies is given, and never where it doesn't apply." 4 and 5 "also give the instruction's address"
+-- "Decode at an address: 1 image length; 3 address above FFFh; 4 opcode byte outside ROM; 5 undefined opcode; 4 operand
+-- byte outside ROM." "The first that applies is given, and never where it doesn't apply." 4 and 5 "also give the
+-- instruction's address"
+-- proved by decode-refusals, proofs/DecodeRefusals
 pub record DecodeRefusals : Type 0 where
   pub image-length : (image : List ℕ) (a : ℕ) → isImage (length image) ≡ false → decodeAt image a ≡ refused (plain 1)
-  pub address-range : (image : List ℕ) (a : ℕ) → isImage (length image) ≡ true → 4096 ≤ a → decodeAt image a ≡ refused (plain 3)
+  pub address-range :
+      (image : List ℕ) (a : ℕ) → isImage (length image) ≡ true → 4096 ≤ a → decodeAt image a ≡ refused (plain 3)
   pub opcode-outside :
       (image : List ℕ) (a : ℕ) → isImage (length image) ≡ true → a < 4096 → romAt image a ≡ Outside →
       decodeAt image a ≡ refused (located 4 a)
   pub undefined-opcode :
-      (image : List ℕ) (a k : ℕ) → Opcode image a k → member k undefinedOpcodes ≡ true → decodeAt image a ≡ refused (located 5 a)
-  pub operand-outside : (image : List ℕ) (a k : ℕ) → Opcode image a k → Cut image a k → decodeAt image a ≡ refused (located 4 a)
+      (image : List ℕ) (a k : ℕ) → Opcode image a k → member k undefinedOpcodes ≡ true →
+      decodeAt image a ≡ refused (located 5 a)
+  pub operand-outside :
+      (image : List ℕ) (a k : ℕ) → Opcode image a k → Cut image a k → decodeAt image a ≡ refused (located 4 a)
   pub none-else :
       (image : List ℕ) (a k : ℕ) → Opcode image a k → member k undefinedOpcodes ≡ false → (Cut image a k → ⊥) →
       (r : Numbered) → decodeAt image a ≡ refused r → ⊥

@@ -1,4 +1,5 @@
--- The bytes of each instruction, by the opcodes of the manual's pages, and writing them (document 01, "Write an instruction").
+-- The bytes of each instruction, by the opcodes of the manual's pages, and writing them (document 01, "Write an
+-- instruction").
 use mathlib.Core.Path.{_≡_}
 use Prim.Native.Nat.{ℕ, _+_, _-_, _*_, _/_, _%_, _^_}
 use mathlib.Core.Bool.{Bool, true, false, cond, _&&_}
@@ -42,12 +43,14 @@ abbrev pub withBit : ℕ → ℕ → ℕ
 withBit base bit = (bit % 2 * 4 + bit / 2 % 2 * 2 + bit / 4) * 32 + base
 
 abbrev pub bitJump : ℕ → ℕ → ℕ → ℤ → Encoded
-bitJump base bit address d = cond (ltb bit 8 && inField 8 d) (withBytes (withBit base bit) address (modulo 256 d)) Unencodable
+bitJump base bit address d =
+    cond (ltb bit 8 && inField 8 d) (withBytes (withBit base bit) address (modulo 256 d)) Unencodable
 
 abbrev pub bitDirect : ℕ → ℕ → ℕ → Encoded
 bitDirect base bit address = cond (ltb bit 8) (withByte (withBit base bit) address) Unencodable
 
--- an instruction on a data operand, by its opcodes for (X), (Y) and rr; "of a kind the map lacks for it": a short operand
+-- an instruction on a data operand, by its opcodes for (X), (Y) and rr; "of a kind the map lacks for it": a short
+-- operand
 abbrev pub onData : ℕ → ℕ → ℕ → Operand → Encoded
 onData x y rr (Direct address) = withByte rr address
 onData x y rr (Short register) = Unencodable

@@ -48,5 +48,8 @@ lengthOf I.Stop = 1
 lengthOf I.Wait = 1
 
 -- the length that decoding answers, from the table, is that of the instruction's form
+-- proved by decoded-length, proofs/DecodedLength
 abbrev pub DecodedLength : Type 0
-DecodedLength = (image : List ℕ) (a : ℕ) (i : Instruction) (n cycles : ℕ) → decodeAt image a ≡ done (instruction i n cycles) → n ≡ lengthOf i
+DecodedLength =
+    (image : List ℕ) (a : ℕ) (i : Instruction) (n cycles : ℕ) → decodeAt image a ≡ done (instruction i n cycles) →
+    n ≡ lengthOf i

@@ -19,7 +19,8 @@ romAt image address =
     (cond (leb 4096 (address + length image)) (Byte (getD image (address + length image - 4096) 0)) Outside)
     Outside
 
--- "an operand byte after FFFh is the one at 000h": the byte at an offset from the opcode, and 0 where the instruction is shorter
+-- "an operand byte after FFFh is the one at 000h": the byte at an offset from the opcode, and 0 where the instruction
+-- is shorter
 unfoldable pub operandAt : List ℕ → ℕ → ℕ → ℕ → RomByte
 operandAt image address offset bytes =
     cond (ltb offset bytes) (romAt image (forwardOf address offset)) (Byte 0)

@@ -25,16 +25,20 @@ Bytes image = (j : ℕ) → getD image j 0 < 256
 abbrev pub Holds : List ℕ → ℕ → List ℕ → Type 0
 Holds image a bs = (j : ℕ) → j < length bs → romAt image (forwardOf a j) ≡ Byte (getD bs j 0)
 
--- "An instruction decodes to one of the manual's forms with its operands": every instruction that is not refused does, wherever
--- its bytes stand, and with the length and the cycles of its opcode
+-- "An instruction decodes to one of the manual's forms with its operands": every instruction that is not refused does,
+-- wherever its bytes stand, and with the length and the cycles of its opcode
+-- proved by written-decodes, proofs/InImage
 abbrev pub WrittenDecodes : Type 0
 WrittenDecodes =
     (i : Instruction) → (encodeOf i ≡ Unencodable → ⊥) →
     (image : List ℕ) → isImage (length image) ≡ true →
     (a : ℕ) → a < 4096 → Holds image a (bytes (encodeOf i)) →
-    decodeAt image a ≡ done (instruction i (length (bytes (encodeOf i))) (cyclesOf (entryOf (getD (bytes (encodeOf i)) 0 0))))
+    decodeAt image a ≡
+    done (instruction i (length (bytes (encodeOf i))) (cyclesOf (entryOf (getD (bytes (encodeOf i)) 0 0))))
 
--- "It is written from the buffer's first byte": what was decoded is written as the bytes that stand there, as many as decoding answered
+-- "It is written from the buffer's first byte": what was decoded is written as the bytes that stand there, as many as
+-- decoding answered
+-- proved by decoded-writes, proofs/InImage
 abbrev pub DecodedWrites : Type 0
 DecodedWrites =
     (image : List ℕ) → Bytes image →
@@ -45,7 +49,8 @@ DecodedWrites =
 abbrev pub Undecoded : Instruction → Type 0
 Undecoded i = (image : List ℕ) → Bytes image → (a n cycles : ℕ) → decodeAt image a ≡ done (instruction i n cycles) → ⊥
 
--- "8 operand beyond its field, or of a kind the map lacks for it", and "never where it doesn't apply": refused are the instructions
--- that no bytes decode to
+-- "8 operand beyond its field, or of a kind the map lacks for it", and "never where it doesn't apply": refused are the
+-- instructions that no bytes decode to
+-- proved by refused-exactly, proofs/RefusedExactly
 abbrev pub RefusedExactly : Type 0
 RefusedExactly = (i : Instruction) (size : ℕ) → (outcome (encodeOf i) size ≡ refused (plain 8)) ↔ Undecoded i

@@ -3,7 +3,10 @@ use Prim.Native.Nat.{ℕ, _/_, _%_, _<_}
 use mathlib.Core.Path.{_≡_}
 use mathlib.Core.List.{List}
 use lib.ListN.{getD}
-use Rattle.isa.specs.Map.{Addressing, rr, short, [X], [Y], Entry, JRNZ, JRNC, JRZ, JRC, CALL, JP, JRR, JRS, RES, SET, LD-A, LD-to, INC, DEC, ADD, SUB, AND, CP, LDI-A, LDI-rr, ADDI, SUBI, ANDI, CPI, COM, RLC, RET, RETI, STOP, WAIT, #, entryOf}
+use Rattle.isa.specs.Map.{Addressing, rr, short, [X], [Y], Entry, entryOf}
+use Rattle.isa.specs.Map.{JRNZ, JRNC, JRZ, JRC, CALL, JP, JRR, JRS, RES, SET}
+use Rattle.isa.specs.Map.{LD-A, LD-to, INC, DEC, ADD, SUB, AND, CP}
+use Rattle.isa.specs.Map.{LDI-A, LDI-rr, ADDI, SUBI, ANDI, CPI, COM, RLC, RET, RETI, STOP, WAIT, #}
 
 -- the bytes of an instruction: one, and one more for each of its operand bytes
 abbrev addressingBytes : Addressing → ℕ
@@ -79,7 +82,14 @@ cyclesOf STOP = 2
 cyclesOf WAIT = 2
 cyclesOf # = 0
 
--- the map's rule at every entry of a table: the length in the high digit, the cycles in the low one
+-- "Length and cycles stand in a table of 256 entries": the length in an entry's high digit, the cycles in its low one
+abbrev pub lengthIn : (table : List ℕ) → (opcode : ℕ) → ℕ
+lengthIn table opcode = getD table opcode 0 / 16
+
+abbrev pub cyclesIn : (table : List ℕ) → (opcode : ℕ) → ℕ
+cyclesIn table opcode = getD table opcode 0 % 16
+
+-- "the map's rule holds at every entry"
 pub record Timings (table : List ℕ) : Type 0 where
-  pub lengths : (k : ℕ) → k < 256 → getD table k 0 / 16 ≡ bytesOf (entryOf k)
-  pub cycles : (k : ℕ) → k < 256 → getD table k 0 % 16 ≡ cyclesOf (entryOf k)
+  pub lengths : (k : ℕ) → k < 256 → lengthIn table k ≡ bytesOf (entryOf k)
+  pub cycles : (k : ℕ) → k < 256 → cyclesIn table k ≡ cyclesOf (entryOf k)

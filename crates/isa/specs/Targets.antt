@@ -21,6 +21,8 @@ InRange flow.ReturnFromInterrupt = Unit {0}
 InRange flow.Sleep = Unit {0}
 
 -- "The program counter has 12 bits and all its arithmetic is modulo 4096"
+-- proved by targets-in-range, proofs/Targets
 abbrev pub TargetsInRange : Type 0
 TargetsInRange =
-    (image : List ℕ) → Bytes image → (a : ℕ) (i : Instruction) (n cycles : ℕ) → decodeAt image a ≡ done (instruction i n cycles) → InRange (flowOf i a)
+    (image : List ℕ) → Bytes image → (a : ℕ) (i : Instruction) (n cycles : ℕ) →
+    decodeAt image a ≡ done (instruction i n cycles) → InRange (flowOf i a)

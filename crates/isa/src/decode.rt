@@ -11,14 +11,12 @@ use crate::table::timing_of;
 use crate::table::timings;
 ghost use mathlib.Core.Path.{_≡_};
 ghost use Rattle.isa.specs.Table.{Timings};
-ghost use Rattle.isa.specs.Rom.{romAt};
-ghost use Rattle.isa.specs.Decode.{answerOf, decodeAt, withOpcode};
+ghost use Rattle.isa.specs.Decode.{answerOf, decodeOf, decodeAt};
 
-// The instruction at an address of the program space of an image that has a valid length: for whoever has tested both once and
-// decodes much.
+// Decoding without the tests of the image's length and the address, for a caller that has made them. The table is lent,
+// so that many decodings share one; the promise holds where it is the map's.
 pub fn decode_in_range(table: &[u8; 256], image: &[u8], address: u16) -> Decoded
-    requires { ⌜ Timings (now table) ⌝ }
-    ensures { λ r. ⌜ answerOf r ≡ withOpcode (now (image .entry)) address (romAt (now (image .entry)) address) ⌝ }
+    ensures { λ r. ⌜ (Timings (now (table .entry)) → answerOf r ≡ decodeOf (now (image .entry)) address) ⌝ }
 {
     let RomByte::Byte(opcode) = rom_byte(image, address) else {
         return Decoded::Refused(Refusal::OutsideRom(address));

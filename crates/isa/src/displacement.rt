@@ -1,6 +1,7 @@
 // Signed displacements of relative jumps, and the addresses that they reach.
 ghost use mathlib.Core.Path.{_≡_};
-ghost use Rattle.isa.specs.Displacement.{shortDisplacement, longDisplacement, modulo, forwardOf, targetOf, shortTarget, longTarget};
+ghost use Rattle.isa.specs.Displacement.{shortDisplacement, longDisplacement, modulo};
+ghost use Rattle.isa.specs.Displacement.{forwardOf, targetOf, shortTarget, longTarget};
 ghost use Rattle.isa.specs.Encode.{inField};
 
 // The opcode's top five bits, signed.
@@ -70,8 +71,5 @@ pub fn long_target(address: u16, displacement: i8) -> u16
 pub fn is_short(displacement: i8) -> bool
     ensures { λ r. ⌜ r ≡ inField 5 displacement ⌝ }
 {
-    if displacement < -16 {
-        return false;
-    }
-    displacement <= 15
+    -16 <= displacement && displacement <= 15
 }

@@ -7,7 +7,8 @@ use crate::displacement::long_byte;
 use crate::displacement::short_field;
 ghost use mathlib.Core.Path.{_≡_};
 ghost use Prim.Native.Nat.{_<_, _≤_};
-ghost use Rattle.isa.specs.Encode.{bitDirect, bitJump, encodeOf, extendedJump, onData, onShort, shortJump, withBit, withByte, withBytes};
+ghost use Rattle.isa.specs.Encode.{withByte, withBytes, withBit, shortJump, extendedJump};
+ghost use Rattle.isa.specs.Encode.{bitDirect, bitJump, onData, onShort, encodeOf};
 
 // An opcode with one operand byte.
 fn with_byte(opcode: u8, first: u8) -> Encoded

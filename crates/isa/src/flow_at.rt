@@ -1,5 +1,5 @@
-// Where the instruction at an address continues, straight from its bytes: what decoding and `flow_of` say, without the instruction in
-// between. For whoever asks nothing else of many addresses.
+// Where the instruction at an address continues, straight from its bytes: the answer of decoding followed by `flow_of`,
+// without making the instruction. The certificate check asks nothing else, at every address.
 use crate::Condition;
 use crate::Continuation;
 use crate::Flow;
@@ -19,8 +19,7 @@ ghost use mathlib.Core.Path.{_≡_};
 ghost use Prim.Native.Nat.{ℕ, _%_};
 ghost use Rattle.isa.specs.Table.{Timings};
 ghost use Rattle.isa.specs.Map.{formOf};
-ghost use Rattle.isa.specs.Rom.{romAt};
-ghost use Rattle.isa.specs.Decode.{withOpcode};
+ghost use Rattle.isa.specs.Decode.{decodeOf};
 ghost use Rattle.isa.specs.FlowAt.{flowAs, continuationOf, continuationFrom};
 
 // Column 3: a branch on a bit, JRR in the even rows, JRS in the odd ones.
@@ -77,11 +76,12 @@ fn flow_by(opcode: u8, first: u8, second: u8, at: u16) -> Flow
     }
 }
 
-// Where the instruction at an address continues, of an image that has a valid length and an address of the program space: for whoever
-// has tested both once. An undefined opcode has length 0.
+// Where the instruction at an address continues, for a caller that has tested the image's length and the address. The
+// table is lent, so that many addresses share one; the promise holds where it is the map's, in which an undefined
+// opcode has length 0.
 pub fn flow_at(table: &[u8; 256], image: &[u8], address: u16) -> Continuation
-    requires { ⌜ Timings (now table) ⌝ }
-    ensures { λ r. ⌜ continuationOf r ≡ continuationFrom address (withOpcode (now (image .entry)) address (romAt (now (image .entry)) address)) ⌝ }
+    ensures { λ r. ⌜ (Timings (now (table .entry))
+        → continuationOf r ≡ continuationFrom address (decodeOf (now (image .entry)) address)) ⌝ }
 {
     let RomByte::Byte(opcode) = rom_byte(image, address) else {
         return Continuation::Refused(Refusal::OutsideRom(address));

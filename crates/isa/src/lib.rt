@@ -68,7 +68,8 @@ pub enum Form {
     Undefined,
 }
 
-// Why an operation was refused or stopped, in the order of document 01's numbers 1 to 22, with the address where it gives one.
+// Why an operation was refused or stopped, in the order of document 01's numbers 1 to 22, with the address where it
+// gives one.
 pub enum Refusal {
     ImageLength,
     IllFormedMachine,

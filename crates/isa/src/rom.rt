@@ -3,6 +3,11 @@ use crate::displacement::forward;
 ghost use mathlib.Core.Path.{_≡_};
 ghost use Rattle.isa.specs.Rom.{isImage, romAt, operandAt};
 
+// How many addresses program space has, and how many of them a small image fills.
+pub const PROGRAM_SPACE: usize = 4096;
+
+pub const HALF_SPACE: usize = 2048;
+
 pub enum RomByte {
     Byte(u8),
     Outside,
@@ -12,24 +17,19 @@ pub enum RomByte {
 pub fn is_image_length(length: usize) -> bool
     ensures { λ r. ⌜ r ≡ isImage length ⌝ }
 {
-    if length == 2048 {
-        return true;
-    }
-    length == 4096
+    length == HALF_SPACE || length == PROGRAM_SPACE
 }
 
 // The ROM byte at a program address. The image's last byte stands at FFFh.
 pub fn rom_byte(image: &[u8], address: u16) -> RomByte
     ensures { λ r. ⌜ r ≡ romAt (now (image .entry)) address ⌝ }
 {
-    let end = address as usize + image.len();
-    if 4096 <= address {
+    let at = address as usize;
+    let end = at + image.len();
+    if PROGRAM_SPACE <= at || end < PROGRAM_SPACE {
         return RomByte::Outside;
     }
-    if end < 4096 {
-        return RomByte::Outside;
-    }
-    RomByte::Byte(image[end - 4096])
+    RomByte::Byte(image[end - PROGRAM_SPACE])
 }
 
 // The byte of an instruction at an offset from its address; 0 where the instruction is shorter.

@@ -12,7 +12,7 @@ use Rattle.isa.specs.Decode.{decodeAt}
 use Rattle.certificate.specs.Marks.{lowest}
 use Rattle.certificate.specs.Check.{Verdict}
 use Rattle.certificate.specs.Refusals.{Question, FirstApplies, questions, atMark, atMarks, atVectors, tooManyLevels}
-use Rattle.certificate.proofs.Ordered.{answers-first}
+use Rattle.certificate.proofs.Refusals.{answers-first}
 use Rattle.jobs.specs.Jobs.{isWhole, jobOf, imageOf, certificateOf, romBytes, wiredOf}
 use Rattle.jobs.specs.Addresses.{ThreeDigitsAreEnough}
 

@@ -51,7 +51,8 @@ unfolding checkOf
 returns-4 c =
     rw (
       ← c .before .before .before .before .before .is-image-length .ensures,
-      not-false (c .before .before .before .before .before .is-image-length .result) (c .before .before .before .before .if1 .left),
+      not-false (c .before .before .before .before .before .is-image-length .result)
+          (c .before .before .before .before .if1 .left),
       eq-eqb _ _ (c .before .before .before .if2 .left),
       ← c .before .before .names-only-sources .ensures,
       not-false (c .before .before .names-only-sources .result) (c .before .if3 .left),

@@ -1,4 +1,4 @@
--- `check::check_flow` meets its contract: the tests 15, 16 and 17 in their order.
+-- `check::check_flow` meets its contract: 15, then the successors.
 use borrow.Author.Tests.{not-true, not-false}
 use Rattle.certificate.specs.Check.{flowFound}
 use borrow.Author.Needs.{needs}
@@ -23,8 +23,11 @@ returns c =
 successors-of-requires : tie.Need-successors-of-requires
 successors-of-requires c κs = search needs
 
-all-have-kind-requires : tie.Need-all-have-kind-requires
-all-have-kind-requires c κs = search needs
+need-of-requires : tie.Need-need-of-requires
+need-of-requires c κs = search needs
+
+check-successors-requires : tie.Need-check-successors-requires
+check-successors-requires c κs = search needs
 
 returns-2 : tie.Need-returns-2
 unfolding flowFound
@@ -34,45 +37,9 @@ returns-2 c =
       ← c .before .before .before .before .is-placed .ensures,
       not-false (c .before .before .before .before .is-placed .result) (c .before .before .before .if1 .left),
       ← c .before .before .successors-of .ensures,
-      ← c .before .all-have-kind .ensures,
-      not-true (c .before .all-have-kind .result) (c .if2 .taken),
+      ← c .before .need-of .ensures,
     )
-
-need-of-requires : tie.Need-need-of-requires
-need-of-requires c κs = search needs
-
-covers-all-requires : tie.Need-covers-all-requires
-covers-all-requires c κs = search needs
-
-returns-3 : tie.Need-returns-3
-unfolding flowFound
-returns-3 c =
-    rw (
-      ← c .before .before .before .before .before .before .before .before .kind-of .ensures,
-      ← c .before .before .before .before .before .before .before .is-placed .ensures,
-      not-false (c .before .before .before .before .before .before .before .is-placed .result) (c .before .before .before .before .before .before .if1 .left),
-      ← c .before .before .before .before .before .successors-of .ensures,
-      ← c .before .before .before .before .all-have-kind .ensures,
-      not-false (c .before .before .before .before .all-have-kind .result) (c .before .before .before .if2 .left),
-      ← c .before .before .need-of .ensures,
-      ← c .before .covers-all .ensures,
-      not-true (c .before .covers-all .result) (c .if3 .taken),
-    )
-
-returns-4 : tie.Need-returns-4
-unfolding flowFound
-returns-4 c =
-    rw (
-      ← c .before .before .before .before .before .before .before .before .kind-of .ensures,
-      ← c .before .before .before .before .before .before .before .is-placed .ensures,
-      not-false (c .before .before .before .before .before .before .before .is-placed .result) (c .before .before .before .before .before .before .if1 .left),
-      ← c .before .before .before .before .before .successors-of .ensures,
-      ← c .before .before .before .before .all-have-kind .ensures,
-      not-false (c .before .before .before .before .all-have-kind .result) (c .before .before .before .if2 .left),
-      ← c .before .before .need-of .ensures,
-      ← c .before .covers-all .ensures,
-      not-false (c .before .covers-all .result) (c .if3 .left),
-    )
+    (c .check-successors .ensures)
 
 pub check-flow-spec : {M : Type 1} → statement M
 check-flow-spec =
@@ -82,9 +49,6 @@ check-flow-spec =
     is-placed-requires
     returns
     successors-of-requires
-    all-have-kind-requires
-    returns-2
     need-of-requires
-    covers-all-requires
-    returns-3
-    returns-4)
+    check-successors-requires
+    returns-2)

@@ -1,14 +1,36 @@
 -- `check::check_mark` meets its contract: no mark, 14, then where the instruction continues.
-use mathlib.Core.Path.{ap, _∙_}
+use mathlib.Core.Path.{_≡_, ap, _∙_}
 use native.Mathlib.Omega.{arith}
 use borrow.Author.Tests.{lt-ltb, le-ltb}
 use Rattle.isa.proofs.AtAddress.{in-range}
-use Rattle.isa.specs.FlowAt.{continuationFrom}
+use Rattle.isa.specs.FlowAt.{continuationOf, continuationFrom}
 use Rattle.certificate.specs.Check.{decodedFound, markFound}
-use Rattle.certificate.proofs.Facts.{by-continuation, marked, positive}
+use Rattle.certificate.proofs.Facts.{continuationFound, by-continuation, marked, positive}
 use borrow.Author.Needs.{needs}
 use Rattle.certificate.proofs.check.check_mark.Statement.{statement}
 use Rattle.certificate.proofs.check.check_mark.Tie as tie
+
+-- the start, from where the mark has a kind
+abbrev start : tie.Else2 → tie.Start
+start c = c .before .before .before .before .before
+
+-- a mark with a kind: what is found is by where the instruction continues
+by-flow : (c : tie.After-flow-at)
+    → markFound (start (c .before) .args .image .now) (start (c .before) .args .certificate .now)
+    (start (c .before) .args .address) (start (c .before) .args .mark)
+    ≡ continuationFound (start (c .before) .args .certificate .now) (start (c .before) .args .address)
+    (start (c .before) .args .mark) (continuationOf (c .flow-at .result))
+by-flow c =
+    let kind = c .before .before .kind-of in
+    let map = start (c .before) .pre .0 in
+    rw (
+      marked _ _ _ _ (c .before .before .before .if1 .left),
+      ← kind .ensures,
+      lt-ltb 0 (kind .result) (positive (c .before .if2 .left)),
+      by-continuation _ _ _ _,
+      ← (c .flow-at .ensures map
+          ∙ ap (continuationFrom _) (in-range _ _ (start (c .before) .pre .1) (start (c .before) .pre .2))),
+    )
 
 returns : tie.Need-returns
 unfolding markFound decodedFound
@@ -40,26 +62,10 @@ enum-known-refusal c = search needs
 
 returns-3 : tie.Need-returns-3
 returns-3 c =
-    rw (
-      marked _ _ _ _ (c .before .before .before .before .before .before .before .if1 .left),
-      ← c .before .before .before .before .before .before .kind-of .ensures,
-      lt-ltb 0 (c .before .before .before .before .before .before .kind-of .result) (positive (c .before .before .before .before .before .if2 .left)),
-      by-continuation _ _ _ _,
-      ← (c .before .before .before .before .flow-at .ensures ∙ ap (continuationFrom _) (in-range _ _ (c .before .before .before .before .before .before .before .before .before .before .pre .1) (c .before .before .before .before .before .before .before .before .before .before .pre .2))),
-      c .before .before .flow .given .1,
-    )
-    (c .check-flow .ensures)
+    rw (by-flow (c .before .before .before .before), c .before .before .flow .given .1) (c .check-flow .ensures)
 
 returns-4 : tie.Need-returns-4
-returns-4 c =
-    rw (
-      marked _ _ _ _ (c .before .before .before .before .before .before .if1 .left),
-      ← c .before .before .before .before .before .kind-of .ensures,
-      lt-ltb 0 (c .before .before .before .before .before .kind-of .result) (positive (c .before .before .before .before .if2 .left)),
-      by-continuation _ _ _ _,
-      ← (c .before .before .before .flow-at .ensures ∙ ap (continuationFrom _) (in-range _ _ (c .before .before .before .before .before .before .before .before .before .pre .1) (c .before .before .before .before .before .before .before .before .before .pre .2))),
-      c .before .refusal .given .1,
-    )
+returns-4 c = rw (by-flow (c .before .before .before), c .before .refusal .given .1)
 
 pub check-mark-spec : {M : Type 1} → statement M
 check-mark-spec =

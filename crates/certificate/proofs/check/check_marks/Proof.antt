@@ -9,7 +9,8 @@ use borrow.Author.Needs.{needs}
 use lib.ListN.{length, getD, drop}
 use lib.Seq.{drop-cons, drop-length}
 use Rattle.certificate.specs.Marks.{lowest}
-use Rattle.certificate.specs.Check.{Found, passes, andThen, markFound, marksFound}
+use Rattle.certificate.specs.Findings.{Found, passes, andThen}
+use Rattle.certificate.specs.Check.{markFound, marksFound}
 use Rattle.certificate.proofs.check.check_marks.Statement.{statement}
 use Rattle.certificate.proofs.check.check_marks.Tie as tie
 
@@ -19,7 +20,9 @@ From image certificate i = marksFound image certificate (lowest certificate + i)
 
 -- the mark at i, then the others
 first : (image certificate : List ℕ) (i : ℕ) → i < length certificate
-    → From image certificate i ≡ andThen (markFound image certificate (lowest certificate + i) (getD certificate i 0)) (From image certificate (i + 1))
+    → From image certificate i
+    ≡ andThen (markFound image certificate (lowest certificate + i) (getD certificate i 0))
+    (From image certificate (i + 1))
 unfolding marksFound
 first image certificate i h =
     let next : suc (lowest certificate + i) ≡ lowest certificate + (i + 1) = omega arith in
@@ -30,11 +33,12 @@ unfolding marksFound
 none image certificate i e = rw (e, drop-length certificate)
 
 abbrev Inv-loop : tie.InvT-loop
-Inv-loop table image certificate start i₀ i =
-    (i ≤ length certificate) × (marksFound image certificate (lowest certificate) certificate ≡ From image certificate i)
+Inv-loop table image certificate start i₀ i-end i =
+    (i ≤ length certificate)
+    × (marksFound image certificate (lowest certificate) certificate ≡ From image certificate i)
 
 abbrev μ-loop : tie.MeasureT-loop
-μ-loop table image certificate start i₀ i = length certificate - i
+μ-loop table image certificate start i₀ i-end i = length certificate - i
 
 sub-start : tie.Need-sub-start Inv-loop μ-loop
 sub-start c = search needs

@@ -57,7 +57,8 @@ returns-2 c = rw (c .continues-at2 .ensures, c .before .before .flow .given .1)
 
 returns-3 : tie.Need-returns-3
 unfolding successorsOf
-returns-3 c = rw (c .continues-at4 .ensures, c .before .continues-at3 .ensures, c .before .before .before .flow2 .given .1)
+returns-3 c =
+    rw (c .continues-at4 .ensures, c .before .continues-at3 .ensures, c .before .before .before .flow2 .given .1)
 
 returns-4 : tie.Need-returns-4
 unfolding successorsOf
@@ -69,7 +70,8 @@ returns-5 c = rw (c .enum-told2 .given .1)
 
 returns-6 : tie.Need-returns-6
 unfolding successorsOf
-returns-6 c = rw (c .continues-at6 .ensures, c .before .before .enum-told3 .given .1, eq-eqb _ _ (c .before .if1 .taken))
+returns-6 c =
+    rw (c .continues-at6 .ensures, c .before .before .enum-told3 .given .1, eq-eqb _ _ (c .before .if1 .taken))
 
 returns-7 : tie.Need-returns-7
 unfolding successorsOf

@@ -1,5 +1,5 @@
 -- `vectors::check_source` meets its contract: by whether the source is wired.
-use Rattle.certificate.specs.Check.{sourceFound}
+use Rattle.certificate.specs.Vectors.{sourceFound}
 use borrow.Author.Needs.{needs}
 use Rattle.certificate.proofs.vectors.check_source.Statement.{statement}
 use Rattle.certificate.proofs.vectors.check_source.Tie as tie
@@ -15,7 +15,13 @@ check-vector-requires c κs = search needs
 
 returns : tie.Need-returns
 unfolding sourceFound
-returns c = rw (← c .before .before .before .names .ensures, c .before .before .if1 .taken, ← c .before .vector-of .ensures) (c .check-vector .ensures)
+returns c =
+    rw (
+      ← c .before .before .before .names .ensures,
+      c .before .before .if1 .taken,
+      ← c .before .vector-of .ensures,
+    )
+    (c .check-vector .ensures)
 
 returns-2 : tie.Need-returns-2
 unfolding sourceFound

@@ -1,6 +1,6 @@
 -- `vectors::check_vector` meets its contract: by the kind.
 use borrow.Author.Tests.{eq-eqb, ne-eqb}
-use Rattle.certificate.specs.Check.{vectorFound}
+use Rattle.certificate.specs.Vectors.{vectorFound}
 use borrow.Author.Needs.{needs}
 use Rattle.certificate.proofs.vectors.check_vector.Statement.{statement}
 use Rattle.certificate.proofs.vectors.check_vector.Tie as tie

@@ -1,5 +1,5 @@
 -- `vectors::check_vectors` meets its contract: its calls.
-use Rattle.certificate.specs.Check.{vectorsFound}
+use Rattle.certificate.specs.Vectors.{vectorsFound}
 use borrow.Author.Needs.{needs}
 use Rattle.certificate.proofs.vectors.check_vectors.Statement.{statement}
 use Rattle.certificate.proofs.vectors.check_vectors.Tie as tie

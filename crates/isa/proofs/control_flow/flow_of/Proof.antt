@@ -1,4 +1,5 @@
--- `control_flow::flow_of` meets its contract: the instructions that its last arm takes all continue at the next address.
+-- `control_flow::flow_of` meets its contract: the instructions that its last arm takes all continue at the next
+-- address.
 use mathlib.Core.Path.{sym}
 use borrow.Author.Needs.{needs}
 use Rattle.isa.specs.declared.Flow.the-variants as flow

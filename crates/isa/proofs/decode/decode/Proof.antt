@@ -14,7 +14,12 @@ returns c = rw (← c .before .is-image-length .ensures, not-true (c .before .is
 
 returns-2 : tie.Need-returns-2
 unfolding decodeAt
-returns-2 c = rw (← c .before .before .is-image-length .ensures, not-false (c .before .before .is-image-length .result) (c .before .if1 .left), le-ltb _ _ (c .if2 .taken))
+returns-2 c =
+    rw (
+      ← c .before .before .is-image-length .ensures,
+      not-false (c .before .before .is-image-length .result) (c .before .if1 .left),
+      le-ltb _ _ (c .if2 .taken),
+    )
 
 timings-requires : tie.Need-timings-requires
 timings-requires c κs = search needs
@@ -24,7 +29,11 @@ decode-in-range-requires c κs = search needs
 
 returns-3 : tie.Need-returns-3
 unfolding decodeAt
-returns-3 c = rw (← c .before .before .before .before .before .is-image-length .ensures, not-false (c .before .before .before .before .before .is-image-length .result) (c .before .before .before .before .if1 .left), lt-ltb _ _ (c .before .before .before .if2 .left)) (c .decode-in-range .ensures)
+returns-3 c =
+    let tested = c .before .before .before in
+    let asked = tested .before .before .is-image-length in
+    rw (← asked .ensures, not-false (asked .result) (tested .before .if1 .left), lt-ltb _ _ (tested .if2 .left))
+    (c .decode-in-range .ensures (c .before .before .timings .ensures))
 
 pub decode-spec : {M : Type 1} → statement M
 decode-spec =

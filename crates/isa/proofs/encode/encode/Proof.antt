@@ -205,16 +205,16 @@ returns-6 c = rw (c .before .before .instruction6 .given .1) (c .extended-jump2 
 returns-7 : tie.Need-returns-7
 unfolding encodeOf
 returns-7 c =
-    let fits : SFits w8 (c .before .before .instruction7 .given .0 .1 .1 .0) = search needs in
-    rw (c .before .before .instruction7 .given .1)
-    (c .bit-jump .ensures ∙ ap (bitJump 3 (c .before .before .instruction7 .given .0 .0) (c .before .before .instruction7 .given .0 .1 .0)) (kept fits))
+    let jump = c .before .before .instruction7 .given in
+    let fits : SFits w8 (jump .0 .1 .1 .0) = search needs in
+    rw (jump .1) (c .bit-jump .ensures ∙ ap (bitJump 3 (jump .0 .0) (jump .0 .1 .0)) (kept fits))
 
 returns-8 : tie.Need-returns-8
 unfolding encodeOf
 returns-8 c =
-    let fits : SFits w8 (c .before .before .instruction8 .given .0 .1 .1 .0) = search needs in
-    rw (c .before .before .instruction8 .given .1)
-    (c .bit-jump2 .ensures ∙ ap (bitJump 19 (c .before .before .instruction8 .given .0 .0) (c .before .before .instruction8 .given .0 .1 .0)) (kept fits))
+    let jump = c .before .before .instruction8 .given in
+    let fits : SFits w8 (jump .0 .1 .1 .0) = search needs in
+    rw (jump .1) (c .bit-jump2 .ensures ∙ ap (bitJump 19 (jump .0 .0) (jump .0 .1 .0)) (kept fits))
 
 returns-9 : tie.Need-returns-9
 unfolding encodeOf

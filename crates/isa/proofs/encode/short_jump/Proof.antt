@@ -18,14 +18,16 @@ mul-t6 : tie.Need-mul-t6
 mul-t6 c = omega (
   arith,
   c .short-field .ensures ∙ ap (modulo 32) (kept (c .before .before .before .fits .displacement)),
-  boundedOfSigned (modulo 32) 32 tt (c .before .before .before .args .displacement) (c .before .before .before .fits .displacement),
+  boundedOfSigned (modulo 32) 32 tt (c .before .before .before .args .displacement)
+      (c .before .before .before .fits .displacement),
 )
 
 add-t7 : tie.Need-add-t7
 add-t7 c = omega (
   arith,
   c .short-field .ensures ∙ ap (modulo 32) (kept (c .before .before .before .fits .displacement)),
-  boundedOfSigned (modulo 32) 32 tt (c .before .before .before .args .displacement) (c .before .before .before .fits .displacement),
+  boundedOfSigned (modulo 32) 32 tt (c .before .before .before .args .displacement)
+      (c .before .before .before .fits .displacement),
 )
 
 returns : tie.Need-returns
@@ -38,7 +40,8 @@ returns c = rw (
 )
 
 returns-2 : tie.Need-returns-2
-returns-2 c = rw (← ap (inField 5) (kept (c .before .before .fits .displacement)), ← c .before .is-short .ensures, c .if1 .left)
+returns-2 c =
+    rw (← ap (inField 5) (kept (c .before .before .fits .displacement)), ← c .before .is-short .ensures, c .if1 .left)
 
 pub short-jump-spec : {M : Type 1} → statement M
 short-jump-spec =

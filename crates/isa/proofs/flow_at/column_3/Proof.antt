@@ -27,14 +27,29 @@ returns : tie.Need-returns
 unfolding formOf formAs entryOf flowOf
 returns c =
     let fits : SFits w8 (c .before .before .long-displacement .result) = search needs in
-    rw (c .long .ensures, c .before .before .before .bit-number .ensures, kept fits, c .before .before .long-displacement .ensures, c .before .before .before .before .pre, c .before .if1 .taken)
+    rw (
+      c .long .ensures,
+      c .before .before .before .bit-number .ensures,
+      kept fits,
+      c .before .before .long-displacement .ensures,
+      c .before .before .before .before .pre,
+      c .before .if1 .taken,
+    )
 
 returns-2 : tie.Need-returns-2
 unfolding formOf formAs entryOf flowOf
 returns-2 c =
     let fits : SFits w8 (c .before .before .long-displacement .result) = search needs in
     let odd : c .before .before .before .before .args .opcode / 16 % 2 ≡ 1 = omega arith in
-    rw (c .long2 .ensures, c .before .before .before .bit-number .ensures, kept fits, c .before .before .long-displacement .ensures, c .before .before .before .before .pre, odd)
+    rw (
+      c .long2 .ensures,
+      c .before .before .before .bit-number .ensures,
+      kept fits,
+      c .before .before .long-displacement .ensures,
+      c .before .before .before .before .pre,
+      odd,
+    )
 
 pub column-3-spec : {M : Type 1} → statement M
-column-3-spec = tie.close (tie.spec bit-number-requires long-displacement-requires long-requires long-requires-2 returns returns-2)
+column-3-spec =
+    tie.close (tie.spec bit-number-requires long-displacement-requires long-requires long-requires-2 returns returns-2)

@@ -16,7 +16,8 @@ use Rattle.isa.proofs.flow_at.column_d.Tie as tie
 abbrev Rest : ℕ → Type 0
 Rest k = ((Unit × (k ≡ 0x4D → ⊥)) × (OneOf (0x6D ∷ 0xED ∷ []) k → ⊥)) × (k ≡ 0xCD → ⊥)
 
-others : (k : ℕ) → k < 256 → k % 16 ≡ 13 → Rest k → (first second at : ℕ) → flow.Next ≡ flowAs (formOf k first second) at
+others : (k : ℕ) → k < 256 → k % 16 ≡ 13 → Rest k → (first second at : ℕ)
+    → flow.Next ≡ flowAs (formOf k first second) at
 unfolding formOf formAs entryOf flowOf
 others = rows (λ k. Rest k → (first second at : ℕ) → flow.Next ≡ flowAs (formOf k first second) at) 13
     (λ n first second at. refl)

@@ -1,4 +1,5 @@
--- `flow_at::flow_by` meets its contract: the low digit picks the column; the columns of the last arm all go on at the next address.
+-- `flow_at::flow_by` meets its contract: the low digit picks the column; the columns of the last arm all go on at the
+-- next address.
 use borrow.Author.Needs.{needs}
 use mathlib.Core.Path.{_≡_, refl}
 use mathlib.Core.Logic.{⊎-elim, inl, inr}
@@ -19,33 +20,44 @@ use Rattle.isa.proofs.flow_at.flow_by.Tie as tie
 
 -- a digit that is none of the keys
 abbrev Rest : ℕ → Type 0
-Rest d = (((((((Unit × (OneOf (0 ∷ 8 ∷ []) d → ⊥)) × (OneOf (2 ∷ 10 ∷ []) d → ⊥)) × (OneOf (4 ∷ 12 ∷ []) d → ⊥)) × (OneOf (6 ∷ 14 ∷ []) d → ⊥)) × (d ≡ 1 → ⊥)) × (d ≡ 9 → ⊥)) × (d ≡ 3 → ⊥)) × (d ≡ 13 → ⊥)
+Rest d =
+    (((((((Unit × (OneOf (0 ∷ 8 ∷ []) d → ⊥)) × (OneOf (2 ∷ 10 ∷ []) d → ⊥)) × (OneOf (4 ∷ 12 ∷ []) d → ⊥))
+    × (OneOf (6 ∷ 14 ∷ []) d → ⊥)) × (d ≡ 1 → ⊥)) × (d ≡ 9 → ⊥)) × (d ≡ 3 → ⊥)) × (d ≡ 13 → ⊥)
 
 plain-5 : (k : ℕ) → k < 256 → k % 16 ≡ 5 → (f s a : ℕ) → flow.Next ≡ flowAs (formOf k f s) a
 unfolding formOf formAs entryOf flowOf
 plain-5 = rows (λ k. (f s a : ℕ) → flow.Next ≡ flowAs (formOf k f s) a) 5
-    (λ f s a. refl) (λ f s a. refl) (λ f s a. refl) (λ f s a. refl) (λ f s a. refl) (λ f s a. refl) (λ f s a. refl) (λ f s a. refl)
-    (λ f s a. refl) (λ f s a. refl) (λ f s a. refl) (λ f s a. refl) (λ f s a. refl) (λ f s a. refl) (λ f s a. refl) (λ f s a. refl)
+    (λ f s a. refl) (λ f s a. refl) (λ f s a. refl) (λ f s a. refl) (λ f s a. refl) (λ f s a. refl) (λ f s a. refl)
+    (λ f s a. refl)
+    (λ f s a. refl) (λ f s a. refl) (λ f s a. refl) (λ f s a. refl) (λ f s a. refl) (λ f s a. refl) (λ f s a. refl)
+    (λ f s a. refl)
 
 plain-7 : (k : ℕ) → k < 256 → k % 16 ≡ 7 → (f s a : ℕ) → flow.Next ≡ flowAs (formOf k f s) a
 unfolding formOf formAs entryOf flowOf
 plain-7 = rows (λ k. (f s a : ℕ) → flow.Next ≡ flowAs (formOf k f s) a) 7
-    (λ f s a. refl) (λ f s a. refl) (λ f s a. refl) (λ f s a. refl) (λ f s a. refl) (λ f s a. refl) (λ f s a. refl) (λ f s a. refl)
-    (λ f s a. refl) (λ f s a. refl) (λ f s a. refl) (λ f s a. refl) (λ f s a. refl) (λ f s a. refl) (λ f s a. refl) (λ f s a. refl)
+    (λ f s a. refl) (λ f s a. refl) (λ f s a. refl) (λ f s a. refl) (λ f s a. refl) (λ f s a. refl) (λ f s a. refl)
+    (λ f s a. refl)
+    (λ f s a. refl) (λ f s a. refl) (λ f s a. refl) (λ f s a. refl) (λ f s a. refl) (λ f s a. refl) (λ f s a. refl)
+    (λ f s a. refl)
 
 plain-11 : (k : ℕ) → k < 256 → k % 16 ≡ 11 → (f s a : ℕ) → flow.Next ≡ flowAs (formOf k f s) a
 unfolding formOf formAs entryOf flowOf
 plain-11 = rows (λ k. (f s a : ℕ) → flow.Next ≡ flowAs (formOf k f s) a) 11
-    (λ f s a. refl) (λ f s a. refl) (λ f s a. refl) (λ f s a. refl) (λ f s a. refl) (λ f s a. refl) (λ f s a. refl) (λ f s a. refl)
-    (λ f s a. refl) (λ f s a. refl) (λ f s a. refl) (λ f s a. refl) (λ f s a. refl) (λ f s a. refl) (λ f s a. refl) (λ f s a. refl)
+    (λ f s a. refl) (λ f s a. refl) (λ f s a. refl) (λ f s a. refl) (λ f s a. refl) (λ f s a. refl) (λ f s a. refl)
+    (λ f s a. refl)
+    (λ f s a. refl) (λ f s a. refl) (λ f s a. refl) (λ f s a. refl) (λ f s a. refl) (λ f s a. refl) (λ f s a. refl)
+    (λ f s a. refl)
 
 plain-15 : (k : ℕ) → k < 256 → k % 16 ≡ 15 → (f s a : ℕ) → flow.Next ≡ flowAs (formOf k f s) a
 unfolding formOf formAs entryOf flowOf
 plain-15 = rows (λ k. (f s a : ℕ) → flow.Next ≡ flowAs (formOf k f s) a) 15
-    (λ f s a. refl) (λ f s a. refl) (λ f s a. refl) (λ f s a. refl) (λ f s a. refl) (λ f s a. refl) (λ f s a. refl) (λ f s a. refl)
-    (λ f s a. refl) (λ f s a. refl) (λ f s a. refl) (λ f s a. refl) (λ f s a. refl) (λ f s a. refl) (λ f s a. refl) (λ f s a. refl)
+    (λ f s a. refl) (λ f s a. refl) (λ f s a. refl) (λ f s a. refl) (λ f s a. refl) (λ f s a. refl) (λ f s a. refl)
+    (λ f s a. refl)
+    (λ f s a. refl) (λ f s a. refl) (λ f s a. refl) (λ f s a. refl) (λ f s a. refl) (λ f s a. refl) (λ f s a. refl)
+    (λ f s a. refl)
 
-by-digit : (d : ℕ) → d < 16 → (k : ℕ) → k < 256 → k % 16 ≡ d → Rest d → (f s a : ℕ) → flow.Next ≡ flowAs (formOf k f s) a
+by-digit : (d : ℕ) → d < 16 → (k : ℕ) → k < 256 → k % 16 ≡ d → Rest d → (f s a : ℕ)
+    → flow.Next ≡ flowAs (formOf k f s) a
 by-digit = pick16 (λ d. (k : ℕ) → k < 256 → k % 16 ≡ d → Rest d → (f s a : ℕ) → flow.Next ≡ flowAs (formOf k f s) a)
     (λ k h e n. absurd (n .0 .0 .0 .0 .0 .0 .0 .1 (inl refl)))
     (λ k h e n. absurd (n .0 .0 .0 .1 refl))
@@ -104,25 +116,45 @@ returns : tie.Need-returns
 unfolding formOf formAs entryOf flowOf
 returns c =
     let fits : SFits w8 (c .before .short-displacement .result) = search needs in
-    rw (c .short .ensures, kept fits, c .before .short-displacement .ensures) (⊎-elim (λ e. rw e) (λ e. rw e) (c .before .before .match .keys1))
+    rw (
+      c .short .ensures,
+      kept fits,
+      c .before .short-displacement .ensures,
+    )
+    (⊎-elim (λ e. rw e) (λ e. rw e) (c .before .before .match .keys1))
 
 returns-2 : tie.Need-returns-2
 unfolding formOf formAs entryOf flowOf
 returns-2 c =
     let fits : SFits w8 (c .before .short-displacement2 .result) = search needs in
-    rw (c .short2 .ensures, kept fits, c .before .short-displacement2 .ensures) (⊎-elim (λ e. rw e) (λ e. rw e) (c .before .before .match .keys2))
+    rw (
+      c .short2 .ensures,
+      kept fits,
+      c .before .short-displacement2 .ensures,
+    )
+    (⊎-elim (λ e. rw e) (λ e. rw e) (c .before .before .match .keys2))
 
 returns-3 : tie.Need-returns-3
 unfolding formOf formAs entryOf flowOf
 returns-3 c =
     let fits : SFits w8 (c .before .short-displacement3 .result) = search needs in
-    rw (c .short3 .ensures, kept fits, c .before .short-displacement3 .ensures) (⊎-elim (λ e. rw e) (λ e. rw e) (c .before .before .match .keys3))
+    rw (
+      c .short3 .ensures,
+      kept fits,
+      c .before .short-displacement3 .ensures,
+    )
+    (⊎-elim (λ e. rw e) (λ e. rw e) (c .before .before .match .keys3))
 
 returns-4 : tie.Need-returns-4
 unfolding formOf formAs entryOf flowOf
 returns-4 c =
     let fits : SFits w8 (c .before .short-displacement4 .result) = search needs in
-    rw (c .short4 .ensures, kept fits, c .before .short-displacement4 .ensures) (⊎-elim (λ e. rw e) (λ e. rw e) (c .before .before .match .keys4))
+    rw (
+      c .short4 .ensures,
+      kept fits,
+      c .before .short-displacement4 .ensures,
+    )
+    (⊎-elim (λ e. rw e) (λ e. rw e) (c .before .before .match .keys4))
 
 returns-5 : tie.Need-returns-5
 unfolding formOf formAs entryOf flowOf
@@ -139,7 +171,9 @@ returns-8 : tie.Need-returns-8
 returns-8 c = c .column-d .ensures _ _ _
 
 returns-9 : tie.Need-returns-9
-returns-9 c = by-digit (c .before .args .opcode % 16) (omega arith) (c .before .args .opcode) (c .before .fits .opcode .fits) refl (c .match .rest) _ _ _
+returns-9 c =
+    by-digit (c .before .args .opcode % 16) (omega arith) (c .before .args .opcode) (c .before .fits .opcode .fits) refl
+    (c .match .rest) _ _ _
 
 pub flow-by-spec : {M : Type 1} → statement M
 flow-by-spec =

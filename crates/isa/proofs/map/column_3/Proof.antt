@@ -20,14 +20,26 @@ returns : tie.Need-returns
 unfolding formOf formAs entryOf
 returns c =
     let fits : SFits w8 (c .before .long-displacement .result) = search needs in
-    rw (c .before .before .bit-number .ensures, kept fits, c .before .long-displacement .ensures, c .before .before .before .pre, c .if1 .taken)
+    rw (
+      c .before .before .bit-number .ensures,
+      kept fits,
+      c .before .long-displacement .ensures,
+      c .before .before .before .pre,
+      c .if1 .taken,
+    )
 
 returns-2 : tie.Need-returns-2
 unfolding formOf formAs entryOf
 returns-2 c =
     let fits : SFits w8 (c .before .long-displacement .result) = search needs in
     let odd : c .before .before .before .args .opcode / 16 % 2 ≡ 1 = omega arith in
-    rw (c .before .before .bit-number .ensures, kept fits, c .before .long-displacement .ensures, c .before .before .before .pre, odd)
+    rw (
+      c .before .before .bit-number .ensures,
+      kept fits,
+      c .before .long-displacement .ensures,
+      c .before .before .before .pre,
+      odd,
+    )
 
 pub column-3-spec : {M : Type 1} → statement M
 column-3-spec = tie.close (tie.spec bit-number-requires long-displacement-requires returns returns-2)

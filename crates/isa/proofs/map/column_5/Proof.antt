@@ -44,11 +44,15 @@ short-register-requires-2 c κs = search needs
 
 returns : tie.Need-returns
 unfolding formOf formAs entryOf
-returns c first second = ap (λ o. Is (I.Inc o)) (c .short-register .ensures) ∙ ⊎-elim (λ e. rw e) (⊎-elim (λ e. rw e) (⊎-elim (λ e. rw e) (λ e. rw e))) (c .before .match .keys1)
+returns c first second =
+    ap (λ o. Is (I.Inc o)) (c .short-register .ensures) ∙ ⊎-elim (λ e. rw e)
+    (⊎-elim (λ e. rw e) (⊎-elim (λ e. rw e) (λ e. rw e))) (c .before .match .keys1)
 
 returns-2 : tie.Need-returns-2
 unfolding formOf formAs entryOf
-returns-2 c first second = ap (λ o. Is (I.LoadA o)) (c .short-register2 .ensures) ∙ ⊎-elim (λ e. rw e) (⊎-elim (λ e. rw e) (⊎-elim (λ e. rw e) (λ e. rw e))) (c .before .match .keys2)
+returns-2 c first second =
+    ap (λ o. Is (I.LoadA o)) (c .short-register2 .ensures) ∙ ⊎-elim (λ e. rw e)
+    (⊎-elim (λ e. rw e) (⊎-elim (λ e. rw e) (λ e. rw e))) (c .before .match .keys2)
 
 returns-3 : tie.Need-returns-3
 returns-3 c = none (c .before .args .opcode) (c .before .fits .opcode .fits) (c .before .pre) (c .match .rest)

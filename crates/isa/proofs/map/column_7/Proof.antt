@@ -14,9 +14,12 @@ use Rattle.isa.proofs.map.column_7.Tie as tie
 
 -- an opcode of the column that is none of the keys
 abbrev Rest : ℕ → Type 0
-Rest k = (((((Unit × (k ≡ 0x17 → ⊥)) × (k ≡ 0x37 → ⊥)) × (k ≡ 0x57 → ⊥)) × (k ≡ 0xB7 → ⊥)) × (k ≡ 0xD7 → ⊥)) × (OneOf (0x77 ∷ 0x97 ∷ 0xF7 ∷ []) k → ⊥)
+Rest k =
+    (((((Unit × (k ≡ 0x17 → ⊥)) × (k ≡ 0x37 → ⊥)) × (k ≡ 0x57 → ⊥)) × (k ≡ 0xB7 → ⊥)) × (k ≡ 0xD7 → ⊥))
+    × (OneOf (0x77 ∷ 0x97 ∷ 0xF7 ∷ []) k → ⊥)
 
-through : (k : ℕ) → k < 256 → k % 16 ≡ 7 → Rest k → (first second : ℕ) → Is (onOperand k ThroughX) ≡ formOf k first second
+through : (k : ℕ) → k < 256 → k % 16 ≡ 7 → Rest k → (first second : ℕ)
+    → Is (onOperand k ThroughX) ≡ formOf k first second
 unfolding formOf formAs entryOf
 through = rows (λ k. Rest k → (first second : ℕ) → Is (onOperand k ThroughX) ≡ formOf k first second) 7
     (λ n first second. refl)
@@ -66,7 +69,9 @@ returns-6 c second = ⊎-elim (λ e. rw e) (⊎-elim (λ e. rw e) (λ e. rw e)) 
 returns-7 : tie.Need-returns-7
 returns-7 c second =
     ap Is (c .on-operand .ensures) ∙
-    through (c .before .before .args .opcode) (c .before .before .fits .opcode .fits) (c .before .before .pre) (c .before .match .rest) _ second
+    through (c .before .before .args .opcode) (c .before .before .fits .opcode .fits) (c .before .before .pre)
+    (c .before .match .rest) _ second
 
 pub column-7-spec : {M : Type 1} → statement M
-column-7-spec = tie.close (tie.spec on-operand-requires returns returns-2 returns-3 returns-4 returns-5 returns-6 returns-7)
+column-7-spec =
+    tie.close (tie.spec on-operand-requires returns returns-2 returns-3 returns-4 returns-5 returns-6 returns-7)

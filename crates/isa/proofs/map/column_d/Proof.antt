@@ -14,7 +14,10 @@ use Rattle.isa.proofs.map.column_d.Tie as tie
 
 -- an opcode of the column that is none of the keys
 abbrev Rest : ℕ → Type 0
-Rest k = ((((((((Unit × (OneOf (0x1D ∷ 0x5D ∷ 0x9D ∷ 0xDD ∷ []) k → ⊥)) × (OneOf (0x3D ∷ 0x7D ∷ 0xBD ∷ 0xFD ∷ []) k → ⊥)) × (k ≡ 0x0D → ⊥)) × (k ≡ 0x2D → ⊥)) × (k ≡ 0x4D → ⊥)) × (k ≡ 0x6D → ⊥)) × (k ≡ 0xAD → ⊥)) × (k ≡ 0xCD → ⊥)) × (k ≡ 0xED → ⊥)
+Rest k =
+    ((((((((Unit × (OneOf (0x1D ∷ 0x5D ∷ 0x9D ∷ 0xDD ∷ []) k → ⊥)) × (OneOf (0x3D ∷ 0x7D ∷ 0xBD ∷ 0xFD ∷ []) k → ⊥))
+    × (k ≡ 0x0D → ⊥)) × (k ≡ 0x2D → ⊥)) × (k ≡ 0x4D → ⊥)) × (k ≡ 0x6D → ⊥))
+    × (k ≡ 0xAD → ⊥)) × (k ≡ 0xCD → ⊥)) × (k ≡ 0xED → ⊥)
 
 none : (k : ℕ) → k < 256 → k % 16 ≡ 13 → Rest k → (first second : ℕ) → Undefined ≡ formOf k first second
 unfolding formOf formAs entryOf
@@ -44,11 +47,15 @@ short-register-requires-2 c κs = search needs
 
 returns : tie.Need-returns
 unfolding formOf formAs entryOf
-returns c = ap (λ o. Is (I.Dec o)) (c .short-register .ensures) ∙ ⊎-elim (λ e. rw e) (⊎-elim (λ e. rw e) (⊎-elim (λ e. rw e) (λ e. rw e))) (c .before .match .keys1)
+returns c =
+    ap (λ o. Is (I.Dec o)) (c .short-register .ensures) ∙ ⊎-elim (λ e. rw e)
+    (⊎-elim (λ e. rw e) (⊎-elim (λ e. rw e) (λ e. rw e))) (c .before .match .keys1)
 
 returns-2 : tie.Need-returns-2
 unfolding formOf formAs entryOf
-returns-2 c = ap (λ o. Is (I.StoreA o)) (c .short-register2 .ensures) ∙ ⊎-elim (λ e. rw e) (⊎-elim (λ e. rw e) (⊎-elim (λ e. rw e) (λ e. rw e))) (c .before .match .keys2)
+returns-2 c =
+    ap (λ o. Is (I.StoreA o)) (c .short-register2 .ensures) ∙ ⊎-elim (λ e. rw e)
+    (⊎-elim (λ e. rw e) (⊎-elim (λ e. rw e) (λ e. rw e))) (c .before .match .keys2)
 
 returns-3 : tie.Need-returns-3
 unfolding formOf formAs entryOf
@@ -82,4 +89,7 @@ returns-10 : tie.Need-returns-10
 returns-10 c = none (c .before .args .opcode) (c .before .fits .opcode .fits) (c .before .pre) (c .match .rest) _ _
 
 pub column-d-spec : {M : Type 1} → statement M
-column-d-spec = tie.close (tie.spec short-register-requires short-register-requires-2 returns returns-2 returns-3 returns-4 returns-5 returns-6 returns-7 returns-8 returns-9 returns-10)
+column-d-spec =
+    tie.close
+    (tie.spec short-register-requires short-register-requires-2 returns returns-2 returns-3 returns-4 returns-5
+    returns-6 returns-7 returns-8 returns-9 returns-10)

@@ -16,7 +16,10 @@ use Rattle.isa.proofs.map.form.Tie as tie
 
 -- a digit that is none of the keys
 abbrev Rest : ℕ → Type 0
-Rest d = ((((((((((Unit × (OneOf (0 ∷ 8 ∷ []) d → ⊥)) × (OneOf (2 ∷ 10 ∷ []) d → ⊥)) × (OneOf (4 ∷ 12 ∷ []) d → ⊥)) × (OneOf (6 ∷ 14 ∷ []) d → ⊥)) × (d ≡ 1 → ⊥)) × (d ≡ 9 → ⊥)) × (d ≡ 3 → ⊥)) × (d ≡ 5 → ⊥)) × (d ≡ 7 → ⊥)) × (d ≡ 11 → ⊥)) × (d ≡ 13 → ⊥)
+Rest d =
+    ((((((((((Unit × (OneOf (0 ∷ 8 ∷ []) d → ⊥)) × (OneOf (2 ∷ 10 ∷ []) d → ⊥)) × (OneOf (4 ∷ 12 ∷ []) d → ⊥))
+    × (OneOf (6 ∷ 14 ∷ []) d → ⊥)) × (d ≡ 1 → ⊥)) × (d ≡ 9 → ⊥)) × (d ≡ 3 → ⊥)) × (d ≡ 5 → ⊥))
+    × (d ≡ 7 → ⊥)) × (d ≡ 11 → ⊥)) × (d ≡ 13 → ⊥)
 
 last : (d : ℕ) → d < 16 → Rest d → d ≡ 15
 last = pick16 (λ d. Rest d → d ≡ 15)

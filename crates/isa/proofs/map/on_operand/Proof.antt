@@ -24,10 +24,12 @@ returns-6 : tie.Need-returns-6
 returns-6 c = let e : c .before .before .before .before .before .before .args .opcode / 32 ≡ 5 = omega arith in rw e
 
 returns-7 : tie.Need-returns-7
-returns-7 c = let e : c .before .before .before .before .before .before .before .args .opcode / 32 ≡ 6 = omega arith in rw e
+returns-7 c =
+    let e : c .before .before .before .before .before .before .before .args .opcode / 32 ≡ 6 = omega arith in rw e
 
 returns-8 : tie.Need-returns-8
-returns-8 c = let e : c .before .before .before .before .before .before .before .args .opcode / 32 ≡ 7 = omega arith in rw e
+returns-8 c =
+    let e : c .before .before .before .before .before .before .before .args .opcode / 32 ≡ 7 = omega arith in rw e
 
 pub on-operand-spec : {M : Type 1} → statement M
 on-operand-spec = tie.close (tie.spec returns returns-2 returns-3 returns-4 returns-5 returns-6 returns-7 returns-8)

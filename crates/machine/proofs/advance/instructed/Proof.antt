@@ -31,7 +31,7 @@ unfolding decodedOf
 returns c =
     let start = c .before .before .before .before .before .before in
     let decoded : decodeAt (start .args .image .now) (start .args .c .pc) ≡ refused (numbered (c .before .before .reason .given .0 .0)) =
-    sym (rw (c .before .before .reason .given .1) at (c .before .before .before .before .decode-in-range .ensures) ∙ in-range _ _ (start .pre .1) (start .pre .2)) in
+    sym (rw (c .before .before .reason .given .1) at (c .before .before .before .before .decode-in-range .ensures (start .pre .0)) ∙ in-range _ _ (start .pre .1) (start .pre .2)) in
     rw decoded (c .stopped .ensures _ _)
 
 returns-2 : tie.Need-returns-2
@@ -40,7 +40,7 @@ returns-2 c =
     let d = c .before .before .before .before .instruction .given in
     let start = c .before .before .before .before .before .before .before .before in
     let decoded : decodeAt (start .args .image .now) (start .args .c .pc) ≡ done (decode.instruction (d .0 .0) (d .0 .1 .0) (d .0 .1 .1 .0)) =
-    sym (rw (d .1) at (c .before .before .before .before .before .before .decode-in-range .ensures) ∙ in-range _ _ (start .pre .1) (start .pre .2)) in
+    sym (rw (d .1) at (c .before .before .before .before .before .before .decode-in-range .ensures (start .pre .0)) ∙ in-range _ _ (start .pre .1) (start .pre .2)) in
     let long : d .0 .1 .0 ≡ lengthOf (d .0 .0) = decoded-length _ _ _ _ _ decoded in
     rw (decoded, long) (c .executed .ensures)
 

@@ -1,10 +1,10 @@
--- `vectors::levels_for` meets its contract: by whether the source is wired.
+-- `levels::levels_for` meets its contract: by whether the source is wired.
 use native.Mathlib.Omega.{arith}
 use Rattle.certificate.specs.Levels.{levelsFor}
-use Rattle.certificate.proofs.Services.{need-most}
+use Rattle.certificate.proofs.SourceLevels.{need-most}
 use borrow.Author.Needs.{needs}
-use Rattle.certificate.proofs.vectors.levels_for.Statement.{statement}
-use Rattle.certificate.proofs.vectors.levels_for.Tie as tie
+use Rattle.certificate.proofs.levels.levels_for.Statement.{statement}
+use Rattle.certificate.proofs.levels.levels_for.Tie as tie
 
 names-requires : tie.Need-names-requires
 names-requires c κs = search needs

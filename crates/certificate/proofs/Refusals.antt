@@ -20,12 +20,18 @@ use Rattle.isa.specs.declared.Flow.{Flow}
 use Rattle.isa.specs.declared.Flow.the-variants as flow
 use Rattle.isa.specs.declared.Source.{Source}
 use Rattle.isa.specs.declared.Source.the-variants.{Nmi, First, Second, Third, Fourth}
-use Rattle.certificate.specs.declared.Successor.{Successor}
+use Rattle.certificate.specs.declared.successors.Successor.{Successor}
 use Rattle.certificate.specs.Marks.{markAt, Marked, kindOf, kindAt, needAt, lowest}
+use Rattle.certificate.specs.Findings.{passes, fault}
 use Rattle.certificate.specs.Successors.{placed, successorsOf, every, hasKind, allHaveKind, covers, coversAll}
+use Rattle.certificate.specs.Successors.{successorsFound}
+use Rattle.certificate.specs.Vectors.{vectorFound, sourceFound, vectorsFound}
 use Rattle.certificate.specs.Levels.{levelsOf}
-use Rattle.certificate.specs.Check.{passes, fault, flowFound, decodedFound, markFound, marksFound, vectorFound, sourceFound, vectorsFound, levelsFound, checkOf}
-use Rattle.certificate.specs.Refusals.{Some, Misplaced, WrongKind, TooSmall, malformed, outsideRom, undefinedOpcode, misplacedReturn, successorKind, needTooSmall, atInstruction, atMark, atMarks, startUp, atSource, atVectors, imageLength, certificateLength, unknownSource, tooManyLevels, AnswersFirst}
+use Rattle.certificate.specs.Check.{flowFound, decodedFound, markFound, marksFound, levelsFound, checkOf}
+use Rattle.certificate.specs.Refusals.{Some, Misplaced, WrongKind, TooSmall, malformed, outsideRom}
+use Rattle.certificate.specs.Refusals.{undefinedOpcode, misplacedReturn, successorKind, needTooSmall}
+use Rattle.certificate.specs.Refusals.{atInstruction, atMark, atMarks, startUp, atSource, atVectors, imageLength}
+use Rattle.certificate.specs.Refusals.{certificateLength, unknownSource, tooManyLevels, AnswersFirst}
 use Rattle.certificate.proofs.Facts.{well-formed, kind-of, mark-is, both-true, image-length, at-most-4096}
 use Rattle.isa.proofs.AtAddress.{AtAddress, at-address, defined}
 use Rattle.certificate.proofs.Deciding.{Decides, nothing, skip, ask, decides-then, describes}
@@ -68,21 +74,25 @@ every-right : (test : Successor → Bool) (P : Successor → Type 0) → ((s : S
     → (successors : List Successor) → every test successors ≡ true → Some P successors → ⊥
 every-right test P right [] e some = some
 every-right test P right (s ∷ successors) e (inl p) = right s (both-true (test s) (every test successors) e .0) p
-every-right test P right (s ∷ successors) e (inr some) = every-right test P right successors (both-true (test s) (every test successors) e .1) some
+every-right test P right (s ∷ successors) e (inr some) =
+    every-right test P right successors (both-true (test s) (every test successors) e .1) some
 
 every-wrong : (test : Successor → Bool) (P : Successor → Type 0) → ((s : Successor) → test s ≡ false → P s)
     → (successors : List Successor) → every test successors ≡ false → Some P successors
 every-wrong test P wrong [] e = true≢false e
 every-wrong test P wrong (s ∷ successors) e =
-    ⊎-elim (λ p. inl (wrong s p)) (λ p. inr (every-wrong test P wrong successors p)) (one-false (test s) (every test successors) e)
+    ⊎-elim (λ p. inl (wrong s p)) (λ p. inr (every-wrong test P wrong successors p))
+    (one-false (test s) (every test successors) e)
 
 module _ (certificate : List ℕ) where
   -- 16
-  kinds-right : (successors : List Successor) → allHaveKind certificate successors ≡ true → Some (WrongKind certificate) successors → ⊥
+  kinds-right : (successors : List Successor) → allHaveKind certificate successors ≡ true
+      → Some (WrongKind certificate) successors → ⊥
   unfolding allHaveKind
   kinds-right = every-right (hasKind certificate) (WrongKind certificate) (λ s e w. w (eqb-true _ (s .kind) e))
 
-  kinds-wrong : (successors : List Successor) → allHaveKind certificate successors ≡ false → Some (WrongKind certificate) successors
+  kinds-wrong : (successors : List Successor) → allHaveKind certificate successors ≡ false
+      → Some (WrongKind certificate) successors
   unfolding allHaveKind
   kinds-wrong = every-wrong (hasKind certificate) (WrongKind certificate) (λ s e. eqb-false _ (s .kind) e)
 
@@ -104,10 +114,12 @@ module _ (certificate : List ℕ) where
   -- 4, 5, 15, 16, 17 at a marked address, by what decoding answers
   decoded-decides : (a : ℕ) (d : Answer Decoding) → AtAddress a d → Marked certificate a
       → Decides (atInstruction certificate d a) (decodedFound certificate a (markAt certificate a) d)
-  unfolding decodedFound flowFound kindAt needAt
+  unfolding decodedFound flowFound successorsFound kindAt needAt
   decoded-decides a (refused r) (inl e) n = record { decided = inl ((n, ap refused e), e) }
   decoded-decides a (refused r) (inr e) n =
-      record { decided = inr ((λ p. let q = p .1 in let z : _≡_ {A = ℕ} 0 1 = cc in omega arith), inl ((n, ap refused e), e)) }
+      record {
+        decided = inr ((λ p. let q = p .1 in let z : _≡_ {A = ℕ} 0 1 = cc in omega arith), inl ((n, ap refused e), e));
+      }
   decoded-decides a (done (decode.instruction i bytes cycles)) w n =
       let d = done (decode.instruction i bytes cycles) in
       let kind = kindAt certificate a in
@@ -125,7 +137,8 @@ module _ (certificate : List ℕ) where
 
   -- the questions of an unmarked address: none applies
   unmarked-decides : (a : ℕ) (d : Answer Decoding) → markAt certificate a ≡ 0 → Decides (atMark certificate d a) passes
-  unmarked-decides a d e = record { decided = (λ p. p .0 e, (λ p. p .0 e, (λ p. p .0 e, (λ p. p .0 e, (λ p. p .0 e, (λ p. p .0 e, tt)))))) }
+  unmarked-decides a d e =
+      record { decided = (λ p. p .0 e, (λ p. p .0 e, (λ p. p .0 e, (λ p. p .0 e, (λ p. p .0 e, (λ p. p .0 e, tt)))))) }
 
   -- the mark at an address
   mark-decides : (image : List ℕ) (a mark : ℕ) → markAt certificate a ≡ mark → AtAddress a (decodeAt image a)
@@ -135,13 +148,21 @@ module _ (certificate : List ℕ) where
   mark-decides image a (suc m) e w =
       let n : Marked certificate a = λ z. omega arith in
       rw (← e)
-      (ask (malformed certificate a) (ltb 0 (kindOf (markAt certificate a))) (decodedFound certificate a (markAt certificate a) (decodeAt image a))
+      (ask (malformed certificate a) (ltb 0 (kindOf (markAt certificate a)))
+      (decodedFound certificate a (markAt certificate a) (decodeAt image a))
       (λ t p. p .1 (well-formed (markAt certificate a) (ltb-true 0 (kindOf (markAt certificate a)) t)))
-      (λ t. (n, λ f. let h = ltb-false 0 (kindOf (markAt certificate a)) t in let k = kind-of (markAt certificate a) f in let l = f .kind-least in omega arith))
+      (λ t. (
+        n,
+        λ f. let h = ltb-false 0 (kindOf (markAt certificate a)) t in
+            let k = kind-of (markAt certificate a) f in
+            let l = f .kind-least in
+            omega arith,
+      ))
       (λ _. decoded-decides a (decodeAt image a) w n))
 
   -- the marks of a part of the certificate
-  marks-decide : (image : List ℕ) (a : ℕ) (marks : List ℕ) → ((i : ℕ) → i < length marks → markAt certificate (a + i) ≡ getD marks i 0)
+  marks-decide : (image : List ℕ) (a : ℕ) (marks : List ℕ)
+      → ((i : ℕ) → i < length marks → markAt certificate (a + i) ≡ getD marks i 0)
       → ((i : ℕ) → i < length marks → AtAddress (a + i) (decodeAt image (a + i)))
       → Decides (atMarks certificate image (length marks) a) (marksFound image certificate a marks)
   unfolding marksFound
@@ -160,14 +181,17 @@ module _ (certificate : List ℕ) where
   start-up-decides : Decides (startUp certificate ∷ []) (vectorFound certificate 0xFFE 1)
   unfolding vectorFound
   start-up-decides =
-      ask (startUp certificate) (eqb (kindAt certificate 0xFFE) 1) passes (λ t p. p (eqb-true _ 1 t)) (λ t. eqb-false _ 1 t) (λ _. nothing)
+      ask (startUp certificate) (eqb (kindAt certificate 0xFFE) 1) passes (λ t p. p (eqb-true _ 1 t))
+      (λ t. eqb-false _ 1 t) (λ _. nothing)
 
-  source-decides : (wired : ℕ) (s : Source) → Decides (atSource certificate wired s ∷ []) (sourceFound certificate wired s)
+  source-decides : (wired : ℕ) (s : Source)
+      → Decides (atSource certificate wired s ∷ []) (sourceFound certificate wired s)
   unfolding sourceFound vectorFound
   source-decides wired s = go (isNamed wired s) refl
     where
       go : (w : Bool) → isNamed wired s ≡ w
-          → Decides (atSource certificate wired s ∷ []) (cond w (unless (eqb (kindAt certificate (vectorOf s)) 3) (fault (located 18 (vectorOf s))) passes) passes)
+          → Decides (atSource certificate wired s ∷ [])
+          (cond w (unless (eqb (kindAt certificate (vectorOf s)) 3) (fault (located 18 (vectorOf s))) passes) passes)
       go true w =
           ask (atSource certificate wired s) (eqb (kindAt certificate (vectorOf s)) 3) passes
           (λ t p. p .1 (eqb-true _ 3 t)) (λ t. (w, eqb-false _ 3 t)) (λ _. nothing)
@@ -186,11 +210,13 @@ module _ (certificate : List ℕ) where
   levels-decide : (wired : ℕ) → Decides (tooManyLevels certificate wired ∷ []) (levelsFound certificate wired)
   levels-decide wired =
       ask (tooManyLevels certificate wired) (leb (levelsOf certificate wired) 6) passes
-      (λ t p. let h = leb-true (levelsOf certificate wired) 6 t in omega arith) (λ t. leb-false (levelsOf certificate wired) 6 t) (λ _. nothing)
+      (λ t p. let h = leb-true (levelsOf certificate wired) 6 t in omega arith)
+      (λ t. leb-false (levelsOf certificate wired) 6 t) (λ _. nothing)
 
   -- the marks of a certificate of the image's length
   all-marks-decide : (image : List ℕ) → isImage (length image) ≡ true → length certificate ≡ length image
-      → Decides (atMarks certificate image (length certificate) (lowest certificate)) (marksFound image certificate (lowest certificate) certificate)
+      → Decides (atMarks certificate image (length certificate) (lowest certificate))
+      (marksFound image certificate (lowest certificate) certificate)
   all-marks-decide image e same =
       let fits = at-most-4096 (image-length (length image) e) in
       marks-decide image (lowest certificate) certificate
@@ -214,5 +240,6 @@ answers-first image certificate wired =
     (λ t p. p (eqb-true _ _ t)) (λ t. eqb-false _ _ t)
     (λ same. ask (unknownSource wired) (namesOnlySources wired) _ (λ t p. true≢false (sym t ∙ p)) (λ t. t)
     (λ _. decides-then _ _
-    (decides-then _ _ (all-marks-decide certificate image is-image (eqb-true (length certificate) (length image) same)) (vectors-decide certificate wired))
+    (decides-then _ _ (all-marks-decide certificate image is-image (eqb-true (length certificate) (length image) same))
+    (vectors-decide certificate wired))
     (levels-decide certificate wired)))))

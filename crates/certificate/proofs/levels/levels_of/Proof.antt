@@ -1,10 +1,10 @@
--- `vectors::levels_of` meets its contract: its calls, and bounds by which the sums fit.
+-- `levels::levels_of` meets its contract: its calls, and bounds by which the sums fit.
 use native.Mathlib.Omega.{arith}
 use Rattle.certificate.specs.Levels.{levelsOf}
-use Rattle.certificate.proofs.Services.{need-most, levels-most, sources-most}
+use Rattle.certificate.proofs.SourceLevels.{need-most, levels-most, sources-most}
 use borrow.Author.Needs.{needs}
-use Rattle.certificate.proofs.vectors.levels_of.Statement.{statement}
-use Rattle.certificate.proofs.vectors.levels_of.Tie as tie
+use Rattle.certificate.proofs.levels.levels_of.Statement.{statement}
+use Rattle.certificate.proofs.levels.levels_of.Tie as tie
 
 need-at-requires : tie.Need-need-at-requires
 need-at-requires c κs = search needs

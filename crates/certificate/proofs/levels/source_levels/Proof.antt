@@ -1,8 +1,8 @@
--- `vectors::source_levels` meets its contract: its calls.
-use Rattle.certificate.proofs.Services.{source-levels}
+-- `levels::source_levels` meets its contract: its calls.
+use Rattle.certificate.proofs.SourceLevels.{source-levels}
 use borrow.Author.Needs.{needs}
-use Rattle.certificate.proofs.vectors.source_levels.Statement.{statement}
-use Rattle.certificate.proofs.vectors.source_levels.Tie as tie
+use Rattle.certificate.proofs.levels.source_levels.Statement.{statement}
+use Rattle.certificate.proofs.levels.source_levels.Tie as tie
 
 levels-for-requires : tie.Need-levels-for-requires
 levels-for-requires c κs = search needs

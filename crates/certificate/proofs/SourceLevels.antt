@@ -19,15 +19,18 @@ one-more true n (m ∷ ns) = simp (one-add, suc-max-suc)
 one-more false n ns = sym (zero-max (ifAny ns))
 
 one-source : (certificate : List ℕ) (wired : ℕ) (s : Source) (sources : List Source)
-    → ifAny (wiredNeeds certificate wired (s ∷ sources)) ≡ max (levelsFor certificate wired s) (ifAny (wiredNeeds certificate wired sources))
+    → ifAny (wiredNeeds certificate wired (s ∷ sources))
+    ≡ max (levelsFor certificate wired s) (ifAny (wiredNeeds certificate wired sources))
 unfolding levelsFor
-one-source certificate wired s sources = one-more (isNamed wired s) (needAt certificate (vectorOf s)) (wiredNeeds certificate wired sources)
+one-source certificate wired s sources =
+    one-more (isNamed wired s) (needAt certificate (vectorOf s)) (wiredNeeds certificate wired sources)
 
 -- the definition by a list of needs is the greatest of four
 pub source-levels : (certificate : List ℕ) (wired : ℕ)
     → sourceLevels certificate wired
     ≡ max (levelsFor certificate wired First)
-    (max (levelsFor certificate wired Second) (max (levelsFor certificate wired Third) (levelsFor certificate wired Fourth)))
+    (max (levelsFor certificate wired Second)
+    (max (levelsFor certificate wired Third) (levelsFor certificate wired Fourth)))
 unfolding sourceLevels
 source-levels certificate wired =
     rw (
