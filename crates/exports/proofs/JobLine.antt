@@ -9,7 +9,7 @@ use Rattle.isa.specs.Refusals.{Numbered, plain, numbered, Answer, done, refused
 use Rattle.isa.specs.declared.Refusal.{Refusal}
 use Rattle.jobs.specs.declared.Answered.{Answered}
 use Rattle.jobs.specs.declared.Answered.the-variants.{Line, Refused}
-use Rattle.jobs.specs.Answers.{fits, Answers}
+use Rattle.jobs.specs.Answer.{fits, Answers}
 use Rattle.exports.specs.Answers.{word, refusalWord, answerWord}
 use Rattle.exports.specs.Lent.{Lent, lent, lineLent}
 

@@ -12,9 +12,9 @@ use Rattle.isa.specs.Encode.{encodeOf}
 use Rattle.machine.specs.State.{HostStore, resetOf, hostStoreOf}
 use Rattle.machine.specs.Step.{Step, stepOf}
 use Rattle.machine.specs.Run.{Run, runOf}
-use Rattle.jobs.specs.Jobs.{jobOf}
-use Rattle.jobs.specs.Lines.{lineOf}
-use Rattle.jobs.specs.Answers.{fits}
+use Rattle.jobs.specs.CheckJob.{jobOf}
+use Rattle.jobs.specs.Line.{lineOf}
+use Rattle.jobs.specs.Answer.{fits}
 use Rattle.exports.specs.Answers.{word, refusalWord, untypedWord, answerWord, endedWord, isTurnedDown}
 use Rattle.exports.specs.States.{Unpacked, typed, untyped, unpacked, packed}
 use Rattle.exports.specs.Fields.{decodedRow, unpackedInstruction}

@@ -13,7 +13,7 @@ use Rattle.certificate.specs.Marks.{lowest}
 use Rattle.certificate.specs.Check.{Verdict}
 use Rattle.certificate.specs.Refusals.{Question, FirstApplies, questions, atMark, atMarks, atVectors, tooManyLevels}
 use Rattle.certificate.proofs.Ordered.{answers-first}
-use Rattle.jobs.specs.Jobs.{isWhole, jobOf, imageOf, certificateOf, romBytes, wiredOf}
+use Rattle.jobs.specs.CheckJob.{isWhole, jobOf, imageOf, certificateOf, romBytes, wiredOf}
 use Rattle.jobs.specs.Addresses.{ThreeDigitsAreEnough}
 
 -- a refusal's address, if it has one, is below 1000h
