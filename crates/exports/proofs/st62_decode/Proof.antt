@@ -3,12 +3,12 @@ use mathlib.Core.Path.{_∙_}
 use borrow.Author.Tests.{le-leb, lt-leb}
 use borrow.Author.Needs.{needs}
 use Rattle.exports.specs.Lent.{decodeLent, decodedLent}
-use Rattle.exports.proofs.Beyond.{decode-beyond}
+use Rattle.exports.proofs.Clamping.{decode-clamped}
 use Rattle.exports.proofs.st62_decode.Statement.{statement}
 use Rattle.exports.proofs.st62_decode.Tie as tie
 
-address-or-end-requires : tie.Need-address-or-end-requires
-address-or-end-requires c κs = search needs
+clamp-address-requires : tie.Need-clamp-address-requires
+clamp-address-requires c κs = search needs
 
 decode-requires : tie.Need-decode-requires
 decode-requires c κs = search needs
@@ -28,7 +28,7 @@ refused-requires-2 c κs = search needs
 returns : tie.Need-returns
 unfolding decodeLent decodedLent
 returns c = rw (
-  ← ((rw (c .before .before .before .before .before .before .address-or-end .ensures) at (c .before .before .before .before .before .decode .ensures)) ∙ decode-beyond (c .before .before .before .before .before .before .before .before .before .args .image .now) (c .before .before .before .before .before .before .before .before .before .args .address)),
+  ← ((rw (c .before .before .before .before .before .before .clamp-address .ensures) at (c .before .before .before .before .before .decode .ensures)) ∙ decode-clamped (c .before .before .before .before .before .before .before .before .before .args .image .now) (c .before .before .before .before .before .before .before .before .before .args .address)),
   c .before .before .before .instruction .given .1,
   lt-leb _ _ (c .before .if1 .taken),
   c .refused2 .ensures,
@@ -46,7 +46,7 @@ done-requires c κs = search needs
 returns-2 : tie.Need-returns-2
 unfolding decodeLent decodedLent
 returns-2 c = rw (
-  ← ((rw (c .before .before .before .before .before .address-or-end .ensures) at (c .before .before .before .before .decode .ensures)) ∙ decode-beyond (c .before .before .before .before .before .before .before .before .args .image .now) (c .before .before .before .before .before .before .before .before .args .address)),
+  ← ((rw (c .before .before .before .before .before .clamp-address .ensures) at (c .before .before .before .before .decode .ensures)) ∙ decode-clamped (c .before .before .before .before .before .before .before .before .args .image .now) (c .before .before .before .before .before .before .before .before .args .address)),
   c .before .before .refusal .given .1,
   c .refused .ensures,
 )
@@ -57,7 +57,7 @@ same-length c = search needs
 returns-3 : tie.Need-returns-3
 unfolding decodeLent decodedLent
 returns-3 c = rw (
-  ← ((rw (c .before .before .before .before .before .before .before .before .before .before .address-or-end .ensures) at (c .before .before .before .before .before .before .before .before .before .decode .ensures)) ∙ decode-beyond (c .before .before .before .before .before .before .before .before .before .before .before .before .before .args .image .now) (c .before .before .before .before .before .before .before .before .before .before .before .before .before .args .address)),
+  ← ((rw (c .before .before .before .before .before .before .before .before .before .before .clamp-address .ensures) at (c .before .before .before .before .before .before .before .before .before .decode .ensures)) ∙ decode-clamped (c .before .before .before .before .before .before .before .before .before .before .before .before .before .args .image .now) (c .before .before .before .before .before .before .before .before .before .before .before .before .before .args .address)),
   c .before .before .before .before .before .before .before .instruction .given .1,
   le-leb _ _ (c .before .before .before .before .before .if1 .left),
   c .done .ensures,
@@ -68,7 +68,7 @@ pub st62-decode-spec : {M : Type 1} → statement M
 st62-decode-spec =
     tie.close
     (tie.spec
-    address-or-end-requires
+    clamp-address-requires
     decode-requires
     enum-known-refusal
     refused-requires

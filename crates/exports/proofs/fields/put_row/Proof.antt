@@ -2,7 +2,7 @@
 use mathlib.Core.Path.{refl, sym}
 use mathlib.Core.List.{[], _∷_}
 use borrow.Author.Needs.{needs}
-use Rattle.exports.proofs.Filling.{two-parts}
+use Rattle.exports.proofs.Pasting.{two-parts}
 use Rattle.exports.proofs.fields.put_row.Statement.{statement}
 use Rattle.exports.proofs.fields.put_row.Tie as tie
 

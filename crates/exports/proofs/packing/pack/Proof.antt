@@ -3,7 +3,7 @@ use mathlib.Core.Path.{sym}
 use native.Mathlib.Omega.{arith}
 use borrow.Author.Needs.{needs}
 use Rattle.exports.specs.States.{packed}
-use Rattle.exports.proofs.Filling.{three-parts}
+use Rattle.exports.proofs.Pasting.{three-parts}
 use Rattle.exports.proofs.packing.pack.Statement.{statement}
 use Rattle.exports.proofs.packing.pack.Tie as tie
 

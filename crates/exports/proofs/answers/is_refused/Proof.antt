@@ -1,7 +1,7 @@
--- `answers::is_turned_down` meets its contract.
+-- `answers::is_refused` meets its contract.
 use borrow.Author.Needs.{needs}
-use Rattle.exports.proofs.answers.is_turned_down.Statement.{statement}
-use Rattle.exports.proofs.answers.is_turned_down.Tie as tie
+use Rattle.exports.proofs.answers.is_refused.Statement.{statement}
+use Rattle.exports.proofs.answers.is_refused.Tie as tie
 
 enum-told : tie.Need-enum-told
 enum-told c = search needs
@@ -27,8 +27,8 @@ returns-2 c = rw (c .before .before .before .before .ending .given .1, ← c .be
 returns-3 : tie.Need-returns-3
 returns-3 c = rw (c .before .before .before .before .ending .given .1, ← c .before .before .number-of .ensures, c .enum-told3 .given .1)
 
-pub is-turned-down-spec : {M : Type 1} → statement M
-is-turned-down-spec =
+pub is-refused-spec : {M : Type 1} → statement M
+is-refused-spec =
     tie.close
     (tie.spec
     enum-told

@@ -20,8 +20,8 @@ unfolding stepOf
 step-by image m n true e = refl
 step-by image m n false e = rw (le-ltb n 32 (omega (arith, ltb-false n 256 e)))
 
-pub step-beyond : (image : List ℕ) (m : Machine) (n : ℕ) → stepOf image m (cond (ltb n 256) n 255) ≡ stepOf image m n
-step-beyond image m n = step-by image m n (ltb n 256) refl
+pub step-clamped : (image : List ℕ) (m : Machine) (n : ℕ) → stepOf image m (cond (ltb n 256) n 255) ≡ stepOf image m n
+step-clamped image m n = step-by image m n (ltb n 256) refl
 
 -- a refusal before the levels does not depend on them
 unwired : (a b : Bool) (n k : ℕ) → verdict n (unless a (fault (plain 1)) (unless b (fault (plain 13)) (fault (plain 11)))) ≡ verdict k (unless a (fault (plain 1)) (unless b (fault (plain 13)) (fault (plain 11))))
@@ -36,9 +36,9 @@ unfolding checkOf
 check-by image certificate n true e = refl
 check-by image certificate n false e = rw (le-ltb n 32 (omega (arith, ltb-false n 256 e))) (unwired (isImage (length image)) (eqb (length certificate) (length image)) (levelsOf certificate 255) (levelsOf certificate n))
 
-pub check-beyond :
+pub check-clamped :
     (image certificate : List ℕ) (n : ℕ) → checkOf image certificate (cond (ltb n 256) n 255) ≡ checkOf image certificate n
-check-beyond image certificate n = check-by image certificate n (ltb n 256) refl
+check-clamped image certificate n = check-by image certificate n (ltb n 256) refl
 
 decode-by :
     (image : List ℕ) (a : ℕ) (b : Bool) → ltb a 4096 ≡ b → decodeAt image (cond b a 4096) ≡ decodeAt image a
@@ -46,5 +46,5 @@ unfolding decodeAt
 decode-by image a true e = refl
 decode-by image a false e = rw e
 
-pub decode-beyond : (image : List ℕ) (a : ℕ) → decodeAt image (cond (ltb a 4096) a 4096) ≡ decodeAt image a
-decode-beyond image a = decode-by image a (ltb a 4096) refl
+pub decode-clamped : (image : List ℕ) (a : ℕ) → decodeAt image (cond (ltb a 4096) a 4096) ≡ decodeAt image a
+decode-clamped image a = decode-by image a (ltb a 4096) refl

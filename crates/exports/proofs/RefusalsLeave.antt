@@ -6,7 +6,7 @@ use mathlib.Core.List.{List}
 use native.Mathlib.Omega.{arith}
 use lib.Dec.{leb}
 use lib.ListN.{length}
-use Rattle.isa.specs.Refusals.{Numbered, plain, Answer, done, refused, unless}
+use Rattle.isa.specs.Refusals.{plain, Answer, done, refused, unless}
 use Rattle.isa.specs.RoundTrip.{Bytes}
 use Rattle.isa.specs.Decode.{decodeAt}
 use Rattle.isa.specs.Decode as decode
@@ -17,18 +17,19 @@ use Rattle.isa.specs.declared.Encoded.{Encoded}
 use Rattle.isa.proofs.WriteEffects.{write-effects}
 use Rattle.machine.specs.declared.Machine.{Machine}
 use Rattle.machine.specs.State.{isWellFormed, hostStored, inWindow, withByte, hostStoreOf}
-use Rattle.machine.specs.Step.{Step, stepOf}
-use Rattle.machine.specs.Step as step
-use Rattle.machine.specs.Laws.{Does, stops, takes, idles, executes}
-use Rattle.machine.proofs.StepDoes.{step-does, Tested, refuses, passes, step-tested}
+use Rattle.machine.specs.Step.{stepOf}
+use Rattle.jobs.specs.CheckJob.{jobOf}
+use Rattle.jobs.specs.Line.{lineOf}
+use Rattle.jobs.specs.Answer.{fits}
 use Rattle.exports.specs.declared.fields.Reading.{Reading}
 use Rattle.exports.specs.declared.fields.Reading.the-variants.{Is, Unreadable}
 use Rattle.exports.specs.Answers.{word, refusalWord, answerWord}
-use Rattle.exports.specs.States.{Unpacked, typed, untyped, unpacked, packed}
+use Rattle.exports.specs.States.{Unpacked, valid, invalid, unpacked, packed}
 use Rattle.exports.specs.Fields.{unpackedInstruction}
-use Rattle.exports.specs.Lent.{lent, decodedLent, decodeLent, writeBy, writeLent, resetBy, resetLent, storedLent, storeBy, storeLent, stepBy, stepLent}
+use Rattle.exports.specs.Lent.{lent, decodedLent, decodeLent, writeBy, writeLent, resetBy, resetLent, storedLent, storeBy, storeLent, stepBy, stepLent, jobLent}
 use Rattle.exports.specs.Laws.{Leaves, RefusalsLeave}
 use Rattle.exports.proofs.Inverse.{packing-inverts}
+use Rattle.exports.proofs.Runs.{step-keeps, run-leaves}
 
 -- what is done has no number
 done-number : (v : ℕ) → word 0 0 v % 0x100 ≡ 0
@@ -52,35 +53,23 @@ module _ (out : List ℕ) where
   read (Is i) k = written (encodeOf i) (outcome (encodeOf i) (length out)) refl k
   read Unreadable k = refl
 
--- a step that is refused or stops keeps the machine
-module _ (image : List ℕ) (m : Machine) (request : ℕ) where
-  does-keep : (t : Step) → Does image m request t → (r : Numbered) → t .answer ≡ refused r → t .machine ≡ m
-  does-keep t (stops n is) r e = refl
-  does-keep t (takes source asked room) r e = let z : _≡_ {A = ℕ} 0 1 = cc in absurd (omega arith)
-  does-keep t (idles none asleep) r e = let z : _≡_ {A = ℕ} 0 1 = cc in absurd (omega arith)
-  does-keep t (executes i bytes cycles none awake at room) r e = let z : _≡_ {A = ℕ} 0 1 = cc in absurd (omega arith)
-
-  tested-keep : (t : Step) → Tested image m request t → (r : Numbered) → t .answer ≡ refused r → t .machine ≡ m
-  tested-keep t (refuses n) r e = refl
-  tested-keep t (passes size formed) r e = does-keep t (step-does image m request size formed) r e
-
 module _ (s : List ℕ) (bytes : Bytes s) where
-  again : (m : Machine) → unpacked s ≡ typed m → packed m ≡ s
+  again : (m : Machine) → unpacked s ≡ valid m → packed m ≡ s
   again = packing-inverts .pack-unpack s bytes
 
   stepped :
-      (image : List ℕ) (m : Machine) (request : ℕ) → unpacked s ≡ typed m → (a : Answer ℕ) → stepOf image m request .answer ≡ a →
+      (image : List ℕ) (m : Machine) (request : ℕ) → unpacked s ≡ valid m → (a : Answer ℕ) → stepOf image m request .answer ≡ a →
       Leaves s (lent (answerWord a) (packed (stepOf image m request .machine)))
   stepped image m request u (done cycles) e k = absurd (k (done-number cycles))
   stepped image m request u (refused r) e k =
-      rw (tested-keep image m request (stepOf image m request) (step-tested image m request) r e) (again m u)
+      rw (step-keeps image m request r e) (again m u)
 
   by-state : (image : List ℕ) (request : ℕ) (u : Unpacked) → unpacked s ≡ u → Leaves s (stepBy image s request u)
-  by-state image request (typed m) e k = stepped image m request e (stepOf image m request .answer) refl k
-  by-state image request untyped e k = refl
+  by-state image request (valid m) e k = stepped image m request e (stepOf image m request .answer) refl k
+  by-state image request invalid e k = refl
 
   tests :
-      (m : Machine) (a value : ℕ) → unpacked s ≡ typed m → (formed outside : Bool) →
+      (m : Machine) (a value : ℕ) → unpacked s ≡ valid m → (formed outside : Bool) →
       Leaves s
       (storedLent
       (unless formed (hostStored m (refused (plain 2)))
@@ -91,23 +80,25 @@ module _ (s : List ℕ) (bytes : Bytes s) where
 
   stored : (a value : ℕ) (u : Unpacked) → unpacked s ≡ u → Leaves s (storeBy s a value u)
   unfolding hostStoreOf
-  stored a value (typed m) e k = tests m a value e (isWellFormed m) (not (inWindow a)) k
-  stored a value untyped e k = refl
+  stored a value (valid m) e k = tests m a value e (isWellFormed m) (not (inWindow a)) k
+  stored a value invalid e k = refl
 
   in-range : (a value : ℕ) (b : Bool) → Leaves s (cond b (storeBy s a value (unpacked s)) (lent (refusalWord (plain 8)) s))
   in-range a value true k = stored a value (unpacked s) refl k
   in-range a value false k = refl
 
 reset : (s : List ℕ) (u : Unpacked) → Leaves s (resetBy s u)
-reset s (typed m) k = absurd (k refl)
-reset s untyped k = refl
+reset s (valid m) k = absurd (k refl)
+reset s invalid k = refl
 
 pub refusals-leave : RefusalsLeave
-unfolding decodeLent writeLent resetLent storeLent stepLent
+unfolding decodeLent writeLent resetLent storeLent stepLent jobLent
 refusals-leave = record {
   by-decode = λ image address out. decoded out (decodeAt image address);
   by-write = λ fields out. read out (unpackedInstruction fields);
   by-reset = λ s. reset s (unpacked s);
   by-store = λ s bytes a value. in-range s bytes a value (leb a 255 && leb value 255);
   by-step = λ image s bytes request. by-state s bytes image request (unpacked s) refl;
+  by-run = run-leaves;
+  by-job = λ job line. with-room line (fits (lineOf (jobOf job)) line) (length (lineOf (jobOf job))) _;
 }

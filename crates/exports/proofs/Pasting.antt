@@ -10,15 +10,15 @@ use lib.ListN.{length, drop, length-append, length-drop, drop-of-length-le}
 use lib.Seq.{paste, take-all, take-at, drop-append-add, drop-drop}
 use Rattle.control.specs.declared.Control.{Control}
 use Rattle.machine.specs.declared.FlagPairs.{FlagPairs}
-use Rattle.exports.specs.States.{isTyped, controlBytes, stackBytes}
+use Rattle.exports.specs.States.{isValid, controlBytes, stackBytes}
 
 and-left : (a b : Bool) → a && b ≡ true → a ≡ true
 and-left true b e = refl
 and-left false b e = e
 
-pub typed-length : (s : List ℕ) → isTyped s ≡ true → length s ≡ 280
-unfolding isTyped
-typed-length s e = eqb-true (length s) 280 (and-left _ _ e)
+pub valid-length : (s : List ℕ) → isValid s ≡ true → length s ≡ 280
+unfolding isValid
+valid-length s e = eqb-true (length s) 280 (and-left _ _ e)
 
 -- a part pasted in where what stands before it ends
 paste-next :
