@@ -87,6 +87,7 @@ Promised image wired number =
 
 -- DEMAND 3. "Let an unpaged image, a set of wired interrupt sources and a certificate be accepted with some number of levels." Then of every
 -- list of calls all that is promised holds: "one claim about the whole list of calls, and not a claim for each call".
+-- proved by never-stops, proofs/Session
 abbrev pub NeverStops : Type 0
 NeverStops =
     (image certificate : List ℕ) (wired number : ℕ) → checkOf image certificate wired ≡ accepted number → Promised image wired number

@@ -2,7 +2,7 @@
 mod outcome;
 mod sample;
 
-use bench::pressing::reset_store_run;
+use bench::sequence::reset_store_run;
 use machine::Machine;
 use machine::state::fresh;
 use outcome::put_ran;

@@ -1,4 +1,4 @@
--- `bench::keys::key_reset` meets its contract: it begins as the other keys do, by `Lent.antt`'s `asked`, and stores the whole answer.
+-- `bench::keys::key_reset` meets its contract: it begins as the other keys do, by `KeyWalk.antt`'s `asked`, and stores the whole answer.
 use mathlib.Core.Path.{_≡_, refl, ap}
 use Prim.Native.Nat.{ℕ}
 use mathlib.Core.List.{[], _∷_, List}
@@ -29,9 +29,9 @@ use denote.Triple.Table.{cited}
 use denote.Triple.Walked.{Stays, walkOf, Walks, walked}
 use Rattle.machine.specs.State.{resetOf}
 use Rattle.machine.specs.declared.Machine.{Machine}
-use Rattle.bench.proofs.Lent as Lent
-use Rattle.bench.proofs.Close.{Met, leaves, proved, framed}
-use Rattle.bench.proofs.Lent.{begins, asked, closed, typed-machine, known-machine, vals}
+use Rattle.bench.proofs.KeyWalk as key-walk
+use Rattle.bench.proofs.FunctionWalk.{Met, leaves, proved, framed}
+use Rattle.bench.proofs.KeyWalk.{begins, asked, closed, typed-machine, known-machine, vals}
 use Rattle.machine.proofs.Machine as T
 use Rattle.machine.proofs.Machine.Laws as T′
 use Rattle.machine.proofs.state.reset as reset
@@ -44,7 +44,7 @@ use Rattle.bench.proofs.keys.key_reset.Statement as stated
 use Rattle.bench.proofs.keys.key_reset.Code as code
 
 abbrev stayed : Stays (key.ended .signature .params) (key.ended .kept)
-stayed = Lent.stayed {n = 1} tt [] [] (plain (λ _. unit)) tt
+stayed = key-walk.stayed {n = 1} tt [] [] (plain (λ _. unit)) tt
 
 module _ {M : Type 1} (𝓤 : URA M) (H : Heap 𝓤) (A : Atoms 𝓤) (W : Given 𝓤 H A) (at-mem : Memory → SProp 𝓤) (run : Routine → Fun 𝓤) (κ : Lft) (q : Share) (b o : ℕ) (γ : GName) (h : Machine) where
   abbrev Post : Val → SProp 𝓤
@@ -74,7 +74,7 @@ module _ {M : Type 1} (𝓤 : URA M) (H : Heap 𝓤) (A : Atoms 𝓤) (W : Given
         assigns ! (of-opd ! (unit-lit !)) (from ! (stop !)) (init ! 8 refl (tt, tt)) $ closed ! tt b o r (known-machine r v is) $ returns ! (look ! 7 refl) $
         -- [obs; the borrow; the token; the tokens; _3; _2; _1; _0; 3's; 2's; 1's; 0's]
         move ! (7 ∷ 11 ∷ 6 ∷ 10 ∷ 5 ∷ 9 ∷ 4 ∷ 8 ∷ []) $ leaves ! $ leaves ! $ leaves ! $ leaves ! $ free0 ! $ move ! (2 ∷ 3 ∷ []) $ join ! $ move ! (1 ∷ 2 ∷ 0 ∷ []) $
-        by ! (Lent.exits {n = 1} tt [] [] (plain (λ _. unit)) tt 𝓤 H A W (key.clauses 𝓤 H A at-mem run) (κ, tt) (q, tt) tt b o γ h tt tt tt r tt tt vunit
+        by ! (key-walk.exits {n = 1} tt [] [] (plain (λ _. unit)) tt 𝓤 H A W (key.clauses 𝓤 H A at-mem run) (κ, tt) (q, tt) tt b o γ h tt tt tt r tt tt vunit
         (factI 𝓤 _ (emp 𝓤) e) (qed W [] ∵ feqI ! (List Val) (vunit ∷ []) (vunit ∷ []) refl $ done !)))))))
 
 module _ {M : Type 1} (𝓤 : URA M) (H : Heap 𝓤) (A : Atoms 𝓤) (W : Given 𝓤 H A) (at-mem : Memory → SProp 𝓤) (run : Routine → Fun 𝓤) where
@@ -86,6 +86,6 @@ pub key-reset-spec : {M : Type 1} → stated.statement M
 unfolding code.routine
 key-reset-spec 𝓤 H 𝓜 𝓖 𝓡 =
     proved 𝓤 H 𝓜 𝓖 𝓡 code.env #bench·keys·key-reset code.function (code.unfolded 𝓤 H 𝓜 𝓡) key.ended stayed (key.clauses 𝓤 H (𝓖 .A) (𝓜 .mem) (𝓡 .run))
-    (Lent.goes {n = 1} tt [] [] (plain (λ _. unit)) tt 𝓤 H (𝓖 .A) (givenOf 𝓤 H 𝓜 𝓖) tt)
+    (key-walk.goes {n = 1} tt [] [] (plain (λ _. unit)) tt 𝓤 H (𝓖 .A) (givenOf 𝓤 H 𝓜 𝓖) tt)
     (walks 𝓤 H (𝓖 .A) (givenOf 𝓤 H 𝓜 𝓖) (𝓜 .mem) (𝓡 .run) _ _ (framed 𝓤 H 𝓜 𝓖 𝓡 code.env)
     (cited 𝓤 H (Met 𝓤 H (𝓖 .A) reset.ended (reset.clauses 𝓤 H (𝓖 .A) (𝓜 .mem) (𝓡 .run))) 𝓜 𝓡 code.env #machine·state·reset reset-def.routine code.calls-machine·state·reset (reset-thm.met 𝓤 H 𝓜 𝓖 𝓡)))

@@ -1,4 +1,4 @@
--- `bench::keys::key_store` meets its contract: its statements are walked by `Lent.antt`'s `asked` and `answers`. Here stand what the operation is passed, what it asks, and where the locals stand.
+-- `bench::keys::key_store` meets its contract: its statements are walked by `KeyWalk.antt`'s `asked` and `answers`. Here stand what the operation is passed, what it asks, and where the locals stand.
 use mathlib.Core.Path.{_≡_, refl}
 use Prim.Native.Nat.{ℕ, _<_, _^_}
 use mathlib.Core.List.{[], _∷_, List}
@@ -29,9 +29,9 @@ use denote.Triple.Walked.{Stays, walkOf, Walks, walked}
 use denote.Exit.{yes}
 use Rattle.machine.specs.State.{storedOf, hostStoreOf}
 use Rattle.machine.specs.declared.Machine.{Machine}
-use Rattle.bench.proofs.Lent as Lent
-use Rattle.bench.proofs.Close.{Met, leaves, proved, framed}
-use Rattle.bench.proofs.Lent.{begins, asked, answers, vals}
+use Rattle.bench.proofs.KeyWalk as key-walk
+use Rattle.bench.proofs.FunctionWalk.{Met, leaves, proved, framed}
+use Rattle.bench.proofs.KeyWalk.{begins, asked, answers, vals}
 use Rattle.bench.proofs.Answers.{low-ending, stored}
 use Rattle.machine.proofs.Machine as T
 use Rattle.machine.proofs.Stored.Laws as S′
@@ -51,7 +51,7 @@ abbrev ps : List (Slot 1)
 ps = plain (λ _. u8) ∷ plain (λ _. u8) ∷ []
 
 abbrev stayed : Stays (key.ended .signature .params) (key.ended .kept)
-stayed = Lent.stayed tt [] ps (plain (λ _. O.the-row)) (yes, (yes, tt))
+stayed = key-walk.stayed tt [] ps (plain (λ _. O.the-row)) (yes, (yes, tt))
 
 -- the contract that the proof cites
 abbrev Op : {M : Type 1} (𝓤 : URA M) (H : Heap 𝓤) (A : Atoms 𝓤) (at-mem : Memory → SProp 𝓤) (run : Routine → Fun 𝓤) → Contract 𝓤
@@ -97,7 +97,7 @@ module _ {M : Type 1} (𝓤 : URA M) (H : Heap 𝓤) (A : Atoms 𝓤) (W : Given
         -- [obs; the borrow; the token; the tokens; _5; _4; _1; _0; 5's; 4's; _3; …; _2; …; 1's; 0's]
         move ! (7 ∷ 15 ∷ 6 ∷ 14 ∷ 12 ∷ 13 ∷ 10 ∷ 11 ∷ 5 ∷ 9 ∷ 4 ∷ 8 ∷ []) $ leaves ! $ leaves ! $ leaves ! $ leaves ! $ leaves ! $ leaves ! $ free0 ! $
         move ! (2 ∷ 3 ∷ []) $ join ! $ move ! (1 ∷ 2 ∷ 0 ∷ []) $
-        by ! (Lent.exits tt [] ps (plain (λ _. O.the-row)) (yes, (yes, tt)) 𝓤 H A W (key.clauses 𝓤 H A at-mem run) (κ, tt) (q, tt) tt b o γ h xs at tt
+        by ! (key-walk.exits tt [] ps (plain (λ _. O.the-row)) (yes, (yes, tt)) 𝓤 H A W (key.clauses 𝓤 H A at-mem run) (κ, tt) (q, tt) tt b o γ h xs at tt
         (r .machine) (tt, (tt, tt)) (r .ending) (low-ending (r .ending)) (factI 𝓤 _ (emp 𝓤) e) (EL.makes O.the-type O′.the-plain 𝓤 H A (r .ending) _ (stored 𝓤 H A W .result-is r v is))))))))))
 
 module _ {M : Type 1} (𝓤 : URA M) (H : Heap 𝓤) (A : Atoms 𝓤) (W : Given 𝓤 H A) (at-mem : Memory → SProp 𝓤) (run : Routine → Fun 𝓤) where
@@ -109,6 +109,6 @@ pub key-store-spec : {M : Type 1} → stated.statement M
 unfolding code.routine
 key-store-spec 𝓤 H 𝓜 𝓖 𝓡 =
     proved 𝓤 H 𝓜 𝓖 𝓡 code.env #bench·keys·key-store code.function (code.unfolded 𝓤 H 𝓜 𝓡) key.ended stayed (key.clauses 𝓤 H (𝓖 .A) (𝓜 .mem) (𝓡 .run))
-    (Lent.goes tt [] ps (plain (λ _. O.the-row)) (yes, (yes, tt)) 𝓤 H (𝓖 .A) (givenOf 𝓤 H 𝓜 𝓖) ((λ κs x f. refl), ((λ κs x f. refl), tt)))
+    (key-walk.goes tt [] ps (plain (λ _. O.the-row)) (yes, (yes, tt)) 𝓤 H (𝓖 .A) (givenOf 𝓤 H 𝓜 𝓖) ((λ κs x f. refl), ((λ κs x f. refl), tt)))
     (walks 𝓤 H (𝓖 .A) (givenOf 𝓤 H 𝓜 𝓖) (𝓜 .mem) (𝓡 .run) _ _ (framed 𝓤 H 𝓜 𝓖 𝓡 code.env)
     (cited 𝓤 H (Op 𝓤 H (𝓖 .A) (𝓜 .mem) (𝓡 .run)) 𝓜 𝓡 code.env #machine·state·host-store store-def.routine code.calls-machine·state·host-store (store-thm.met 𝓤 H 𝓜 𝓖 𝓡)))

@@ -42,7 +42,7 @@ use denote.Exit.{yes}
 use Rattle.machine.specs.declared.Machine.{Machine}
 use Rattle.machine.proofs.Machine as T
 use Rattle.machine.proofs.Machine.Laws as T′
-use Rattle.bench.proofs.Close.{from-at, Met, Of, Tokens, Says, said, ends, dropped, fit-all, Silents, go-dropped, had-none, Ends}
+use Rattle.bench.proofs.FunctionWalk.{from-at, Met, Of, Tokens, Says, said, ends, dropped, fit-all, Silents, go-dropped, had-none, Ends}
 
 -- the machine value of a machine, and the list of it
 abbrev pub val : Machine → Val

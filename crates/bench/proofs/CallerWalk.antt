@@ -38,8 +38,8 @@ use denote.Triple.End.{Kepts}
 use Rattle.machine.specs.declared.Machine.{Machine}
 use Rattle.machine.proofs.Machine as T
 use Rattle.machine.proofs.Machine.Laws as T′
-use Rattle.bench.proofs.Close.{from-at, Met}
-use Rattle.bench.proofs.Lent.{val, vals, Key}
+use Rattle.bench.proofs.FunctionWalk.{from-at, Met}
+use Rattle.bench.proofs.KeyWalk.{val, vals, Key}
 
 -- a machine in the local at l is lent for the lifetime ν, and comes back at its last value
 module _ {M : Type 1} {𝓤 : URA M} {H : Heap 𝓤} {A : Atoms 𝓤} {K : Type 0} {W : Given 𝓤 H A} {Γ : List (Item 𝓤)} {G : Goal 𝓤 H} where

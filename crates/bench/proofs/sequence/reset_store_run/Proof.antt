@@ -1,4 +1,4 @@
--- `bench::pressing::reset_store_run` meets its contract: its statements are walked, and each key that it presses by `Held.antt`'s `pressed`. Here stand what each key is passed, and where the locals stand.
+-- `bench::sequence::reset_store_run` meets its contract: its statements are walked, and each key that it presses by `CallerWalk.antt`'s `pressed`. Here stand what each key is passed, and where the locals stand.
 -- All that the proof knows of the keys is that each meets its contract.
 use mathlib.Core.Path.{_≡_, refl, ap, _∙_}
 use Prim.Native.Nat.{ℕ, _<_, _^_}
@@ -41,9 +41,9 @@ use Rattle.machine.specs.Run.{reportOf, runOf}
 use Rattle.machine.specs.declared.Machine.{Machine}
 use Rattle.machine.specs.declared.Report.{Report}
 use Rattle.machine.specs.declared.Ran.{Ran}
-use Rattle.bench.proofs.Close.{Met, leaves, proved, framed, dropped, go-dropped, exits-plain}
-use Rattle.bench.proofs.Lent.{val, vals, typed-machine}
-use Rattle.bench.proofs.Held.{pressed}
+use Rattle.bench.proofs.FunctionWalk.{Met, leaves, proved, framed, dropped, go-dropped, exits-plain}
+use Rattle.bench.proofs.KeyWalk.{val, vals, typed-machine}
+use Rattle.bench.proofs.CallerWalk.{pressed}
 use Rattle.bench.proofs.Answers.{low-report}
 use Rattle.machine.proofs.Machine as T
 use Rattle.machine.proofs.Machine.Laws as T′
@@ -65,10 +65,10 @@ use Rattle.bench.proofs.keys.key_run as running
 use Rattle.bench.proofs.keys.key_run.Symbol as running-def
 use Rattle.bench.proofs.keys.key_run.Symbol.{name as #bench·keys·key-run}
 use Rattle.bench.proofs.keys.key_run.Met as running-thm
-use Rattle.bench.proofs.pressing.reset_store_run.Key.{name as #bench·pressing·reset-store-run}
-use Rattle.bench.proofs.pressing.reset_store_run as holder
-use Rattle.bench.proofs.pressing.reset_store_run.Statement as stated
-use Rattle.bench.proofs.pressing.reset_store_run.Code as code
+use Rattle.bench.proofs.sequence.reset_store_run.Key.{name as #bench·sequence·reset-store-run}
+use Rattle.bench.proofs.sequence.reset_store_run as holder
+use Rattle.bench.proofs.sequence.reset_store_run.Statement as stated
+use Rattle.bench.proofs.sequence.reset_store_run.Code as code
 
 abbrev ps : List (Slot 2)
 ps = shrSliceOf (0 ∷ []) tt (plain (λ _. u8)) ∷ plain (λ _. T.the-row) ∷ plain (λ _. u8) ∷ plain (λ _. u8) ∷ shrSliceOf (1 ∷ []) tt (plain (λ _. u8)) ∷ plain (λ _. u32) ∷ []
@@ -172,7 +172,7 @@ module _ {M : Type 1} (𝓤 : URA M) (H : Heap 𝓤) (A : Atoms 𝓤) (W : Given
 pub reset-store-run-spec : {M : Type 1} → stated.statement M
 unfolding code.routine
 reset-store-run-spec 𝓤 H 𝓜 𝓖 𝓡 =
-    proved 𝓤 H 𝓜 𝓖 𝓡 code.env #bench·pressing·reset-store-run code.function (code.unfolded 𝓤 H 𝓜 𝓡) holder.ended stayed (holder.clauses 𝓤 H (𝓖 .A) (𝓜 .mem) (𝓡 .run))
+    proved 𝓤 H 𝓜 𝓖 𝓡 code.env #bench·sequence·reset-store-run code.function (code.unfolded 𝓤 H 𝓜 𝓡) holder.ended stayed (holder.clauses 𝓤 H (𝓖 .A) (𝓜 .mem) (𝓡 .run))
     (go-dropped 𝓤 H (𝓖 .A) (givenOf 𝓤 H 𝓜 𝓖) ps (yes, (yes, (yes, (yes, (yes, (yes, tt)))))) ((λ κs x f. refl), ((λ κs x f. refl), ((λ κs x f. refl), ((λ κs x f. refl), ((λ κs x f. refl), ((λ κs x f. refl), tt)))))))
     (walks 𝓤 H (𝓖 .A) (givenOf 𝓤 H 𝓜 𝓖) (𝓜 .mem) (𝓡 .run) _ _ (framed 𝓤 H 𝓜 𝓖 𝓡 code.env)
     (cited 𝓤 H (ResetC 𝓤 H (𝓖 .A) (𝓜 .mem) (𝓡 .run)) 𝓜 𝓡 code.env #bench·keys·key-reset reset-def.routine code.calls-bench·keys·key-reset (reset-thm.met 𝓤 H 𝓜 𝓖 𝓡))
