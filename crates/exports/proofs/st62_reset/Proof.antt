@@ -19,7 +19,9 @@ same-length c = search needs
 
 returns : tie.Need-returns
 unfolding resetLent unpacked
-returns c = rw (← c .before .before .is-valid .ensures, not-true (c .before .before .is-valid .result) (c .before .if1 .taken), c .refused .ensures)
+returns c =
+    let at-is-valid = c .before .before in
+    rw (← at-is-valid .is-valid .ensures, not-true (at-is-valid .is-valid .result) (c .before .if1 .taken), c .refused .ensures)
 
 unpack-requires : tie.Need-unpack-requires
 unpack-requires c κs = valid-length _ (sym (c .before .before .is-valid .ensures) ∙ not-false _ (c .before .if1 .left))
@@ -28,7 +30,10 @@ reset-requires : tie.Need-reset-requires
 reset-requires c κs = search needs
 
 pack-requires : tie.Need-pack-requires
-pack-requires c κs = valid-length _ (sym (c .before .before .before .before .before .is-valid .ensures) ∙ not-false _ (c .before .before .before .before .if1 .left))
+pack-requires c κs =
+    let at-if1 = c .before .before .before .before in
+    let at-is-valid = at-if1 .before in
+    valid-length _ (sym (at-is-valid .is-valid .ensures) ∙ not-false _ (at-if1 .if1 .left))
 
 done-requires : tie.Need-done-requires
 done-requires c κs = search needs
@@ -38,14 +43,20 @@ same-length-2 c = search needs
 
 returns-2 : tie.Need-returns-2
 unfolding resetLent unpacked
-returns-2 c = rw (
-  ← c .before .before .before .before .before .before .before .before .before .is-valid .ensures,
-  not-false (c .before .before .before .before .before .before .before .before .before .is-valid .result) (c .before .before .before .before .before .before .before .before .if1 .left),
-  c .done .ensures,
-  c .before .before .before .pack .ensures,
-  c .before .before .before .before .before .reset .ensures,
-  c .before .before .before .before .before .before .unpack .ensures,
-)
+returns-2 c =
+    let at-pack = c .before .before .before in
+    let at-reset = at-pack .before .before in
+    let at-unpack = at-reset .before in
+    let at-if1 = at-unpack .before .before in
+    let at-is-valid = at-if1 .before in
+    rw (
+      ← at-is-valid .is-valid .ensures,
+      not-false (at-is-valid .is-valid .result) (at-if1 .if1 .left),
+      c .done .ensures,
+      at-pack .pack .ensures,
+      at-reset .reset .ensures,
+      at-unpack .unpack .ensures,
+    )
 
 pub st62-reset-spec : {M : Type 1} → statement M
 st62-reset-spec =

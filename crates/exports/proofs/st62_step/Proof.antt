@@ -20,7 +20,9 @@ same-length c = search needs
 
 returns : tie.Need-returns
 unfolding stepLent unpacked
-returns c = rw (← c .before .before .is-valid .ensures, not-true (c .before .before .is-valid .result) (c .before .if1 .taken), c .invalid-state .ensures)
+returns c =
+    let at-is-valid = c .before .before in
+    rw (← at-is-valid .is-valid .ensures, not-true (at-is-valid .is-valid .result) (c .before .if1 .taken), c .invalid-state .ensures)
 
 unpack-requires : tie.Need-unpack-requires
 unpack-requires c κs = valid-length _ (sym (c .before .before .is-valid .ensures) ∙ not-false _ (c .before .if1 .left))
@@ -32,7 +34,10 @@ step-requires : tie.Need-step-requires
 step-requires c κs = search needs
 
 pack-requires : tie.Need-pack-requires
-pack-requires c κs = valid-length _ (sym (c .before .before .before .before .before .before .before .is-valid .ensures) ∙ not-false _ (c .before .before .before .before .before .before .if1 .left))
+pack-requires c κs =
+    let at-if1 = c .before .before .before .before .before .before in
+    let at-is-valid = at-if1 .before in
+    valid-length _ (sym (at-is-valid .is-valid .ensures) ∙ not-false _ (at-if1 .if1 .left))
 
 step-word-requires : tie.Need-step-word-requires
 step-word-requires c κs = search needs
@@ -43,17 +48,23 @@ same-length-2 c = search needs
 returns-2 : tie.Need-returns-2
 unfolding stepLent unpacked
 returns-2 c =
+    let at-pack = c .before .before .before in
+    let at-step = at-pack .before .before .before in
+    let at-clamp-byte = at-step .before in
+    let at-unpack = at-clamp-byte .before in
+    let at-if1 = at-unpack .before .before in
+    let at-is-valid = at-if1 .before in
     rw (
-      ← c .before .before .before .before .before .before .before .before .before .before .before .is-valid .ensures,
-      not-false (c .before .before .before .before .before .before .before .before .before .before .before .is-valid .result) (c .before .before .before .before .before .before .before .before .before .before .if1 .left),
+      ← at-is-valid .is-valid .ensures,
+      not-false (at-is-valid .is-valid .result) (at-if1 .if1 .left),
       c .step-word .ensures,
-      c .before .before .before .pack .ensures,
+      at-pack .pack .ensures,
     )
     (ap steppedLent
     ((rw (
-      c .before .before .before .before .before .before .before .before .unpack .ensures,
-      c .before .before .before .before .before .before .before .clamp-byte .ensures,
-    ) at (c .before .before .before .before .before .before .step .ensures))
+      at-unpack .unpack .ensures,
+      at-clamp-byte .clamp-byte .ensures,
+    ) at (at-step .step .ensures))
     ∙ step-clamped _ _ _))
 
 pub st62-step-spec : {M : Type 1} → statement M

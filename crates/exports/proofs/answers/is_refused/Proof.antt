@@ -22,10 +22,16 @@ returns : tie.Need-returns
 returns c = search needs
 
 returns-2 : tie.Need-returns-2
-returns-2 c = rw (c .before .before .before .before .ending .given .1, ← c .before .before .number-of .ensures, c .enum-told2 .given .1)
+returns-2 c =
+    let at-number-of = c .before .before in
+    let at-ending = at-number-of .before .before in
+    rw (at-ending .ending .given .1, ← at-number-of .number-of .ensures, c .enum-told2 .given .1)
 
 returns-3 : tie.Need-returns-3
-returns-3 c = rw (c .before .before .before .before .ending .given .1, ← c .before .before .number-of .ensures, c .enum-told3 .given .1)
+returns-3 c =
+    let at-number-of = c .before .before in
+    let at-ending = at-number-of .before .before in
+    rw (at-ending .ending .given .1, ← at-number-of .number-of .ensures, c .enum-told3 .given .1)
 
 pub is-refused-spec : {M : Type 1} → statement M
 is-refused-spec =

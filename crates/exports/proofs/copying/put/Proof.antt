@@ -35,8 +35,10 @@ loop-less c = search needs
 
 loop-again : tie.Need-loop-again Inv-loop μ-loop
 loop-again c =
-    let start = c .before .before .before .args in
-    let at-loop = c .before .before .loop in
+    let at-loop = c .before .before in
+    let start = at-loop .before in
+    let start = start .args in
+    let at-loop = at-loop .loop in
     let fits : start .at + at-loop .i < length (start .out .now) = omega arith in (
       search needs,
       search needs,
@@ -48,7 +50,9 @@ same-length : tie.Need-same-length Inv-loop μ-loop
 same-length c = search needs
 
 returns : tie.Need-returns Inv-loop μ-loop
-returns c = let e : c .before .loop .i ≡ length (c .before .before .args .part .now) = omega arith in rw (← e) (c .before .loop .inv .2)
+returns c =
+    let start = c .before .before in
+    let e : c .before .loop .i ≡ length (start .args .part .now) = omega arith in rw (← e) (c .before .loop .inv .2)
 
 pub put-spec : {M : Type 1} → statement M
 put-spec =

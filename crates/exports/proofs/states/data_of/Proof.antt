@@ -32,8 +32,10 @@ loop-less c = search needs
 
 loop-again : tie.Need-loop-again Inv-loop μ-loop
 loop-again c =
-    let state = c .before .before .before .args .state .now in
-    let at-loop = c .before .before .loop in
+    let at-loop = c .before .before in
+    let start = at-loop .before in
+    let state = start .args .state .now in
+    let at-loop = at-loop .loop in
     let within : at-loop .i < length state = omega arith in
     let below : at-loop .i < length (at-loop .bytes) = omega arith in (
       search needs,

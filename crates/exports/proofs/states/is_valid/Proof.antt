@@ -21,7 +21,10 @@ shared-slice-read-if3 c = search needs
 
 returns-3 : tie.Need-returns-3
 unfolding isValid
-returns-3 c = rw (eq-eqb _ _ (c .before .before .before .before .if1 .left), le-leb _ _ (c .before .before .if2 .left), ne-eqb _ _ (c .if3 .taken))
+returns-3 c =
+    let at-if2 = c .before .before in
+    let at-if1 = at-if2 .before .before in
+    rw (eq-eqb _ _ (at-if1 .if1 .left), le-leb _ _ (at-if2 .if2 .left), ne-eqb _ _ (c .if3 .taken))
 
 flags-valid-requires : tie.Need-flags-valid-requires
 flags-valid-requires c κs = search needs

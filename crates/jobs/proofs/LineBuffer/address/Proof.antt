@@ -33,12 +33,16 @@ letter-requires-3 c κs = search needs
 
 returns : tie.Need-returns
 returns c =
+    let at-letter = c .before .before in
+    let at-glyph-of3 = at-letter .before in
+    let at-glyph-of2 = at-glyph-of3 .before in
+    let at-glyph-of = at-glyph-of2 .before in
     rw (
-      ← c .before .before .before .before .before .glyph-of .ensures,
-      ← c .before .before .before .before .glyph-of2 .ensures,
-      ← c .before .before .before .glyph-of3 .ensures,
+      ← at-glyph-of .glyph-of .ensures,
+      ← at-glyph-of2 .glyph-of2 .ensures,
+      ← at-glyph-of3 .glyph-of3 .ensures,
     )
-    (both (both (c .before .before .letter .ensures) (c .before .letter2 .ensures)) (c .letter3 .ensures))
+    (both (both (at-letter .letter .ensures) (c .before .letter2 .ensures)) (c .letter3 .ensures))
 
 pub address-spec : {M : Type 1} → statement M
 address-spec =

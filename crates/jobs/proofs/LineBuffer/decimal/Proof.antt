@@ -31,13 +31,18 @@ letter-requires-3 c κs = search needs
 
 returns-2 : tie.Need-returns-2
 returns-2 c =
-    let n = c .before .before .before .before .before .before .args .number in
-    let same : n / 10 % 10 ≡ n / 10 = omega (arith, c .before .before .if2 .taken) in
+    let at-if2 = c .before .before in
+    let at-glyph-of2 = at-if2 .before in
+    let at-if1 = at-glyph-of2 .before in
+    let at-glyph-of = at-if1 .before in
+    let start = at-glyph-of .before in
+    let n = start .args .number in
+    let same : n / 10 % 10 ≡ n / 10 = omega (arith, at-if2 .if2 .taken) in
     rw (
-      two-digits n (c .before .before .before .before .if1 .left) (c .before .before .if2 .taken),
+      two-digits n (at-if1 .if1 .left) (at-if2 .if2 .taken),
       ← same,
-      ← c .before .before .before .before .before .glyph-of .ensures,
-      ← c .before .before .before .glyph-of2 .ensures,
+      ← at-glyph-of .glyph-of .ensures,
+      ← at-glyph-of2 .glyph-of2 .ensures,
     )
     (both (c .before .letter2 .ensures) (c .letter3 .ensures))
 
@@ -55,14 +60,21 @@ letter-requires-6 c κs = search needs
 
 returns-3 : tie.Need-returns-3
 returns-3 c =
-    let n = c .before .before .before .before .before .before .before .before .args .number in
+    let at-letter4 = c .before .before in
+    let at-glyph-of3 = at-letter4 .before in
+    let at-if2 = at-glyph-of3 .before in
+    let at-glyph-of2 = at-if2 .before in
+    let at-if1 = at-glyph-of2 .before in
+    let at-glyph-of = at-if1 .before in
+    let start = at-glyph-of .before in
+    let n = start .args .number in
     rw (
-      three-digits n (c .before .before .before .before .before .before .if1 .left) (c .before .before .before .before .if2 .left) (search needs),
-      ← c .before .before .before .before .before .before .before .glyph-of .ensures,
-      ← c .before .before .before .before .before .glyph-of2 .ensures,
-      ← c .before .before .before .glyph-of3 .ensures,
+      three-digits n (at-if1 .if1 .left) (at-if2 .if2 .left) (search needs),
+      ← at-glyph-of .glyph-of .ensures,
+      ← at-glyph-of2 .glyph-of2 .ensures,
+      ← at-glyph-of3 .glyph-of3 .ensures,
     )
-    (both (both (c .before .before .letter4 .ensures) (c .before .letter5 .ensures)) (c .letter6 .ensures))
+    (both (both (at-letter4 .letter4 .ensures) (c .before .letter5 .ensures)) (c .letter6 .ensures))
 
 pub decimal-spec : {M : Type 1} → statement M
 decimal-spec =

@@ -17,8 +17,11 @@ same-length c = search needs
 
 returns : tie.Need-returns
 returns c =
-    rw (← c .before .before .before .before .before .check-job .ensures, ← c .before .before .before .before .line-of .ensures .content)
-    (c .before .before .write-line .ensures)
+    let at-write-line = c .before .before in
+    let at-line-of = at-write-line .before .before in
+    let at-check-job = at-line-of .before in
+    rw (← at-check-job .check-job .ensures, ← at-line-of .line-of .ensures .content)
+    (at-write-line .write-line .ensures)
 
 pub answer-spec : {M : Type 1} → statement M
 answer-spec =

@@ -41,7 +41,9 @@ returns c =
     (then (begun .new .ensures) (both (c .before .decimal .ensures) (c .letter .ensures)))
 
 returns-2 : tie.Need-returns-2
-returns-2 c = rw (c .before .before .before .checked2 .given .1, ← c .before .number-of .ensures) (c .refusal-line .ensures)
+returns-2 c =
+    let at-checked2 = c .before .before .before in
+    rw (at-checked2 .checked2 .given .1, ← c .before .number-of .ensures) (c .refusal-line .ensures)
 
 pub line-of-spec : {M : Type 1} → statement M
 line-of-spec =
