@@ -18,10 +18,12 @@ use Rattle.machine.specs.Run.{Run, refusedRun, joinedBy, continuedBy, stepsOf, 
 use Rattle.machine.proofs.Steps.{fits-at}
 use Rattle.certificate.specs.Rules.{Rules}
 use Rattle.certificate.proofs.Agreement.{agreement}
-use Rattle.bench.specs.Calls.{Call, step, run, store, reset, leaves, leavesAll, AsksOnly, FirstAskOnly, CallAsksOnly, AllAskOnly, unrolled}
+use Rattle.bench.specs.Calls.{Call, step, run, store, reset, leaves, leavesAll, AsksOnly, FirstAskOnly}
+use Rattle.bench.specs.Calls.{CallAsksOnly, AllAskOnly, unrolled}
 use Rattle.bench.specs.Session.{levelsInUse}
 use Rattle.bench.specs.StackEffect.{StackEffect, stackEffectOf}
-use Rattle.bench.specs.Balance.{Tally, cleared, counted, stepCounted, stepsCounted, callCounted, allCounted, Balances, BalancesAfter, Balanced, LevelsCounted}
+use Rattle.bench.specs.Balance.{Tally, cleared, counted, stepCounted, stepsCounted, callCounted, allCounted}
+use Rattle.bench.specs.Balance.{Balances, BalancesAfter, Balanced, LevelsCounted}
 use Rattle.bench.proofs.Stack.{length-inUse}
 use Rattle.bench.proofs.Moves as moves
 use Rattle.bench.proofs.Moves.{Moves}
@@ -36,7 +38,8 @@ levels-counted m = length-inUse (m .control .levels) (m .stack)
 
 -- a move has one address more exactly where it pushes, and one less where it pops
 pub move-balances : {certificate : List ℕ} {wired : ℕ} {d : StackEffect} {m m′ : Mode} {p p′ : ℕ} {s s′ : List ℕ}
-    → Moves certificate wired d m p s m′ p′ s′ → (t : Tally) → Balances (length s) t → Balances (length s′) (counted t d)
+    → Moves certificate wired d m p s m′ p′ s′ → (t : Tally) → Balances (length s) t
+    → Balances (length s′) (counted t d)
 unfolding counted
 move-balances moves.idles t b = b
 move-balances (moves.continues c) t b = b
@@ -55,7 +58,8 @@ unfolding levelsInUse resetOf
 just-reset m = refl
 
 module _ (image certificate : List ℕ) (wired number : ℕ) (ok : Rules image certificate wired number) where
-  step-balances : (m : Machine) → MachineInvariant certificate wired m → (request : ℕ) → AsksOnly wired request → (t : Tally) → BalancesAt m t
+  step-balances : (m : Machine) → MachineInvariant certificate wired m → (request : ℕ) → AsksOnly wired request
+      → (t : Tally) → BalancesAt m t
       → BalancesAt (stepOf image m request .machine) (stepCounted image m request t)
   unfolding stepCounted levelsInUse
   step-balances m g request asks t b = by-test (namesOnlySources request) refl
@@ -71,18 +75,25 @@ module _ (image certificate : List ℕ) (wired number : ℕ) (ok : Rules image c
     unfolding stepsOf stepsCounted
     steps-balance requests zero known asks = b
     steps-balance requests (suc n) known asks =
-        let before = steps-go image certificate wired number ok m g requests n (λ i h. known i (omega arith)) (λ i h. asks i (omega arith)) in
+        let before =
+        steps-go image certificate wired number ok m g requests n (λ i h. known i (omega arith))
+        (λ i h. asks i (omega arith)) in
         rw (continued-machine image (stepsOf image requests m n) (getD requests n 0) _ (before .ending))
-        (step-balances (stepsOf image requests m n .machine) (before .invariant) (getD requests n 0) (asks n (omega arith)) (stepsCounted image requests m n t)
+        (step-balances (stepsOf image requests m n .machine) (before .invariant) (getD requests n 0)
+        (asks n (omega arith)) (stepsCounted image requests m n t)
         (steps-balance requests n (λ i h. known i (omega arith)) (λ i h. asks i (omega arith))))
 
     run-balances : (requests : List ℕ) (n : ℕ) → FirstAskOnly wired requests n
-        → BalancesAt (runOf image m requests n .machine) (cond (leb n 65535 && requestsFit requests n) (stepsCounted image requests m n t) t)
+        → BalancesAt (runOf image m requests n .machine)
+        (cond (leb n 65535 && requestsFit requests n) (stepsCounted image requests m n t) t)
     run-balances requests n asks =
-        rw (run-is image certificate wired number ok m g requests n) (by-tests (leb n 65535) (requestsFit requests n) refl)
+        rw (run-is image certificate wired number ok m g requests n)
+        (by-tests (leb n 65535) (requestsFit requests n) refl)
       where
         by-tests : (short fit : Bool) → requestsFit requests n ≡ fit
-            → BalancesAt (unless short (refusedRun m (plain 12)) (unless fit (refusedRun m (plain 11)) (stepsOf image requests m n)) .machine)
+            → BalancesAt
+            (unless short (refusedRun m (plain 12))
+            (unless fit (refusedRun m (plain 11)) (stepsOf image requests m n)) .machine)
             (cond (short && fit) (stepsCounted image requests m n t) t)
         by-tests false fit e = b
         by-tests true false e = b
@@ -90,16 +101,20 @@ module _ (image certificate : List ℕ) (wired number : ℕ) (ok : Rules image c
 
     store-balances : (address value : ℕ) → BalancesAt (hostStoreOf m address value .machine) t
     unfolding hostStoreOf levelsInUse
-    store-balances address value = rw (well-formed image certificate wired number ok m g) (by-test (not (inWindow address)))
+    store-balances address value =
+        rw (well-formed image certificate wired number ok m g) (by-test (not (inWindow address)))
       where
         stored : (outside : Bool) → HostStore
-        stored outside = unless outside (record { machine = m; ending = refused (plain 10) }) (record { machine = withByte m address value; ending = (done tt) })
+        stored outside =
+            unless outside (record { machine = m; ending = refused (plain 10) })
+            (record { machine = withByte m address value; ending = (done tt) })
 
         by-test : (outside : Bool) → BalancesAt (stored outside .machine) t
         by-test true = b
         by-test false = b
 
-  call-balances : (c : Call) (m : Machine) → CallAsksOnly wired c → MachineInvariant certificate wired m → (t : Tally) → BalancesAt m t
+  call-balances : (c : Call) (m : Machine) → CallAsksOnly wired c → MachineInvariant certificate wired m → (t : Tally)
+      → BalancesAt m t
       → BalancesAt (leaves image c m) (callCounted image c m t)
   unfolding leaves callCounted
   call-balances (step request) m asks g t b = step-balances m g request asks t b
@@ -107,7 +122,8 @@ module _ (image certificate : List ℕ) (wired number : ℕ) (ok : Rules image c
   call-balances (store address value) m asks g t b = store-balances m g t b address value
   call-balances reset m asks g t b = just-reset m
 
-  all-balance : (calls : List Call) (m : Machine) → AllAskOnly wired calls → MachineInvariant certificate wired m → (t : Tally) → BalancesAt m t
+  all-balance : (calls : List Call) (m : Machine) → AllAskOnly wired calls → MachineInvariant certificate wired m
+      → (t : Tally) → BalancesAt m t
       → BalancesAt (leavesAll image calls m) (allCounted image calls m t)
   all-balance [] m asks g t b = b
   all-balance (c ∷ calls) m asks g t b =
@@ -116,14 +132,17 @@ module _ (image certificate : List ℕ) (wired number : ℕ) (ok : Rules image c
 
   -- a list of calls on a machine just reset
   after-calls : (m : Machine) (calls : List Call) → AllAskOnly wired calls → BalancesAfter image m calls
-  after-calls m calls asks = all-balance calls (resetOf m) asks (reset-invariant image certificate wired number ok m) cleared (just-reset m)
+  after-calls m calls asks =
+      all-balance calls (resetOf m) asks (reset-invariant image certificate wired number ok m) cleared (just-reset m)
 
 pub balanced : Balanced
 balanced =
     record {
       after-calls = λ image certificate wired number e m calls asks k.
-          after-calls image certificate wired number (agreement image certificate wired number .sound e) m (take k calls) (asks-take wired k calls asks);
+          after-calls image certificate wired number (agreement image certificate wired number .sound e) m
+          (take k calls) (asks-take wired k calls asks);
       after-steps = λ image certificate wired number e m calls asks k.
-          after-calls image certificate wired number (agreement image certificate wired number .sound e) m (take k (unrolled calls))
+          after-calls image certificate wired number (agreement image certificate wired number .sound e) m
+          (take k (unrolled calls))
           (asks-take wired k (unrolled calls) (asks-unrolled wired calls asks));
     }

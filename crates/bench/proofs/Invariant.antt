@@ -1,4 +1,5 @@
--- Control, a stack and a machine with frames: the invariant of a session, and what follows of levels and well-formedness.
+-- Control, a stack and a machine with frames: the invariant of a session, and what follows of levels and
+-- well-formedness.
 use Prim.Native.Nat.{ℕ, zero, suc, _≤_, _<_}
 use native.Mathlib.Omega.{arith}
 use mathlib.Core.Path.{_≡_, refl}
@@ -16,7 +17,8 @@ use Rattle.certificate.specs.Rules.{Rules}
 use Rattle.bench.specs.Session.{levelsInUse}
 use Rattle.bench.proofs.Stack.{length-inUse}
 use Rattle.bench.proofs.Marks.{below}
-use Rattle.bench.proofs.StackFrames.{StackFrames, start-up, main, subroutine, service, within-number, has-kind, at-reset}
+use Rattle.bench.proofs.StackFrames.{StackFrames, start-up, main, subroutine, service, within-number, has-kind}
+use Rattle.bench.proofs.StackFrames.{at-reset}
 
 -- six slots, and frames of the return addresses in use
 pub record Invariant (certificate : List ℕ) (wired : ℕ) (slots : List ℕ) (c : Control) : Type 0 where
@@ -32,7 +34,8 @@ Below [] = Unit {0}
 Below (a ∷ addresses) = (a < 0x1000) × Below addresses
 
 -- since each return address has a kind
-all-below : {certificate : List ℕ} {wired : ℕ} {m : Mode} {p : ℕ} {s : List ℕ} → StackFrames certificate wired m p s → Below s
+all-below : {certificate : List ℕ} {wired : ℕ} {m : Mode} {p : ℕ} {s : List ℕ} → StackFrames certificate wired m p s
+    → Below s
 all-below (start-up k h) = tt
 all-below (main k h) = tt
 all-below {certificate} (subroutine {r = r} f k h) = (below certificate r (has-kind f), all-below f)
@@ -56,6 +59,10 @@ module _ (image certificate : List ℕ) (wired number : ℕ) (ok : Rules image c
   pub well-formed : (m : Machine) → MachineInvariant certificate wired m → isWellFormed m ≡ true
   unfolding wellFormed levelsInUse
   well-formed m g =
-      let six : m .control .levels ≤ 6 = omega (arith, levels-within m g, length-inUse (m .control .levels) (m .stack), ok .at-most-six) in
-      rw (lt-leb 0x1000 (m .control .pc) (below certificate (m .control .pc) (has-kind (g .frames))), le-ltb 6 (m .control .levels) six)
+      let six : m .control .levels ≤ 6 =
+      omega (arith, levels-within m g, length-inUse (m .control .levels) (m .stack), ok .at-most-six) in
+      rw (
+        lt-leb 0x1000 (m .control .pc) (below certificate (m .control .pc) (has-kind (g .frames))),
+        le-ltb 6 (m .control .levels) six,
+      )
       (addresses-fit (m .control .levels) (m .stack) (all-below (g .frames)))

@@ -1,5 +1,5 @@
--- The frames of a machine under an accepted certificate: where it executes, and its return addresses, each with the code that it goes
--- back to. This is the invariant of demand 3.
+-- The frames of a machine under an accepted certificate: where it executes, and its return addresses, each with the
+-- code that it goes back to. This is the invariant of demand 3.
 use Prim.Native.Nat.{ℕ, _+_, _≤_}
 use native.Mathlib.Omega.{arith}
 use mathlib.Core.Path.{_≡_}
@@ -17,7 +17,8 @@ bound certificate wired Reset = needAt certificate 0xFFE
 bound certificate wired Normal = needAt certificate 0xFFE
 bound certificate wired Interrupt = needAt certificate 0xFFE + sourceLevels certificate wired
 bound certificate wired NmiOverNormal = needAt certificate 0xFFE + levelsFor certificate wired Nmi
-bound certificate wired NmiOverInterrupt = needAt certificate 0xFFE + sourceLevels certificate wired + levelsFor certificate wired Nmi
+bound certificate wired NmiOverInterrupt =
+    needAt certificate 0xFFE + sourceLevels certificate wired + levelsFor certificate wired Nmi
 
 bound-most : (certificate : List ℕ) (wired : ℕ) (m : Mode) → bound certificate wired m ≤ levelsOf certificate wired
 unfolding bound levelsOf
@@ -33,15 +34,19 @@ pub data Over : Mode → Mode → Type 0 where
   nmi-normal : Over NmiOverNormal Normal
   nmi-interrupt : Over NmiOverInterrupt Interrupt
 
--- Executing at p in a mode, with the return addresses s, the top first: start-up or main code with none; a subroutine, above frames of the
--- same mode; or a service, above frames of the mode that it interrupted.
+-- Executing at p in a mode, with the return addresses s, the top first: start-up or main code with none; a subroutine,
+-- above frames of the same mode; or a service, above frames of the mode that it interrupted.
 pub data StackFrames (certificate : List ℕ) (wired : ℕ) : Mode → ℕ → List ℕ → Type 0 where
-  start-up : {p : ℕ} → kindAt certificate p ≡ 1 → needAt certificate p ≤ bound certificate wired Reset → StackFrames certificate wired Reset p []
-  main : {p : ℕ} → kindAt certificate p ≡ 2 → needAt certificate p ≤ bound certificate wired Normal → StackFrames certificate wired Normal p []
+  start-up : {p : ℕ} → kindAt certificate p ≡ 1 → needAt certificate p ≤ bound certificate wired Reset
+      → StackFrames certificate wired Reset p []
+  main : {p : ℕ} → kindAt certificate p ≡ 2 → needAt certificate p ≤ bound certificate wired Normal
+      → StackFrames certificate wired Normal p []
   subroutine : {m : Mode} {p r : ℕ} {s : List ℕ} → StackFrames certificate wired m r s
-      → kindAt certificate p ≡ 4 → needAt certificate p + length (r ∷ s) ≤ bound certificate wired m → StackFrames certificate wired m p (r ∷ s)
+      → kindAt certificate p ≡ 4 → needAt certificate p + length (r ∷ s) ≤ bound certificate wired m
+      → StackFrames certificate wired m p (r ∷ s)
   service : {m under : Mode} {p q : ℕ} {s : List ℕ} → Over m under → StackFrames certificate wired under q s
-      → kindAt certificate p ≡ 3 → needAt certificate p + length (q ∷ s) ≤ bound certificate wired m → StackFrames certificate wired m p (q ∷ s)
+      → kindAt certificate p ≡ 3 → needAt certificate p + length (q ∷ s) ≤ bound certificate wired m
+      → StackFrames certificate wired m p (q ∷ s)
 
 -- reset mode with no return address
 abbrev pub AtStart : Mode → List ℕ → Type 0
@@ -54,14 +59,16 @@ AtStart NmiOverInterrupt s = ⊥
 
 module _ {certificate : List ℕ} {wired : ℕ} where
   -- the need at PC is still free
-  pub within : {m : Mode} {p : ℕ} {s : List ℕ} → StackFrames certificate wired m p s → needAt certificate p + length s ≤ bound certificate wired m
+  pub within : {m : Mode} {p : ℕ} {s : List ℕ} → StackFrames certificate wired m p s
+      → needAt certificate p + length s ≤ bound certificate wired m
   within (start-up k h) = omega arith
   within (main k h) = omega arith
   within (subroutine f k h) = h
   within (service o f k h) = h
 
   -- the levels in use are at most the certificate's number
-  pub within-number : {m : Mode} {p : ℕ} {s : List ℕ} → StackFrames certificate wired m p s → length s ≤ levelsOf certificate wired
+  pub within-number : {m : Mode} {p : ℕ} {s : List ℕ} → StackFrames certificate wired m p s
+      → length s ≤ levelsOf certificate wired
   within-number {m} f = let h = within f in let b = bound-most certificate wired m in omega arith
 
   -- PC is at a marked address
@@ -86,7 +93,8 @@ module _ {certificate : List ℕ} {wired : ℕ} where
   reti-empty (main k h) e = omega arith
 
   -- start-up code runs in reset mode with none
-  pub at-start : {m : Mode} {p : ℕ} {s : List ℕ} → StackFrames certificate wired m p s → kindAt certificate p ≡ 1 → AtStart m s
+  pub at-start : {m : Mode} {p : ℕ} {s : List ℕ} → StackFrames certificate wired m p s → kindAt certificate p ≡ 1
+      → AtStart m s
   at-start (start-up k h) e = tt
   at-start (main k h) e = absurd (omega arith)
   at-start (subroutine f k h) e = absurd (omega arith)

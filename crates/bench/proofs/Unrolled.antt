@@ -57,7 +57,8 @@ module _ (wired : ℕ) where
   asks-steps : (requests : List ℕ) (n : ℕ) → FirstAskOnly wired requests n → AllAskOnly wired (asSteps requests n)
   asks-steps requests zero asks = tt
   asks-steps requests (suc n) asks =
-      asks-append (asSteps requests n) (step (getD requests n 0) ∷ []) (asks-steps requests n (λ i h. asks i (omega arith)))
+      asks-append (asSteps requests n) (step (getD requests n 0) ∷ [])
+      (asks-steps requests n (λ i h. asks i (omega arith)))
       (asks n (omega arith), tt)
 
   asks-call : (c : Call) → CallAsksOnly wired c → AllAskOnly wired (unrolledCall c)
@@ -72,7 +73,8 @@ module _ (wired : ℕ) where
 
   pub asks-unrolled : (calls : List Call) → AllAskOnly wired calls → AllAskOnly wired (unrolled calls)
   asks-unrolled [] asks = tt
-  asks-unrolled (c ∷ calls) asks = asks-append (unrolledCall c) (unrolled calls) (asks-call c (asks .0)) (asks-unrolled calls (asks .1))
+  asks-unrolled (c ∷ calls) asks =
+      asks-append (unrolledCall c) (unrolled calls) (asks-call c (asks .0)) (asks-unrolled calls (asks .1))
 
 -- the machine after one more step of a run
 joined-machine : (r : Run) (m : Machine) (a : Answer ℕ) → joinedBy r m a .machine ≡ m
@@ -85,7 +87,8 @@ continued-machine image r request e q =
     rw q (joined-machine r (stepOf image (r .machine) request .machine) (stepOf image (r .machine) request .answer))
 
 module _ (image : List ℕ) where
-  pub leaves-append : (xs ys : List Call) (m : Machine) → leavesAll image (xs ++ ys) m ≡ leavesAll image ys (leavesAll image xs m)
+  pub leaves-append : (xs ys : List Call) (m : Machine)
+      → leavesAll image (xs ++ ys) m ≡ leavesAll image ys (leavesAll image xs m)
   leaves-append [] ys m = refl
   leaves-append (c ∷ xs) ys m = leaves-append xs ys (leaves image c m)
 
@@ -94,7 +97,8 @@ module _ (image : List ℕ) where
       → leavesAll image (asSteps requests n) m ≡ stepsOf image requests m n .machine
   unfolding stepsOf leaves
   steps-unrolled requests m zero e = refl
-  steps-unrolled requests m (suc n) e = by-ending (stepsOf image requests m n .report .ending) refl (steps-unrolled requests m n) e
+  steps-unrolled requests m (suc n) e =
+      by-ending (stepsOf image requests m n .report .ending) refl (steps-unrolled requests m n) e
     where
       before : Run
       before = stepsOf image requests m n
@@ -122,7 +126,8 @@ module _ (image certificate : List ℕ) (wired number : ℕ) (ok : Rules image c
     where
       by-tests : (short fit : Bool) → requestsFit requests n ≡ fit
           → leavesAll image (cond (short && fit) (asSteps requests n) []) m
-          ≡ unless short (refusedRun m (plain 12)) (unless fit (refusedRun m (plain 11)) (stepsOf image requests m n)) .machine
+          ≡ unless short (refusedRun m (plain 12))
+          (unless fit (refusedRun m (plain 11)) (stepsOf image requests m n)) .machine
       by-tests false fit e = refl
       by-tests true false e = refl
       by-tests true true e =
@@ -144,6 +149,7 @@ unrolled-leaves =
     record {
       same = λ image certificate wired number e m calls asks.
           let ok = agreement image certificate wired number .sound e in
-          all-unrolled image certificate wired number ok calls (resetOf m) asks (reset-invariant image certificate wired number ok m);
+          all-unrolled image certificate wired number ok calls (resetOf m) asks
+          (reset-invariant image certificate wired number ok m);
       asks = asks-unrolled;
     }

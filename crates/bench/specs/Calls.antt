@@ -1,5 +1,5 @@
--- Lists of calls on one machine, what they leave, and which sources ask (the customer's demand 3; document 01, "The certificate", last
--- paragraph).
+-- Lists of calls on one machine, what they leave, and which sources ask (the customer's demand 3; document 01, "The
+-- certificate", last paragraph).
 use Prim.Native.Nat.{ℕ, zero, suc, _<_}
 use mathlib.Core.Path.{_≡_}
 use mathlib.Core.Bool.{true, cond, _&&_}
@@ -28,7 +28,8 @@ leaves image (run requests n) m = runOf image m requests n .machine
 leaves image (store address value) m = hostStoreOf m address value .machine
 leaves image reset m = resetOf m
 
--- "each call gets the machine as the one before left it, nobody else writes it": the machine as a list of calls leaves it
+-- "each call gets the machine as the one before left it, nobody else writes it": the machine that a list
+-- of calls leaves
 abbrev pub leavesAll : (image : List ℕ) → List Call → Machine → Machine
 leavesAll image [] m = m
 leavesAll image (c ∷ calls) m = leavesAll image calls (leaves image c m)
@@ -37,7 +38,8 @@ leavesAll image (c ∷ calls) m = leavesAll image calls (leaves image c m)
 abbrev pub AsksOnly : (wired request : ℕ) → Type 0
 AsksOnly wired request = (s : Source) → isNamed request s ≡ true → isNamed wired s ≡ true
 
--- "each of the first n of a run of n steps": "request byte i at step i and none past the lent list's end", where it is 0
+-- "each of the first n of a run of n steps": "request byte i at step i and none past the lent list's end", where the
+-- byte is 0
 abbrev pub FirstAskOnly : (wired : ℕ) → (requests : List ℕ) → (n : ℕ) → Type 0
 FirstAskOnly wired requests n = (i : ℕ) → i < n → AsksOnly wired (getD requests i 0)
 
@@ -58,7 +60,8 @@ AllAskOnly wired (c ∷ calls) = CallAsksOnly wired c × AllAskOnly wired calls
 abbrev pub NoneAsks : Type 0
 NoneAsks = (wired : ℕ) → AsksOnly wired 0
 
--- "A run of n steps is n single steps, with request byte i at step i and none past the lent list's end": the byte there is 0
+-- "A run of n steps is n single steps, with request byte i at step i and none past the lent list's end": there
+-- the byte is 0
 abbrev pub asSteps : (requests : List ℕ) → (n : ℕ) → List Call
 asSteps requests zero = []
 asSteps requests (suc n) = asSteps requests n ++ (step (getD requests n 0) ∷ [])
@@ -70,7 +73,8 @@ unrolledCall (run requests n) = cond (leb n 65535 && requestsFit requests n) (as
 unrolledCall (store address value) = store address value ∷ []
 unrolledCall reset = reset ∷ []
 
--- a list of calls with its runs as steps, so that the machine after every step is one that a first part of the list leaves
+-- a list of calls with its runs as steps, so that the machine after every step is one that a first part of
+-- the list leaves
 abbrev pub unrolled : List Call → List Call
 unrolled [] = []
 unrolled (c ∷ calls) = unrolledCall c ++ unrolled calls

@@ -1,4 +1,5 @@
--- The effect of a step on the stack of return addresses: by the request that it takes, or the CALL, RET or RETI that it executes.
+-- The effect of a step on the stack of return addresses: by the request that it takes, or the CALL, RET or RETI that it
+-- executes.
 use Prim.Native.Nat.{ℕ}
 use mathlib.Core.Bool.{cond}
 use mathlib.Core.List.{List}
@@ -27,7 +28,8 @@ pub data StackEffect : Type 0 where
   by-ret : StackEffect
   -- "RETI pops PC and returns to the mode beneath"
   by-reti : StackEffect
-  -- the RETI that ends start-up code: "in reset mode with an empty stack it pops nothing and goes on at the next address"
+  -- the RETI that ends start-up code: "in reset mode with an empty stack it pops nothing and goes on at the next
+  -- address"
   by-start-up : StackEffect
   -- any other instruction; "a sleeping step with nothing to take is idle"
   none : StackEffect
@@ -58,4 +60,5 @@ respondEffect image c Nothing = unrequestedEffect image c
 
 -- of a step, where it is not refused and does not stop
 unfoldable pub stackEffectOf : (image : List ℕ) → Machine → (request : ℕ) → StackEffect
-stackEffectOf image m request = respondEffect image (m .control) (requestedOf (m .control .mode) (enabledOf (m .bytes)) request)
+stackEffectOf image m request =
+    respondEffect image (m .control) (requestedOf (m .control .mode) (enabledOf (m .bytes)) request)

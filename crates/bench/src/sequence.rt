@@ -17,7 +17,8 @@ pub fn reset_store_run(
     requests: &[u8],
     n: u32,
 ) -> Ran
-    ensures { λ r. ⌜ ranOf r ≡ runOf (now (image .entry)) (hostStoreOf (resetOf m) address value .machine) (now (requests .entry)) n ⌝ }
+    ensures { λ r. ⌜ ranOf r
+        ≡ runOf (now (image .entry)) (hostStoreOf (resetOf m) address value .machine) (now (requests .entry)) n ⌝ }
 {
     let mut held = m;
     key_reset(&mut held);

@@ -15,7 +15,8 @@ use Rattle.machine.specs.Step.{stepOf}
 use Rattle.certificate.specs.Levels.{levelsOf}
 use Rattle.certificate.specs.Check.{fault, verdict, checkOf}
 
-step-by : (image : List ℕ) (m : Machine) (n : ℕ) (b : Bool) → ltb n 256 ≡ b → stepOf image m (cond b n 255) ≡ stepOf image m n
+step-by : (image : List ℕ) (m : Machine) (n : ℕ) (b : Bool) → ltb n 256 ≡ b
+    → stepOf image m (cond b n 255) ≡ stepOf image m n
 unfolding stepOf
 step-by image m n true e = refl
 step-by image m n false e = rw (le-ltb n 32 (omega (arith, ltb-false n 256 e)))
@@ -24,7 +25,9 @@ pub step-clamped : (image : List ℕ) (m : Machine) (n : ℕ) → stepOf image m
 step-clamped image m n = step-by image m n (ltb n 256) refl
 
 -- a refusal before the levels does not depend on them
-unwired : (a b : Bool) (n k : ℕ) → verdict n (unless a (fault (plain 1)) (unless b (fault (plain 13)) (fault (plain 11)))) ≡ verdict k (unless a (fault (plain 1)) (unless b (fault (plain 13)) (fault (plain 11))))
+unwired : (a b : Bool) (n k : ℕ)
+    → verdict n (unless a (fault (plain 1)) (unless b (fault (plain 13)) (fault (plain 11))))
+    ≡ verdict k (unless a (fault (plain 1)) (unless b (fault (plain 13)) (fault (plain 11))))
 unwired true true n k = refl
 unwired true false n k = refl
 unwired false b n k = refl
@@ -34,10 +37,14 @@ check-by :
     checkOf image certificate (cond b n 255) ≡ checkOf image certificate n
 unfolding checkOf
 check-by image certificate n true e = refl
-check-by image certificate n false e = rw (le-ltb n 32 (omega (arith, ltb-false n 256 e))) (unwired (isImage (length image)) (eqb (length certificate) (length image)) (levelsOf certificate 255) (levelsOf certificate n))
+check-by image certificate n false e =
+    rw (le-ltb n 32 (omega (arith, ltb-false n 256 e)))
+    (unwired (isImage (length image)) (eqb (length certificate) (length image)) (levelsOf certificate 255)
+    (levelsOf certificate n))
 
 pub check-clamped :
-    (image certificate : List ℕ) (n : ℕ) → checkOf image certificate (cond (ltb n 256) n 255) ≡ checkOf image certificate n
+    (image certificate : List ℕ) (n : ℕ)
+    → checkOf image certificate (cond (ltb n 256) n 255) ≡ checkOf image certificate n
 check-clamped image certificate n = check-by image certificate n (ltb n 256) refl
 
 decode-by :

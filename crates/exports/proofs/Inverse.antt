@@ -13,7 +13,9 @@ use Rattle.control.specs.declared.Mode.{Mode}
 use Rattle.control.specs.declared.Mode.the-variants.{Reset, Normal, Interrupt, NmiOverNormal, NmiOverInterrupt}
 use Rattle.machine.specs.declared.Machine.{Machine}
 use Rattle.exports.specs.Every.{every}
-use Rattle.exports.specs.States.{isFlag, isValid, lowByte, highByte, flagByte, modeOf, modeNumber, controlAt, stackAt, pairsAt, machineAt, valid, invalid, unpacked, controlBytes, stackBytes, packed}
+use Rattle.exports.specs.States.{isFlag, isValid, lowByte, highByte, flagByte, modeOf, modeNumber, controlAt}
+use Rattle.exports.specs.States.{stackAt, pairsAt, machineAt, valid, invalid, unpacked, controlBytes, stackBytes}
+use Rattle.exports.specs.States.{packed}
 use Rattle.exports.specs.Laws.{Sized, PackingInverts, WordReads}
 use Rattle.exports.proofs.Every.{both, every-holds}
 use Rattle.exports.proofs.Pasting.{valid-length}
@@ -71,7 +73,8 @@ listed s from (suc n) = getD s from 0 ∷ listed s (suc from) n
 
 elements : (s : List ℕ) (from n : ℕ) → length s ≡ from + n → drop from s ≡ listed s from n
 elements s from zero e = let over : length s ≤ from = omega arith in drop-of-length-le s over
-elements s from (suc n) e = drop-cons s from 0 (omega arith) ∙ ap (λ (l : List ℕ). getD s from 0 ∷ l) (elements s (suc from) n (omega arith))
+elements s from (suc n) e =
+    drop-cons s from 0 (omega arith) ∙ ap (λ (l : List ℕ). getD s from 0 ∷ l) (elements s (suc from) n (omega arith))
 
 -- what the tests of a state tell
 record Valid (s : List ℕ) : Type 0 where
@@ -82,17 +85,23 @@ record Valid (s : List ℕ) : Type 0 where
 valid-facts : (s : List ℕ) → isValid s ≡ true → Valid s
 unfolding isValid
 valid-facts s e =
-    let p : (eqb (length s) 280 ≡ true) × (leb (getD s 259 0) 4 && (eqb (getD s 267 0) 0 && every (isFlag s) 7) ≡ true) = both _ _ e in
+    let p : (eqb (length s) 280 ≡ true)
+    × (leb (getD s 259 0) 4 && (eqb (getD s 267 0) 0 && every (isFlag s) 7) ≡ true) = both _ _ e in
     let q : (leb (getD s 259 0) 4 ≡ true) × (eqb (getD s 267 0) 0 && every (isFlag s) 7 ≡ true) = both _ _ (p .1) in
     let r : (eqb (getD s 267 0) 0 ≡ true) × (every (isFlag s) 7 ≡ true) = both _ _ (q .1) in
-    record { mode = leb-true (getD s 259 0) 4 (q .0); nought = eqb-true (getD s 267 0) 0 (r .0); flags = λ k h. ltb-true (getD s (260 + k) 0) 2 (every-holds (isFlag s) 7 (r .1) k h) }
+    record {
+      mode = leb-true (getD s 259 0) 4 (q .0);
+      nought = eqb-true (getD s 267 0) 0 (r .0);
+      flags = λ k h. ltb-true (getD s (260 + k) 0) 2 (every-holds (isFlag s) 7 (r .1) k h);
+    }
 
 packed-again : (s : List ℕ) → Bytes s → isValid s ≡ true → packed (machineAt s) ≡ s
 unfolding packed machineAt controlAt stackAt pairsAt controlBytes stackBytes
 packed-again s b e =
     let t = valid-facts s e in
     let flags = t .flags in
-    let whole : take 256 s ++ listed s 256 24 ≡ s = rw (← elements s 256 24 (valid-length s e)) (take-append-drop 256 s) in
+    let whole : take 256 s ++ listed s 256 24 ≡ s =
+    rw (← elements s 256 24 (valid-length s e)) (take-append-drop 256 s) in
     rw (
       low-back (getD s 256 0) (getD s 257 0) (b 256),
       high-back (getD s 256 0) (getD s 257 0) (b 256),
@@ -203,7 +212,8 @@ module _ (m : Machine) (z : Sized m) where
   unfolding unpacked packed tail
   unpacked-again = rw (append-assoc, is-valid, is-machine)
 
-valid-is : (s : List ℕ) (b : Bool) (m : Machine) → cond b (valid (machineAt s)) invalid ≡ valid m → (b ≡ true) × (machineAt s ≡ m)
+valid-is : (s : List ℕ) (b : Bool) (m : Machine) → cond b (valid (machineAt s)) invalid ≡ valid m
+    → (b ≡ true) × (machineAt s ≡ m)
 valid-is s true m e = (refl, cc)
 valid-is s false m e = let z : _≡_ {A = ℕ} 0 1 = cc in absurd (omega arith)
 

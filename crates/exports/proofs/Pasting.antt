@@ -22,7 +22,8 @@ valid-length s e = eqb-true (length s) 280 (and-left _ _ e)
 
 -- a part pasted in where what stands before it ends
 paste-next :
-    (p r part : List ℕ) (at : ℕ) → length p ≡ at → paste (p ++ r) at part (length part) ≡ p ++ part ++ drop (length part) r
+    (p r part : List ℕ) (at : ℕ) → length p ≡ at
+    → paste (p ++ r) at part (length part) ≡ p ++ part ++ drop (length part) r
 paste-next p r part at e =
     rw (take-at p r at e, take-all (length part) part (le-refl _), ← e, drop-append-add p r (length part))
 
@@ -30,7 +31,8 @@ paste-next p r part at e =
 pub three-parts :
     (s bytes s₁ s₂ s₃ : List ℕ) (c : Control) (f : FlagPairs) (stack : List ℕ) → length s ≡ 280 → length bytes ≡ 256 →
     s₁ ≡ paste s 0 bytes (length bytes) → s₂ ≡ paste s₁ 256 (controlBytes c f) (length (controlBytes c f)) →
-    s₃ ≡ paste s₂ 268 (stackBytes stack) (length (stackBytes stack)) → s₃ ≡ bytes ++ controlBytes c f ++ stackBytes stack
+    s₃ ≡ paste s₂ 268 (stackBytes stack) (length (stackBytes stack))
+    → s₃ ≡ bytes ++ controlBytes c f ++ stackBytes stack
 unfolding controlBytes stackBytes
 three-parts s bytes s₁ s₂ s₃ c f stack whole full e₁ e₂ e₃ =
     let cb = controlBytes c f in

@@ -77,7 +77,8 @@ displacement-back d fits =
     eqZ→eq (longDisplacement (modulo 256 d)) d
     (atSigned (λ z. eqZ (longDisplacement (modulo 256 z)) z) tt d (record { sfits = ltb-true (mag d) 128 fits }))
 
-back : (i : Instruction) → inField 8 (displacementOf i) ≡ true → (more : List ℕ) → instructionAt (packedInstruction i ++ more) ≡ i
+back : (i : Instruction) → inField 8 (displacementOf i) ≡ true → (more : List ℕ)
+    → instructionAt (packedInstruction i ++ more) ≡ i
 unfolding packedInstruction instructionAt instructionBy instructions operandBy
 back (I.Jrnz d) fits more = rw (displacement-back d fits)
 back (I.Jrnc d) fits more = rw (displacement-back d fits)
@@ -141,7 +142,8 @@ when-agree s t n e k h = eqb-true (getD s k 0) (getD t k 0) (every-holds (agree 
 in-front : (t more : List ℕ) → length t ≡ 7 → every (agree (t ++ more) t) 7 ≡ true
 in-front t more e = every-when (agree (t ++ more) t) 7 (λ k h. eq-eqb _ _ (List·getD-append t more 0 k (omega arith)))
 
-row-read : (s : List ℕ) (i : Instruction) → (7 ≤ length s) → every (agree s (packedInstruction i)) 7 ≡ true → take 7 s ≡ packedInstruction i
+row-read : (s : List ℕ) (i : Instruction) → (7 ≤ length s) → every (agree s (packedInstruction i)) 7 ≡ true
+    → take 7 s ≡ packedInstruction i
 row-read s i long e =
     let size : length (take 7 s) ≡ 7 = length-take-le 7 s long in
     ext-getD 0 (take 7 s) (packedInstruction i) (size ∙ sym (seven i))
@@ -156,9 +158,15 @@ unfolding unpackedInstruction
 fields-invert = record {
   read-row = λ i fits more.
       let long : 7 ≤ length (packedInstruction i ++ more) = simp length-append (omega (arith, seven i)) in
-      rw (back i fits more, le-leb 7 (length (packedInstruction i ++ more)) long, in-front (packedInstruction i) more (seven i));
+      rw (
+        back i fits more,
+        le-leb 7 (length (packedInstruction i ++ more)) long,
+        in-front (packedInstruction i) more (seven i),
+      );
   row-read = λ s i e.
-      let p : (leb 7 (length s) && every (agree s (packedInstruction (instructionAt s))) 7 ≡ true) × (instructionAt s ≡ i) = is-read _ _ _ e in
-      let q : (leb 7 (length s) ≡ true) × (every (agree s (packedInstruction (instructionAt s))) 7 ≡ true) = both _ _ (p .0) in
+      let p : (leb 7 (length s) && every (agree s (packedInstruction (instructionAt s))) 7 ≡ true)
+      × (instructionAt s ≡ i) = is-read _ _ _ e in
+      let q : (leb 7 (length s) ≡ true) × (every (agree s (packedInstruction (instructionAt s))) 7 ≡ true) =
+      both _ _ (p .0) in
       row-read s i (leb-true 7 (length s) (q .0)) (rw (p .1) at (q .1));
 }

@@ -26,7 +26,8 @@ use Rattle.exports.specs.declared.fields.Reading.the-variants.{Is, Unrea
 use Rattle.exports.specs.Answers.{word, refusalWord, answerWord}
 use Rattle.exports.specs.States.{Unpacked, valid, invalid, unpacked, packed}
 use Rattle.exports.specs.Fields.{unpackedInstruction}
-use Rattle.exports.specs.Lent.{lent, decodedLent, decodeLent, writeBy, writeLent, resetBy, resetLent, storedLent, storeBy, storeLent, stepBy, stepLent, jobLent}
+use Rattle.exports.specs.Lent.{lent, decodedLent, decodeLent, writeBy, writeLent, resetBy, resetLent, storedLent}
+use Rattle.exports.specs.Lent.{storeBy, storeLent, stepBy, stepLent, jobLent}
 use Rattle.exports.specs.Laws.{Leaves, RefusalsLeave}
 use Rattle.exports.proofs.Inverse.{packing-inverts}
 use Rattle.exports.proofs.Runs.{step-keeps, run-leaves}
@@ -36,7 +37,8 @@ done-number : (v : ℕ) → word 0 0 v % 0x100 ≡ 0
 done-number v = omega arith
 
 module _ (out : List ℕ) where
-  with-room : (b : Bool) (n : ℕ) (after : List ℕ) → Leaves out (cond b (lent (word 0 0 n) after) (lent (refusalWord (plain 9)) out))
+  with-room : (b : Bool) (n : ℕ) (after : List ℕ)
+      → Leaves out (cond b (lent (word 0 0 n) after) (lent (refusalWord (plain 9)) out))
   with-room true n after k = absurd (k (done-number n))
   with-room false n after k = refl
 
@@ -45,7 +47,8 @@ module _ (out : List ℕ) where
   decoded (done (decode.instruction i bytes cycles)) k = with-room (leb 10 (length out)) bytes _ k
   decoded (refused r) k = refl
 
-  written : (e : Encoded) (o : Answer ℕ) → outcome e (length out) ≡ o → Leaves out (lent (answerWord o) (bufferAfter e out))
+  written : (e : Encoded) (o : Answer ℕ) → outcome e (length out) ≡ o
+      → Leaves out (lent (answerWord o) (bufferAfter e out))
   written e (done n) is k = absurd (k (done-number n))
   written e (refused r) is k = write-effects .untouched e out r is
 
@@ -58,7 +61,8 @@ module _ (s : List ℕ) (bytes : Bytes s) where
   again = packing-inverts .pack-unpack s bytes
 
   stepped :
-      (image : List ℕ) (m : Machine) (request : ℕ) → unpacked s ≡ valid m → (a : Answer ℕ) → stepOf image m request .answer ≡ a →
+      (image : List ℕ) (m : Machine) (request : ℕ) → unpacked s ≡ valid m → (a : Answer ℕ)
+      → stepOf image m request .answer ≡ a →
       Leaves s (lent (answerWord a) (packed (stepOf image m request .machine)))
   stepped image m request u (done cycles) e k = absurd (k (done-number cycles))
   stepped image m request u (refused r) e k =
@@ -83,7 +87,8 @@ module _ (s : List ℕ) (bytes : Bytes s) where
   stored a value (valid m) e k = tests m a value e (isWellFormed m) (not (inWindow a)) k
   stored a value invalid e k = refl
 
-  in-range : (a value : ℕ) (b : Bool) → Leaves s (cond b (storeBy s a value (unpacked s)) (lent (refusalWord (plain 8)) s))
+  in-range : (a value : ℕ) (b : Bool)
+      → Leaves s (cond b (storeBy s a value (unpacked s)) (lent (refusalWord (plain 8)) s))
   in-range a value true k = stored a value (unpacked s) refl k
   in-range a value false k = refl
 

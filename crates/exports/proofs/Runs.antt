@@ -40,20 +40,23 @@ module _ (image : List ℕ) (m : Machine) (request : ℕ) where
 -- a run is refused, with none of a stop's numbers, or it is its steps
 data RunTested (image : List ℕ) (m : Machine) (requests : List ℕ) (n : ℕ) : Bool → Run → Type 0 where
   run-refuses :
-      (number : ℕ) → (StopNumber (numberOf (word number 0 0)) → ⊥) → RunTested image m requests n false (refusedRun m (plain number))
+      (number : ℕ) → (StopNumber (numberOf (word number 0 0)) → ⊥)
+      → RunTested image m requests n false (refusedRun m (plain number))
   run-passes :
       isImage (length image) ≡ true → isWellFormed m ≡ true → requestsFit requests n ≡ true →
       RunTested image m requests n true (stepsOf image requests m n)
 
 module _ (image : List ℕ) (m : Machine) (requests : List ℕ) (n : ℕ) where
   run-tested :
-      RunTested image m requests n (isImage (length image) && (isWellFormed m && (leb n 65535 && requestsFit requests n)))
+      RunTested image m requests n
+      (isImage (length image) && (isWellFormed m && (leb n 65535 && requestsFit requests n)))
       (runOf image m requests n)
   unfolding runOf
   run-tested = by-tests (isImage (length image)) refl (isWellFormed m) refl (leb n 65535) (requestsFit requests n) refl
     where
       by-tests :
-          (i : Bool) → isImage (length image) ≡ i → (w : Bool) → isWellFormed m ≡ w → (k f : Bool) → requestsFit requests n ≡ f →
+          (i : Bool) → isImage (length image) ≡ i → (w : Bool) → isWellFormed m ≡ w → (k f : Bool)
+          → requestsFit requests n ≡ f →
           RunTested image m requests n (i && (w && (k && f)))
           (unless i (refusedRun m (plain 1))
           (unless w (refusedRun m (plain 2))
@@ -163,11 +166,13 @@ module _ (image s requests before : List ℕ) where
         }
 
     by-ending :
-        (n : ℕ) (r : Run) (e : Ended) → r .report .ending ≡ e → StopsOnly e → Ends image requests m n r e → Left (ranLent s before r)
+        (n : ℕ) (r : Run) (e : Ended) → r .report .ending ≡ e → StopsOnly e → Ends image requests m n r e
+        → Left (ranLent s before r)
     unfolding ranLent
     by-ending n r (done tt) is only k = rw is (with-room (leb 8 (length before)) _ (all-done _ _))
     by-ending n r (refused x) is only k =
-        rw (is, only .is) (with-room (leb 8 (length before)) _ (after-stop r (only .number) (only .address) (only .least) (only .most) k))
+        rw (is, only .is)
+        (with-room (leb 8 (length before)) _ (after-stop r (only .number) (only .address) (only .least) (only .most) k))
 
     by-test : Bytes image → (n : ℕ) (b : Bool) (r : Run) → RunTested image m requests n b r → Left (ranLent s before r)
     unfolding ranLent
@@ -185,6 +190,7 @@ module _ (image s requests before : List ℕ) where
       by-image false = left (refusalWord (plain 1)) (λ is. omega arith)
 
 pub run-leaves :
-    (image s requests report : List ℕ) → Bytes image → (n : ℕ) → RunLeaves image s requests report (runLent image s requests n report)
+    (image s requests report : List ℕ) → Bytes image → (n : ℕ)
+    → RunLeaves image s requests report (runLent image s requests n report)
 unfolding runLent
 run-leaves image s requests report all n = by-state image s requests report all n (unpacked s) refl

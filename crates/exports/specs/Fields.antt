@@ -1,5 +1,5 @@
--- An instruction as a row of fields: form, operand kind, value low and high, second value, bit number, displacement; decoding adds
--- length, cycles and a zero.
+-- An instruction as a row of fields: form, operand kind, value low and high, second value, bit number, displacement;
+-- decoding adds length, cycles and a zero.
 use Prim.Native.Nat.{ℕ, _+_, _*_}
 use mathlib.Core.Bool.{Bool, cond, _&&_}
 use mathlib.Core.List.{List, [], _∷_, _++_}
@@ -101,15 +101,16 @@ instructionBy form o n target second bit d = getD (instructions o n target secon
 -- the one instruction that seven fields can be of
 unfoldable pub instructionAt : List ℕ → Instruction
 instructionAt s =
-    instructionBy (getD s 0 0) (operandBy (getD s 1 0) (getD s 2 0)) (getD s 2 0) (getD s 2 0 + getD s 3 0 * 256) (getD s 4 0)
+    instructionBy (getD s 0 0) (operandBy (getD s 1 0) (getD s 2 0)) (getD s 2 0) (getD s 2 0 + getD s 3 0 * 256)
+    (getD s 4 0)
     (getD s 5 0) (longDisplacement (getD s 6 0))
 
 -- two lists agree at an index
 abbrev pub agree : (s t : List ℕ) → (k : ℕ) → Bool
 agree s t k = eqb (getD s k 0) (getD t k 0)
 
--- Fields are an instruction's where they are exactly its row: there are seven, the form and the kind exist, and a field that the form
--- does not use is 0.
+-- Fields are an instruction's where they are exactly its row: there are seven, the form and the kind exist, and a field
+-- that the form does not use is 0.
 unfoldable pub unpackedInstruction : List ℕ → Reading
 unpackedInstruction s =
     cond (leb 7 (length s) && every (agree s (packedInstruction (instructionAt s))) 7) (Is (instructionAt s)) Unreadable

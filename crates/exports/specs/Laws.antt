@@ -1,4 +1,5 @@
--- What callers may rely on: packing and unpacking undo each other, an answer's parts can be read back, and a refusal leaves what was lent.
+-- What callers may rely on: packing and unpacking undo each other, an answer's parts can be read back, and a refusal
+-- leaves what was lent.
 use Prim.Native.Nat.{ℕ, _≤_, _<_, _/_, _%_}
 use mathlib.Core.Path.{_≡_}
 use mathlib.Core.Logic.{_≢_}
@@ -81,7 +82,8 @@ displacementOf I.Wait = pos 0
 -- proved by fields-invert, proofs/Reading
 pub record FieldsInvert : Type 0 where
   pub read-row :
-      (i : Instruction) → inField 8 (displacementOf i) ≡ true → (more : List ℕ) → unpackedInstruction (packedInstruction i ++ more) ≡ Is i
+      (i : Instruction) → inField 8 (displacementOf i) ≡ true → (more : List ℕ)
+      → unpackedInstruction (packedInstruction i ++ more) ≡ Is i
   pub row-read : (s : List ℕ) (i : Instruction) → unpackedInstruction s ≡ Is i → take 7 s ≡ packedInstruction i
 
 -- bits 0 to 7, 8 to 23 and from 24
@@ -122,13 +124,16 @@ pub record KeepsSteps (image s requests before : List ℕ) (l : LentRun) : Type 
   pub state : l .state ≡ packed (stepsOf image requests machine steps .machine)
   pub report : l .report ≡ reportBytes steps (stepsOf image requests machine steps .report .cycles) ++ drop 8 before
 
--- a refused run, 1, 2, 12 or 11, and one without room for its report, 9, leave state and report; a stop, 4 to 7, keeps the steps before it
+-- a refused run, 1, 2, 12 or 11, and one without room for its report, 9, leave state and report; a stop, 4 to 7, keeps
+-- the steps before it
 pub record RunLeaves (image s requests before : List ℕ) (l : LentRun) : Type 0 where
-  pub refused : numberOf (l .answer) ≢ 0 → (StopNumber (numberOf (l .answer)) → ⊥) → (l .state ≡ s) × (l .report ≡ before)
+  pub refused : numberOf (l .answer) ≢ 0 → (StopNumber (numberOf (l .answer)) → ⊥)
+      → (l .state ≡ s) × (l .report ≡ before)
   pub stopped : StopNumber (numberOf (l .answer)) → KeepsSteps image s requests before l
 
--- "A refusal is a number, and leaves buffers and machine untouched", of every function that is lent a buffer. A job's own refusals, 20 to
--- 22 and the check's, are lines that are written; what is refused is a buffer too short for the line, with 9.
+-- "A refusal is a number, and leaves buffers and machine untouched", of every function that is lent a buffer. A job's
+-- own refusals, 20 to 22 and the check's, are lines that are written; what is refused is a buffer too short for the
+-- line, with 9.
 -- proved by refusals-leave, proofs/RefusalsLeave
 pub record RefusalsLeave : Type 0 where
   pub by-decode : (image : List ℕ) (address : ℕ) (out : List ℕ) → Leaves out (decodeLent image address out)

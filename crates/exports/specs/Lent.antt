@@ -46,7 +46,8 @@ storeBy s a value invalid = lent (refusalWord (plain 2)) s
 
 -- an address or a value beyond its byte is refused with 8, first
 unfoldable pub storeLent : List ℕ → (a value : ℕ) → Lent
-storeLent s a value = cond (leb a 255 && leb value 255) (storeBy s a value (unpacked s)) (lent (refusalWord (plain 8)) s)
+storeLent s a value =
+    cond (leb a 255 && leb value 255) (storeBy s a value (unpacked s)) (lent (refusalWord (plain 8)) s)
 
 abbrev pub steppedLent : Step → Lent
 steppedLent r = lent (answerWord (r .answer)) (packed (r .machine))
@@ -78,7 +79,8 @@ unfoldable pub ranLent : (s report : List ℕ) → Run → LentRun
 ranLent s report r =
     cond (isRefusedRun (r .report .ending)) (lentRun (endedWord (r .report .ending)) s report)
     (cond (leb 8 (length report))
-    (lentRun (endedWord (r .report .ending)) (packed (r .machine)) (reportBytes (r .report .steps) (r .report .cycles) ++ drop 8 report))
+    (lentRun (endedWord (r .report .ending)) (packed (r .machine))
+    (reportBytes (r .report .steps) (r .report .cycles) ++ drop 8 report))
     (lentRun (refusalWord (plain 9)) s report))
 
 abbrev pub runBy : (image s requests : List ℕ) → (n : ℕ) → (report : List ℕ) → Unpacked → LentRun
@@ -91,7 +93,8 @@ runLent image s requests n report = runBy image s requests n report (unpacked s)
 -- decoding's own refusals come first, then 9
 unfoldable pub decodedLent : List ℕ → Answer decode.Decoding → Lent
 decodedLent out (done (decode.instruction i bytes cycles)) =
-    cond (leb 10 (length out)) (lent (word 0 0 bytes) (decodedRow i bytes cycles ++ drop 10 out)) (lent (refusalWord (plain 9)) out)
+    cond (leb 10 (length out)) (lent (word 0 0 bytes) (decodedRow i bytes cycles ++ drop 10 out))
+    (lent (refusalWord (plain 9)) out)
 decodedLent out (refused r) = lent (refusalWord r) out
 
 unfoldable pub decodeLent : (image : List ℕ) → (address : ℕ) → (out : List ℕ) → Lent
@@ -108,7 +111,8 @@ writeLent fields out = writeBy out (unpackedInstruction fields)
 -- a job's line, written from the buffer's first byte, with its length; 9 where the buffer is too short for it
 abbrev pub lineLent : (line buffer : List ℕ) → Lent
 lineLent line buffer =
-    cond (fits line buffer) (lent (word 0 0 (length line)) (line ++ drop (length line) buffer)) (lent (refusalWord (plain 9)) buffer)
+    cond (fits line buffer) (lent (word 0 0 (length line)) (line ++ drop (length line) buffer))
+    (lent (refusalWord (plain 9)) buffer)
 
 unfoldable pub jobLent : (job buffer : List ℕ) → Lent
 jobLent job buffer = lineLent (lineOf (jobOf job)) buffer

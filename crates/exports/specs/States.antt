@@ -1,5 +1,5 @@
--- A machine as a state of 280 bytes: 0-255 data; 256, 257 PC; 258 levels; 259 mode; 260 asleep; 261-266 Z and C of normal, interrupt
--- and NMI; 267 zero; 268-279 the return addresses. Numbers of two bytes stand low byte first.
+-- A machine as a state of 280 bytes: 0-255 data; 256, 257 PC; 258 levels; 259 mode; 260 asleep; 261-266 Z and C of
+-- normal, interrupt and NMI; 267 zero; 268-279 the return addresses. Numbers of two bytes stand low byte first.
 use Prim.Native.Nat.{ℕ, _+_, _*_, _/_, _%_}
 use mathlib.Core.Bool.{Bool, cond, _&&_}
 use mathlib.Core.List.{List, [], _∷_, _++_}

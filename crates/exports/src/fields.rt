@@ -1,5 +1,5 @@
-// An instruction as a row of fields: form, operand kind, value low and high, second value, bit number, displacement; decoding adds
-// length, cycles and a zero.
+// An instruction as a row of fields: form, operand kind, value low and high, second value, bit number, displacement;
+// decoding adds length, cycles and a zero.
 use crate::copying::number;
 use crate::copying::put;
 use isa::Instruction;
@@ -211,8 +211,8 @@ fn begins_with(fields: &[u8], own: &[u8; 7]) -> bool
     true
 }
 
-// Reads an instruction. A row that is not exactly that of its instruction, as one with a byte in a field that the form does not use,
-// is no instruction's.
+// Reads an instruction. A row that is not exactly that of its instruction, as one with a byte in a field that the form
+// does not use, is no instruction's.
 pub fn read(fields: &[u8]) -> Reading
     ensures { λ r. ⌜ r ≡ unpackedInstruction (now (fields .entry)) ⌝ }
 {

@@ -1,5 +1,5 @@
-// The boundary for tests from outside: functions on numbers and byte slices. Every answer is one number (`answers`), a machine is a
-// state of 280 bytes (`states`), and an instruction is a row of fields (`fields`).
+// The boundary for tests from outside: functions on numbers and byte slices. Every answer is one number (`answers`), a
+// machine is a state of 280 bytes (`states`), and an instruction is a row of fields (`fields`).
 mod answers;
 mod clamp;
 mod copying;
@@ -39,7 +39,8 @@ use states::unpack;
 ghost use mathlib.Core.Path.{_≡_};
 ghost use Rattle.certificate.specs.Check.{checkOf};
 ghost use Rattle.exports.specs.Answers.{answerWord};
-ghost use Rattle.exports.specs.Lent.{lent, lentRun, decodeLent, writeLent, resetLent, storeLent, stepLent, runLent, jobLent};
+ghost use Rattle.exports.specs.Lent.{lent, lentRun, decodeLent, writeLent, resetLent, storeLent, stepLent};
+ghost use Rattle.exports.specs.Lent.{runLent, jobLent};
 
 // Decodes at an address of the image into `out`.
 #[no_mangle]
@@ -129,7 +130,8 @@ pub extern "C" fn st62_run(
     n: u32,
     report: &mut [u8],
 ) -> u64
-    ensures { λ r. ⌜ lentRun r (now (state .exit)) (now (report .exit)) ≡ runLent (now (image .entry)) (now (state .entry)) (now (requests .entry)) n (now (report .entry)) ⌝ }
+    ensures { λ r. ⌜ lentRun r (now (state .exit)) (now (report .exit))
+        ≡ runLent (now (image .entry)) (now (state .entry)) (now (requests .entry)) n (now (report .entry)) ⌝ }
 {
     if !is_valid(state) {
         return invalid_state(image);

@@ -1,5 +1,5 @@
-// From a state's 280 bytes to the machine: 0-255 data; 256, 257 PC; 258 levels; 259 mode; 260 asleep; 261-266 Z and C of normal,
-// interrupt and NMI; 267 zero; 268-279 the return addresses. Numbers of two bytes stand low byte first.
+// From a state's 280 bytes to the machine: 0-255 data; 256, 257 PC; 258 levels; 259 mode; 260 asleep; 261-266 Z and C
+// of normal, interrupt and NMI; 267 zero; 268-279 the return addresses. Numbers of two bytes stand low byte first.
 use crate::copying::number;
 use alu::Flags;
 use control::Control;
@@ -10,7 +10,8 @@ ghost use mathlib.Core.Path.{_≡_};
 ghost use Prim.Native.Nat.{_+_, _<_};
 ghost use lib.ListN.{length, take};
 ghost use Rattle.exports.specs.Every.{every};
-ghost use Rattle.exports.specs.States.{isFlag, isValid, wordAt, pairAt, modeOf, controlAt, stackAt, pairsAt, machineAt};
+ghost use Rattle.exports.specs.States.{isFlag, isValid, wordAt, pairAt, modeOf, controlAt, stackAt, pairsAt};
+ghost use Rattle.exports.specs.States.{machineAt};
 
 // Whether the seven bytes from 260 on are 0 or 1.
 fn flags_valid(state: &[u8]) -> bool

@@ -39,7 +39,8 @@ module _ (image certificate : List ℕ) (wired : ℕ) where
   marks-below zero a h = tt
   marks-below (suc n) a h =
       let low : a < 0x1000 = omega arith in
-      joined (atMark certificate (decodeAt image a) a) (atMarks certificate image n (suc a)) (low, (low, (low, (low, (low, (low, tt))))))
+      joined (atMark certificate (decodeAt image a) a) (atMarks certificate image n (suc a))
+      (low, (low, (low, (low, (low, (low, tt))))))
       (marks-below n (suc a) (omega arith))
 
   -- the questions of the marks, and all that come after 1, 13 and 11
@@ -67,7 +68,8 @@ module _ (image certificate : List ℕ) (wired : ℕ) where
 -- where a job is refused with an address, its check refuses
 from-check :
     {number address : ℕ} {v : Verdict} (long version whole : Bool)
-    → unless long (refused (plain 20)) (unless version (refused (plain 21)) (unless whole (refused (plain 22)) v)) ≡ refused (located number address)
+    → unless long (refused (plain 20)) (unless version (refused (plain 21)) (unless whole (refused (plain 22)) v))
+    ≡ refused (located number address)
     → v ≡ refused (located number address)
 from-check true true true e = e
 from-check true true false e = cc

@@ -13,7 +13,9 @@ unfolding lineOf decimalOf
 printed-cases =
     record {
       p11 = ap lineOf (jobs-are-checked 0x01 image11 certificate11 (inl refl) refl ∙ check-cases .p11);
-      p12 = ap lineOf (jobs-are-checked 0x01 image11 (put 0x883 (0x20 ∷ []) certificate11) (inl refl) refl ∙ check-cases .p12);
+      p12 =
+          ap lineOf
+          (jobs-are-checked 0x01 image11 (put 0x883 (0x20 ∷ []) certificate11) (inl refl) refl ∙ check-cases .p12);
       without-address = refl;
       upper-case = refl;
     }

@@ -1,4 +1,5 @@
--- Laws of a job: its count is that of two equal halves and the wired byte, and a job put together is taken apart into its parts.
+-- Laws of a job: its count is that of two equal halves and the wired byte, and a job put together is taken apart into
+-- its parts.
 use Prim.Native.Nat.{ℕ, _+_, _-_, _/_, _≤_}
 use native.Mathlib.Omega.{arith}
 use native.Mathlib.Nat.{div-add-mod'}

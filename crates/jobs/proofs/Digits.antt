@@ -23,7 +23,8 @@ two-digits zero h t = absurd (omega arith)
 two-digits (suc n) h t = rw (le-ltb _ _ h, lt-ltb _ _ t)
 
 pub three-digits :
-    (n : ℕ) → 10 ≤ n → 10 ≤ n / 10 → n / 10 / 10 < 10 → decimalOf n ≡ glyph (n / 10 / 10) ∷ glyph (n / 10 % 10) ∷ glyph (n % 10) ∷ []
+    (n : ℕ) → 10 ≤ n → 10 ≤ n / 10 → n / 10 / 10 < 10
+    → decimalOf n ≡ glyph (n / 10 / 10) ∷ glyph (n / 10 % 10) ∷ glyph (n % 10) ∷ []
 unfolding decimalOf
 three-digits zero h t u = absurd (omega arith)
 three-digits (suc zero) h t u = absurd (omega arith)

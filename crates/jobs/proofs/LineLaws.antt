@@ -28,7 +28,8 @@ begun word h n e =
 
 -- bytes after those that a line has
 pub then : {a b : List ℕ} {s t : LineBuffer} → Holds a s → Appends b s t → Holds (a ++ b) t
-then p q = record { content = rw (q .content, p .content); count = rw (length-append, q .count, p .count); fits = q .fits }
+then p q =
+    record { content = rw (q .content, p .content); count = rw (length-append, q .count, p .count); fits = q .fits }
 
 -- two pieces, one after the other
 pub both : {a b : List ℕ} {s t u : LineBuffer} → Appends a s t → Appends b t u → Appends (a ++ b) s u

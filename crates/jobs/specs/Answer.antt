@@ -18,8 +18,8 @@ outcomeOf (Refused r) = refused (numbered r)
 abbrev pub fits : (line buffer : List ℕ) → Bool
 fits line buffer = leb (length line) (length buffer)
 
--- writing a line, of at most 16 bytes, to a buffer: "It is written from the buffer's first byte; bytes after it stay.", and
--- "A refusal .. leaves buffers .. untouched"
+-- writing a line, of at most 16 bytes, to a buffer: "It is written from the buffer's first byte; bytes after it stay.",
+-- and "A refusal .. leaves buffers .. untouched"
 pub record Answers (line before after : List ℕ) (r : Answered) : Type 0 where
   pub short : length line ≤ 16
   pub answer : outcomeOf r ≡ cond (fits line before) (done (length line)) (refused (plain 9))
@@ -29,4 +29,5 @@ pub record Answers (line before after : List ℕ) (r : Answered) : Type 0 where
 -- proved by sixteen-bytes-are-enough, proofs/AnswerLaws
 abbrev pub SixteenBytesAreEnough : Type 0
 SixteenBytesAreEnough =
-    (line before after : List ℕ) (r : Answered) → Answers line before after r → 16 ≤ length before → outcomeOf r ≡ done (length line)
+    (line before after : List ℕ) (r : Answered) → Answers line before after r → 16 ≤ length before
+    → outcomeOf r ≡ done (length line)

@@ -24,7 +24,8 @@ newline = 0x0A ∷ []
 abbrev pub glyph : ℕ → ℕ
 glyph d = cond (ltb d 10) (0x30 + d) (0x41 + (d - 10))
 
--- the decimal digits of a number below 10 to the given power: its last digit, after those of its tenth part where that is not 0
+-- the decimal digits of a number below 10 to the given power: its last digit, after those of its tenth part where that
+-- is not 0
 abbrev pub decimalBelow : (power : ℕ) → ℕ → List ℕ
 decimalBelow zero n = []
 decimalBelow (suc k) n = cond (ltb n 10) (glyph n ∷ []) (decimalBelow k (n / 10) ++ (glyph (n % 10) ∷ []))
@@ -37,9 +38,10 @@ decimalOf n = decimalBelow (suc n) n
 abbrev pub threeDigits : ℕ → List ℕ
 threeDigits a = glyph (a / 256 % 16) ∷ glyph (a / 16 % 16) ∷ glyph (a % 16) ∷ []
 
--- "`accepted 2` and a newline", "`refused 17 883` and a newline (number, then address in three hex digits; a refusal without address
--- ends after the number)"
+-- "`accepted 2` and a newline", "`refused 17 883` and a newline (number, then address in three hex digits; a refusal
+-- without address ends after the number)"
 unfoldable pub lineOf : Verdict → List ℕ
 lineOf (done levels) = acceptedWord ++ (decimalOf levels ++ newline)
 lineOf (refused (plain number)) = refusedWord ++ (decimalOf number ++ newline)
-lineOf (refused (located number address)) = refusedWord ++ (decimalOf number ++ (space ++ (threeDigits address ++ newline)))
+lineOf (refused (located number address)) =
+    refusedWord ++ (decimalOf number ++ (space ++ (threeDigits address ++ newline)))

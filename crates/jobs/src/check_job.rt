@@ -27,7 +27,8 @@ fn is_count(count: usize) -> bool
 fn check_parts(job: &[u8], size: usize) -> Checked
     requires { ⌜ length (now job) ≡ 4 + (size + size) ⌝ }
     ensures { λ r. ⌜ answered r
-        ≡ checkOf (imageOf size (now (job .entry))) (certificateOf size (now (job .entry))) (wiredOf (now (job .entry))) ⌝ }
+        ≡ checkOf (imageOf size (now (job .entry))) (certificateOf size (now (job .entry)))
+        (wiredOf (now (job .entry))) ⌝ }
 {
     let middle = 4 + size;
     check(&job[4..middle], &job[middle..], job[3])

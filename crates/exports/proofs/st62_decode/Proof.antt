@@ -33,7 +33,8 @@ returns c =
     let at-clamp-address = at-decode .before in
     let start = at-clamp-address .before .before .before in
     rw (
-      ← ((rw (at-clamp-address .clamp-address .ensures) at (at-decode .decode .ensures)) ∙ decode-clamped (start .args .image .now) (start .args .address)),
+      ← ((rw (at-clamp-address .clamp-address .ensures) at (at-decode .decode .ensures))
+          ∙ decode-clamped (start .args .image .now) (start .args .address)),
       at-instruction .instruction .given .1,
       lt-leb _ _ (c .before .if1 .taken),
       c .refused2 .ensures,
@@ -56,7 +57,8 @@ returns-2 c =
     let at-clamp-address = at-decode .before in
     let start = at-clamp-address .before .before .before in
     rw (
-      ← ((rw (at-clamp-address .clamp-address .ensures) at (at-decode .decode .ensures)) ∙ decode-clamped (start .args .image .now) (start .args .address)),
+      ← ((rw (at-clamp-address .clamp-address .ensures) at (at-decode .decode .ensures))
+          ∙ decode-clamped (start .args .image .now) (start .args .address)),
       at-refusal .refusal .given .1,
       c .refused .ensures,
     )
@@ -74,7 +76,8 @@ returns-3 c =
     let at-clamp-address = at-decode .before in
     let start = at-clamp-address .before .before .before in
     rw (
-      ← ((rw (at-clamp-address .clamp-address .ensures) at (at-decode .decode .ensures)) ∙ decode-clamped (start .args .image .now) (start .args .address)),
+      ← ((rw (at-clamp-address .clamp-address .ensures) at (at-decode .decode .ensures))
+          ∙ decode-clamped (start .args .image .now) (start .args .address)),
       at-instruction .instruction .given .1,
       le-leb _ _ (at-if1 .if1 .left),
       c .done .ensures,

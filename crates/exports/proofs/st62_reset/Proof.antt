@@ -21,7 +21,11 @@ returns : tie.Need-returns
 unfolding resetLent unpacked
 returns c =
     let at-is-valid = c .before .before in
-    rw (← at-is-valid .is-valid .ensures, not-true (at-is-valid .is-valid .result) (c .before .if1 .taken), c .refused .ensures)
+    rw (
+      ← at-is-valid .is-valid .ensures,
+      not-true (at-is-valid .is-valid .result) (c .before .if1 .taken),
+      c .refused .ensures,
+    )
 
 unpack-requires : tie.Need-unpack-requires
 unpack-requires c κs = valid-length _ (sym (c .before .before .is-valid .ensures) ∙ not-false _ (c .before .if1 .left))

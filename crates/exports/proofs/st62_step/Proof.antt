@@ -22,7 +22,11 @@ returns : tie.Need-returns
 unfolding stepLent unpacked
 returns c =
     let at-is-valid = c .before .before in
-    rw (← at-is-valid .is-valid .ensures, not-true (at-is-valid .is-valid .result) (c .before .if1 .taken), c .invalid-state .ensures)
+    rw (
+      ← at-is-valid .is-valid .ensures,
+      not-true (at-is-valid .is-valid .result) (c .before .if1 .taken),
+      c .invalid-state .ensures,
+    )
 
 unpack-requires : tie.Need-unpack-requires
 unpack-requires c κs = valid-length _ (sym (c .before .before .is-valid .ensures) ∙ not-false _ (c .before .if1 .left))

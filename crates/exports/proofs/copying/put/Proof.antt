@@ -43,7 +43,8 @@ loop-again c =
       search needs,
       search needs,
       rw (at-loop .inv .2, add-one (at-loop .i))
-          (paste-suc (start .out .now) (start .at) (start .part .now) (at-loop .i) 0 fits (c .before .loop-test .taken)),
+          (paste-suc (start .out .now) (start .at) (start .part .now) (at-loop .i) 0 fits
+          (c .before .loop-test .taken)),
     )
 
 same-length : tie.Need-same-length Inv-loop μ-loop

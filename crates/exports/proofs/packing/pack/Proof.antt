@@ -44,7 +44,8 @@ returns c =
     let at-control-bytes = at-stack-bytes .before .before in
     let start = at-control-bytes .before .before .before .before .before .before in
     let m = start .args .m in
-    three-parts (start .args .state .now) (m .bytes) (at-put .put .last .0) (at-put2 .put2 .last .0) (at-put3 .put3 .last .0)
+    three-parts (start .args .state .now) (m .bytes) (at-put .put .last .0) (at-put2 .put2 .last .0)
+    (at-put3 .put3 .last .0)
     (m .control) (m .flags) (m .stack) (start .pre)
     (sym (slice-aggregate-put (at-put .before)))
     (at-put .put .ensures)

@@ -40,7 +40,12 @@ loop-again c =
     let below : at-loop .i < length (at-loop .bytes) = omega arith in (
       search needs,
       search needs,
-      rw (add-one (at-loop .i), take-suc-set (at-loop .bytes) (at-loop .i) _ below, take-suc state (at-loop .i) 0 within, at-loop .inv .2),
+      rw (
+        add-one (at-loop .i),
+        take-suc-set (at-loop .bytes) (at-loop .i) _ below,
+        take-suc state (at-loop .i) 0 within,
+        at-loop .inv .2,
+      ),
     )
 
 returns : tie.Need-returns Inv-loop μ-loop

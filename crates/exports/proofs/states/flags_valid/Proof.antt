@@ -42,7 +42,8 @@ loop-less c = search needs
 loop-again : tie.Need-loop-again Inv-loop μ-loop
 loop-again c =
     let looped = c .before .before .before in
-    (search needs, every-more (isFlag (looped .before .args .state .now)) (looped .loop .i) (looped .loop .inv .1) (lt-ltb _ _ (c .if1 .left)))
+    let flag = isFlag (looped .before .args .state .now) in
+    (search needs, every-more flag (looped .loop .i) (looped .loop .inv .1) (lt-ltb _ _ (c .if1 .left)))
 
 returns-2 : tie.Need-returns-2 Inv-loop μ-loop
 returns-2 c = let e : c .before .loop .i ≡ 7 = omega arith in sym (rw (← e) (c .before .loop .inv .1))

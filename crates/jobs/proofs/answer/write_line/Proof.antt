@@ -26,7 +26,8 @@ array-share-prefix-letters : tie.Need-array-share-prefix-letters
 array-share-prefix-letters c = search needs
 
 slice-aggregate-copy : tie.Need-slice-aggregate-copy
-slice-aggregate-copy c = let start = c .before .before .before .before in sym (content-length (start .args .made) (start .pre))
+slice-aggregate-copy c =
+    let start = c .before .before .before .before in sym (content-length (start .args .made) (start .pre))
 
 copy-requires : tie.Need-copy-requires
 copy-requires c κs =

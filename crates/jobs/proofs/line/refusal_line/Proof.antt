@@ -39,7 +39,13 @@ address-requires : tie.Need-address-requires
 address-requires c κs =
     let known = c .before .before .before in
     let digits = at-most-three (known .number2 .given .0 .0) (search needs) in
-    omega (arith, digits, c .letter2 .ensures .count, c .before .decimal2 .ensures .count, known .before .before .new .ensures .count)
+    omega (
+      arith,
+      digits,
+      c .letter2 .ensures .count,
+      c .before .decimal2 .ensures .count,
+      known .before .before .new .ensures .count,
+    )
 
 letter-requires-3 : tie.Need-letter-requires-3
 letter-requires-3 c κs =
@@ -47,7 +53,14 @@ letter-requires-3 c κs =
     let known = numbered .before .before in
     let digits = at-most-three (known .number2 .given .0 .0) (search needs) in
     let begun = known .before .before .new .ensures .count in
-    omega (arith, digits, begun, c .address .ensures .count, c .before .letter2 .ensures .count, numbered .decimal2 .ensures .count)
+    omega (
+      arith,
+      digits,
+      begun,
+      c .address .ensures .count,
+      c .before .letter2 .ensures .count,
+      numbered .decimal2 .ensures .count,
+    )
 
 returns : tie.Need-returns
 unfolding lineOf
@@ -63,7 +76,8 @@ returns-2 c =
     let known = numbered .before .before in
     let address = both (c .before .address .ensures) (c .letter3 .ensures) in
     let located = both (c .before .before .letter2 .ensures) address in
-    rw (known .number2 .given .1) (then (known .before .before .new .ensures) (both (numbered .decimal2 .ensures) located))
+    rw (known .number2 .given .1)
+    (then (known .before .before .new .ensures) (both (numbered .decimal2 .ensures) located))
 
 pub refusal-line-spec : {M : Type 1} → statement M
 refusal-line-spec =
