@@ -2,14 +2,11 @@
 use Prim.Native.Nat.{ℕ, zero, suc, _+_, _<_}
 use native.Mathlib.Omega.{arith}
 use native.Mathlib.Numerals.{add-one}
-use mathlib.Core.Path.{_≡_, refl, sym, ap, _∙_}
-use mathlib.Core.Bool.{Bool, true, false, _&&_}
+use mathlib.Core.Path.{_≡_, refl, sym, _∙_}
+use mathlib.Core.Bool.{Bool, true, false}
 use borrow.Author.Count.{below-more}
+use Rattle.certificate.proofs.Facts.{both-true}
 use Rattle.exports.specs.Every.{every}
-
-pub both : (a b : Bool) → a && b ≡ true → (a ≡ true) × (b ≡ true)
-both true b e = (refl, e)
-both false b e = let z : _≡_ {A = ℕ} 0 1 = cc in absurd (omega arith)
 
 module _ (test : ℕ → Bool) where
   -- one index more
@@ -26,7 +23,7 @@ module _ (test : ℕ → Bool) where
   unfolding every
   every-holds zero all k h = absurd (omega arith)
   every-holds (suc n) all k h =
-      let p : (test n ≡ true) × (every test n ≡ true) = both (test n) (every test n) all in
+      let p : (test n ≡ true) × (every test n ≡ true) = both-true (test n) (every test n) all in
       below-more (λ j. test j ≡ true) n (every-holds n (p .1)) (p .0) k (omega arith)
 
   -- a search that meets a misfit has its answer

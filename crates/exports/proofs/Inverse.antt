@@ -12,12 +12,13 @@ use Rattle.isa.specs.RoundTrip.{Bytes}
 use Rattle.control.specs.declared.Mode.{Mode}
 use Rattle.control.specs.declared.Mode.the-variants.{Reset, Normal, Interrupt, NmiOverNormal, NmiOverInterrupt}
 use Rattle.machine.specs.declared.Machine.{Machine}
+use Rattle.certificate.proofs.Facts.{both-true}
 use Rattle.exports.specs.Every.{every}
 use Rattle.exports.specs.States.{isFlag, isValid, lowByte, highByte, flagByte, modeOf, modeNumber, controlAt}
 use Rattle.exports.specs.States.{stackAt, pairsAt, machineAt, valid, invalid, unpacked, controlBytes, stackBytes}
 use Rattle.exports.specs.States.{packed}
 use Rattle.exports.specs.Laws.{Sized, PackingInverts, WordReads}
-use Rattle.exports.proofs.Every.{both, every-holds}
+use Rattle.exports.proofs.Every.{every-holds}
 use Rattle.exports.proofs.Pasting.{valid-length}
 
 low-back : (a b : ℕ) → a < 256 → lowByte (a + b * 256) ≡ a
@@ -86,9 +87,9 @@ valid-facts : (s : List ℕ) → isValid s ≡ true → Valid s
 unfolding isValid
 valid-facts s e =
     let p : (eqb (length s) 280 ≡ true)
-    × (leb (getD s 259 0) 4 && (eqb (getD s 267 0) 0 && every (isFlag s) 7) ≡ true) = both _ _ e in
-    let q : (leb (getD s 259 0) 4 ≡ true) × (eqb (getD s 267 0) 0 && every (isFlag s) 7 ≡ true) = both _ _ (p .1) in
-    let r : (eqb (getD s 267 0) 0 ≡ true) × (every (isFlag s) 7 ≡ true) = both _ _ (q .1) in
+    × (leb (getD s 259 0) 4 && (eqb (getD s 267 0) 0 && every (isFlag s) 7) ≡ true) = both-true _ _ e in
+    let q : (leb (getD s 259 0) 4 ≡ true) × (eqb (getD s 267 0) 0 && every (isFlag s) 7 ≡ true) = both-true _ _ (p .1) in
+    let r : (eqb (getD s 267 0) 0 ≡ true) × (every (isFlag s) 7 ≡ true) = both-true _ _ (q .1) in
     record {
       mode = leb-true (getD s 259 0) 4 (q .0);
       nought = eqb-true (getD s 267 0) 0 (r .0);

@@ -18,6 +18,7 @@ use Rattle.isa.specs.declared.Instruction.{Instruction}
 use Rattle.isa.specs.declared.Instruction.the-variants as I
 use Rattle.isa.proofs.Finite.{eqZ, atSigned, eqZ→eq}
 use Rattle.exports.specs.declared.fields.Reading.the-variants.{Is, Unreadable}
+use Rattle.certificate.proofs.Facts.{both-true}
 use Rattle.exports.specs.Every.{every}
 use Rattle.exports.specs.Fields.{
   operandRow,
@@ -30,7 +31,7 @@ use Rattle.exports.specs.Fields.{
   unpackedInstruction,
 }
 use Rattle.exports.specs.Laws.{displacementOf, FieldsInvert}
-use Rattle.exports.proofs.Every.{both, every-when, every-holds}
+use Rattle.exports.proofs.Every.{every-when, every-holds}
 use Rattle.exports.proofs.Inverse.{number-back}
 
 operand-seven : (form : ℕ) (o : Operand) → length (operandRow form o) ≡ 7
@@ -167,6 +168,6 @@ fields-invert = record {
       let p : (leb 7 (length s) && every (agree s (packedInstruction (instructionAt s))) 7 ≡ true)
       × (instructionAt s ≡ i) = is-read _ _ _ e in
       let q : (leb 7 (length s) ≡ true) × (every (agree s (packedInstruction (instructionAt s))) 7 ≡ true) =
-      both _ _ (p .0) in
+      both-true _ _ (p .0) in
       row-read s i (leb-true 7 (length s) (q .0)) (rw (p .1) at (q .1));
 }
