@@ -88,7 +88,8 @@ unfolding isValid
 valid-facts s e =
     let p : (eqb (length s) 280 ≡ true)
     × (leb (getD s 259 0) 4 && (eqb (getD s 267 0) 0 && every (isFlag s) 7) ≡ true) = both-true _ _ e in
-    let q : (leb (getD s 259 0) 4 ≡ true) × (eqb (getD s 267 0) 0 && every (isFlag s) 7 ≡ true) = both-true _ _ (p .1) in
+    let q : (leb (getD s 259 0) 4 ≡ true) × (eqb (getD s 267 0) 0 && every (isFlag s) 7 ≡ true) =
+    both-true _ _ (p .1) in
     let r : (eqb (getD s 267 0) 0 ≡ true) × (every (isFlag s) 7 ≡ true) = both-true _ _ (q .1) in
     record {
       mode = leb-true (getD s 259 0) 4 (q .0);

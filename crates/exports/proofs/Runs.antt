@@ -82,7 +82,7 @@ pub refused-runs : RefusedRuns
 refused-runs image all m requests n = refused-exactly image all m requests n _ _ (run-tested image m requests n)
 
 module _ (image requests : List ℕ) (m : Machine) where
-  -- a run that stopped after so many steps: it is those steps
+  -- a run that stopped after so many steps: it is those steps, and how it ended is the answer of the step after them
   record Stopped (r : Run) : Type 0 where
     pub steps : ℕ
     pub completed : stepsOf image requests m steps .report .ending ≡ done tt
@@ -90,6 +90,9 @@ module _ (image requests : List ℕ) (m : Machine) where
     pub machine : r .machine ≡ stepsOf image requests m steps .machine
     pub reported : r .report .steps ≡ steps
     pub cycles : r .report .cycles ≡ stepsOf image requests m steps .report .cycles
+    pub number : Numbered
+    pub ended : r .report .ending ≡ refused number
+    pub stop : stepOf image (stepsOf image requests m steps .machine) (getD requests steps 0) .answer ≡ refused number
 
   -- a run of n steps: all are completed, or it stopped
   abbrev Ends : (n : ℕ) → Run → Ended → Type 0
@@ -122,6 +125,9 @@ module _ (image requests : List ℕ) (m : Machine) where
             machine = step-keeps image (before .machine) (getD requests n 0) r e;
             reported = k;
             cycles = refl;
+            number = r;
+            ended = refl;
+            stop = e;
           }
 
   steps-end : (n : ℕ) → Ends n (stepsOf image requests m n) (stepsOf image requests m n .report .ending)
@@ -146,11 +152,13 @@ module _ (image s requests before : List ℕ) where
   module _ (m : Machine) (u : unpacked s ≡ valid m) where
     -- a stop of a run
     after-stop :
-        (r : Run) (number address : ℕ) → 4 ≤ number → number ≤ 7 → Stopped image requests m r →
+        (r : Run) (number address : ℕ) → r .report .ending ≡ refused (located number address) →
+        4 ≤ number → number ≤ 7 → Stopped image requests m r →
         Left
         (lentRun (refusalWord (located number address)) (packed (r .machine))
         (reportBytes (r .report .steps) (r .report .cycles) ++ drop 8 before))
-    after-stop r number address least most k =
+    after-stop r number address ended least most k =
+        let same : k .number ≡ located number address = cc (k .ended) in
         record {
           refused = λ some none. absurd (none (record { least = omega arith; most = omega arith }));
           stopped = λ is.
@@ -162,6 +170,7 @@ module _ (image s requests before : List ℕ) where
                 counted = k .counted;
                 state = ap packed (k .machine);
                 report = rw (k .reported, k .cycles);
+                stop = rw (k .stop, same);
               };
         }
 
@@ -171,8 +180,8 @@ module _ (image s requests before : List ℕ) where
     unfolding ranLent
     by-ending n r (done tt) is only k = rw is (with-room (leb 8 (length before)) _ (all-done _ _))
     by-ending n r (refused x) is only k =
-        rw (is, only .is)
-        (with-room (leb 8 (length before)) _ (after-stop r (only .number) (only .address) (only .least) (only .most) k))
+        let stopped = after-stop r (only .number) (only .address) (rw (only .is) at is) (only .least) (only .most) k in
+        rw (is, only .is) (with-room (leb 8 (length before)) _ stopped)
 
     by-test : Bytes image → (n : ℕ) (b : Bool) (r : Run) → RunTested image m requests n b r → Left (ranLent s before r)
     unfolding ranLent

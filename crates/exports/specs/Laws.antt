@@ -7,7 +7,7 @@ use mathlib.Core.Bool.{true, not, _&&_}
 use mathlib.Core.List.{List, _++_}
 use lib.Dec.{leb}
 use lib.IntN.{ℤ, pos}
-use lib.ListN.{length, take, drop}
+use lib.ListN.{length, getD, take, drop}
 use Rattle.isa.specs.Refusals.{done}
 use Rattle.isa.specs.RoundTrip.{Bytes}
 use Rattle.isa.specs.Rom.{isImage}
@@ -16,8 +16,9 @@ use Rattle.isa.specs.declared.Instruction.{Instruction}
 use Rattle.isa.specs.declared.Instruction.the-variants as I
 use Rattle.machine.specs.declared.Machine.{Machine}
 use Rattle.machine.specs.State.{isWellFormed}
+use Rattle.machine.specs.Step.{stepOf}
 use Rattle.machine.specs.Run.{stepsOf, requestsFit, runOf}
-use Rattle.exports.specs.Answers.{word, isRefusedRun}
+use Rattle.exports.specs.Answers.{word, answerWord, isRefusedRun}
 use Rattle.exports.specs.States.{valid, unpacked, packed}
 use Rattle.exports.specs.Fields.{packedInstruction, unpackedInstruction}
 use Rattle.exports.specs.declared.fields.Reading.the-variants.{Is}
@@ -114,7 +115,8 @@ pub record StopNumber (number : ℕ) : Type 0 where
   pub least : 4 ≤ number
   pub most : number ≤ 7
 
--- "A stop in a run keeps the steps before it": state and report are those of the steps completed
+-- "A stop in a run keeps the steps before it": state and report are those of the steps completed, and the answer is
+-- that of the step after them, which stops
 pub record KeepsSteps (image s requests before : List ℕ) (l : LentRun) : Type 0 where
   pub machine : Machine
   pub unpacks : unpacked s ≡ valid machine
@@ -123,6 +125,9 @@ pub record KeepsSteps (image s requests before : List ℕ) (l : LentRun) : Type 
   pub counted : stepsOf image requests machine steps .report .steps ≡ steps
   pub state : l .state ≡ packed (stepsOf image requests machine steps .machine)
   pub report : l .report ≡ reportBytes steps (stepsOf image requests machine steps .report .cycles) ++ drop 8 before
+  pub stop :
+      l .answer
+      ≡ answerWord (stepOf image (stepsOf image requests machine steps .machine) (getD requests steps 0) .answer)
 
 -- a refused run, 1, 2, 12 or 11, and one without room for its report, 9, leave state and report; a stop, 4 to 7, keeps
 -- the steps before it
