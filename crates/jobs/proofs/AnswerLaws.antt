@@ -13,16 +13,16 @@ use Rattle.jobs.specs.Answer.{Answers, fits, outcomeOf, SixteenBytesAreE
 
 -- a line that was written lies within the buffer
 pub within-buffer :
-    {text before after : List ℕ} {r : Answered} {n : ℕ} → r ≡ Line n → Answers text before after r → n ≤ length after
-within-buffer {text} {before} {after} {r} {n} e a = go (fits text before) (ap outcomeOf (sym e) ∙ a .answer) (a .buffer)
+    {line before after : List ℕ} {r : Answered} {n : ℕ} → r ≡ Line n → Answers line before after r → n ≤ length after
+within-buffer {line} {before} {after} {r} {n} e a = go (fits line before) (ap outcomeOf (sym e) ∙ a .answer) (a .buffer)
   where
     go :
         (b : Bool)
-        → done n ≡ cond b (done (length text)) (refused (plain 9))
-        → after ≡ cond b (text ++ drop (length text) before) before
+        → done n ≡ cond b (done (length line)) (refused (plain 9))
+        → after ≡ cond b (line ++ drop (length line) before) before
         → n ≤ length after
     go true p q =
-        let same : n ≡ length text = cc in
+        let same : n ≡ length line = cc in
         rw (q, length-append) (omega arith)
     go false p q = let never : _≡_ {A = ℕ} 0 1 = cc in absurd (omega arith)
 
