@@ -23,11 +23,13 @@ abbrev pub IfTaken : (Source → Type 0) → Requested → Type 0
 IfTaken P Nothing = Unit {0}
 IfTaken P (Taken source) = P source
 
-one-asks : (P : Source → Type 0) (source : Source) (more : Requested) (b : Bool) → (b ≡ true → P source) → IfTaken P more → IfTaken P (cond b (Taken source) more)
+one-asks : (P : Source → Type 0) (source : Source) (more : Requested) (b : Bool) → (b ≡ true → P source)
+    → IfTaken P more → IfTaken P (cond b (Taken source) more)
 one-asks P source more true p rest = p refl
 one-asks P source more false p rest = rest
 
-if-taken : (P : Source → Type 0) (mode : Mode) (enabled : Bool) (request : ℕ) → ((s : Source) → isTaken mode enabled request s ≡ true → P s)
+if-taken : (P : Source → Type 0) (mode : Mode) (enabled : Bool) (request : ℕ)
+    → ((s : Source) → isTaken mode enabled request s ≡ true → P s)
     → IfTaken P (requestedOf mode enabled request)
 unfolding requestedOf
 if-taken P mode enabled request p =
@@ -58,14 +60,17 @@ pub record Allowed (certificate : List ℕ) (wired : ℕ) (mode : Mode) (source 
   pub takes : Takes mode source
   pub wired-source : Wired certificate wired source
 
-levels-wired : (certificate : List ℕ) (wired : ℕ) (s : Source) → isNamed wired s ≡ true → levelsFor certificate wired s ≡ 1 + needAt certificate (vectorOf s)
+levels-wired : (certificate : List ℕ) (wired : ℕ) (s : Source) → isNamed wired s ≡ true
+    → levelsFor certificate wired s ≡ 1 + needAt certificate (vectorOf s)
 unfolding levelsFor
 levels-wired certificate wired s e = rw e
 
 -- where only wired sources ask, the request that is taken is allowed
 pub taken-allowed : (image certificate : List ℕ) (wired number : ℕ) → Rules image certificate wired number
-    → (mode : Mode) (enabled : Bool) (request : ℕ) → AsksOnly wired request → IfTaken (Allowed certificate wired mode) (requestedOf mode enabled request)
-taken-allowed image certificate wired number ok mode enabled request asks = if-taken (Allowed certificate wired mode) mode enabled request allowed
+    → (mode : Mode) (enabled : Bool) (request : ℕ) → AsksOnly wired request
+    → IfTaken (Allowed certificate wired mode) (requestedOf mode enabled request)
+taken-allowed image certificate wired number ok mode enabled request asks =
+    if-taken (Allowed certificate wired mode) mode enabled request allowed
   where
     allowed : (s : Source) → isTaken mode enabled request s ≡ true → Allowed certificate wired mode s
     allowed s e =

@@ -1,5 +1,5 @@
 pub mod Calls
 pub mod Session
-pub mod Deeds
+pub mod StackEffect
 pub mod Balance
 pub mod Cases

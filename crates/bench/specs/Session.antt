@@ -1,5 +1,5 @@
--- DEMAND 3: what holds of every list of calls on one machine, once a certificate is accepted (the customer's demand 3; document 01, "The
--- certificate", last paragraph). The claim is `NeverStops`, at the end.
+-- DEMAND 3: what holds of every list of calls on one machine, once a certificate is accepted (the customer's demand 3;
+-- document 01, "The certificate", last paragraph). The claim is `NeverStops`, at the end.
 use Prim.Native.Nat.{ℕ, _≤_, _<_}
 use mathlib.Core.Path.{_≡_}
 use mathlib.Core.Logic.{_⊎_}
@@ -20,7 +20,8 @@ use Rattle.bench.specs.Calls.{Call, step, run, store, reset, leaves, All
 abbrev pub returnAddresses : Machine → List ℕ
 returnAddresses m = inUse (m .control .levels) (m .stack)
 
--- "Levels in use are the return addresses on the stack"; that they are "the pushes since the last reset less the pops" is `Balanced`
+-- "Levels in use are the return addresses on the stack"; that they are "the pushes since the last reset less the pops"
+-- is `Balanced`
 unfoldable pub levelsInUse : Machine → ℕ
 levelsInUse m = length (returnAddresses m)
 
@@ -62,7 +63,8 @@ pub record StoreRefused (m : Machine) (number : ℕ) (s : HostStore) : Type 0 wh
 pub record StoreDone (s : HostStore) : Type 0 where
   pub ending : s .ending ≡ done tt
 
--- "a step is refused only with 11, a run only with 12 or 11, a host store only with 10, and reset never"; else each is done
+-- "a step is refused only with 11, a run only with 12 or 11, a host store only with 10, and reset never"; else each is
+-- done
 abbrev pub Keeps : (image : List ℕ) → (number : ℕ) → Call → Machine → Type 0
 Keeps image number (step request) m = StepRefused m 11 (stepOf image m request) ⊎ StepDone (stepOf image m request)
 Keeps image number (run requests n) m =
@@ -72,21 +74,24 @@ Keeps image number (store address value) m =
     StoreRefused m 10 (hostStoreOf m address value) ⊎ StoreDone (hostStoreOf m address value)
 Keeps image number reset m = Unit {0}
 
--- every call of the list keeps the promise, on the machine as the one before left it; "after every call [..] the levels in use are at
--- most that number"
+-- every call of the list keeps the promise, on the machine as the one before left it; "after every call [..] the levels
+-- in use are at most that number"
 abbrev pub AllKeep : (image : List ℕ) → (number : ℕ) → List Call → Machine → Type 0
 AllKeep image number [] m = levelsInUse m ≤ number
 AllKeep image number (c ∷ calls) m =
     (levelsInUse m ≤ number) × Keeps image number c m × AllKeep image number calls (leaves image c m)
 
--- what is promised of an image with wired sources and a number of levels, "which is at most six": "It starts from any machine just reset",
--- "an ill-formed one too"
+-- what is promised of an image with wired sources and a number of levels, "which is at most six": "It starts from any
+-- machine just reset", "an ill-formed one too"
 abbrev pub Promised : (image : List ℕ) → (wired number : ℕ) → Type 0
 Promised image wired number =
     (number ≤ 6) × ((m : Machine) (calls : List Call) → AllAskOnly wired calls → AllKeep image number calls (resetOf m))
 
--- DEMAND 3. "Let an unpaged image, a set of wired interrupt sources and a certificate be accepted with some number of levels." Then of every
--- list of calls all that is promised holds: "one claim about the whole list of calls, and not a claim for each call".
+-- DEMAND 3. "Let an unpaged image, a set of wired interrupt sources and a certificate be accepted with some number of
+-- levels." Then of every list of calls all that is promised holds: "one claim about the whole list of calls, and not a
+-- claim for each call".
+-- proved by never-stops, proofs/Session
 abbrev pub NeverStops : Type 0
 NeverStops =
-    (image certificate : List ℕ) (wired number : ℕ) → checkOf image certificate wired ≡ accepted number → Promised image wired number
+    (image certificate : List ℕ) (wired number : ℕ) → checkOf image certificate wired ≡ accepted number
+    → Promised image wired number

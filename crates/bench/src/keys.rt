@@ -1,5 +1,6 @@
-// The keys of the bench. A key is lent the one machine by `&mut`, calls the operation on values and stores the machine of its answer.
-// So the machine that a key leaves, with what it returns, is what the operation on values answers, also where it refuses.
+// The keys of the bench. A key is lent the one machine by `&mut`, calls the operation on values and stores the machine
+// of its answer. So the machine that a key leaves, with what it returns, is what the operation on values answers, also
+// where it refuses.
 use machine::Ending;
 use machine::Machine;
 use machine::Report;
@@ -14,7 +15,8 @@ ghost use Rattle.machine.specs.Step.{answerOf, stepOf};
 ghost use Rattle.machine.specs.Run.{reportOf, runOf};
 
 pub fn key_step(m: &mut Machine, image: &[u8], request: u8) -> StepAnswer
-    ensures { λ r. ⌜ record { machine = now (m .exit); answer = answerOf r } ≡ stepOf (now (image .entry)) (now (m .entry)) request ⌝ }
+    ensures { λ r. ⌜ record { machine = now (m .exit); answer = answerOf r }
+        ≡ stepOf (now (image .entry)) (now (m .entry)) request ⌝ }
 {
     let after = step(image, *m, request);
     *m = after.machine;
@@ -22,7 +24,8 @@ pub fn key_step(m: &mut Machine, image: &[u8], request: u8) -> StepAnswer
 }
 
 pub fn key_run(m: &mut Machine, image: &[u8], requests: &[u8], n: u32) -> Report
-    ensures { λ r. ⌜ record { machine = now (m .exit); report = reportOf r } ≡ runOf (now (image .entry)) (now (m .entry)) (now (requests .entry)) n ⌝ }
+    ensures { λ r. ⌜ record { machine = now (m .exit); report = reportOf r }
+        ≡ runOf (now (image .entry)) (now (m .entry)) (now (requests .entry)) n ⌝ }
 {
     let after = run(image, *m, requests, n);
     *m = after.machine;
@@ -36,7 +39,8 @@ pub fn key_reset(m: &mut Machine)
 }
 
 pub fn key_store(m: &mut Machine, address: u8, value: u8) -> Ending
-    ensures { λ r. ⌜ record { machine = now (m .exit); ending = endedOf r } ≡ hostStoreOf (now (m .entry)) address value ⌝ }
+    ensures { λ r. ⌜ record { machine = now (m .exit); ending = endedOf r }
+        ≡ hostStoreOf (now (m .entry)) address value ⌝ }
 {
     let after = host_store(*m, address, value);
     *m = after.machine;

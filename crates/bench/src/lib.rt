@@ -1,3 +1,4 @@
-// The bench: one machine, lent to each key's operation, and what holds of every list of calls on it (specs/Session.antt).
+// The bench: one machine, lent to each key's operation, and what holds of every list of calls on it
+// (specs/Session.antt).
 pub mod keys;
-pub mod pressing;
+pub mod sequence;

@@ -2,7 +2,7 @@
 use crate::sample::sample;
 use crate::states::put_report;
 use crate::states::put_state;
-use bench::pressing::reset_store_run;
+use bench::sequence::reset_store_run;
 use machine::Machine;
 use machine::state::fresh;
 use printing::put;

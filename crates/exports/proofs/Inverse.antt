@@ -4,38 +4,42 @@ use mathlib.Core.Path.{_≡_, refl, sym, ap, _∙_}
 use mathlib.Core.Bool.{Bool, true, false, cond, _&&_}
 use mathlib.Core.List.{List, [], _∷_, _++_, append-assoc}
 use native.Mathlib.Omega.{arith}
-use borrow.Author.Count.{below-more}
-use borrow.Author.Tests.{leb-false, leb-true, eqb-true}
-use lib.Dec.{eqb, leb}
+use borrow.Author.Tests.{ltb-true, leb-true, eqb-true}
+use lib.Dec.{eqb, leb, ltb}
 use lib.ListN.{length, getD, take, drop, length-append, take-append-drop, drop-of-length-le}
 use lib.Seq.{drop-cons, take-at, getD-append-add}
 use Rattle.isa.specs.RoundTrip.{Bytes}
 use Rattle.control.specs.declared.Mode.{Mode}
 use Rattle.control.specs.declared.Mode.the-variants.{Reset, Normal, Interrupt, NmiOverNormal, NmiOverInterrupt}
 use Rattle.machine.specs.declared.Machine.{Machine}
-use Rattle.exports.specs.States.{flagsTyped, isTyped, low, high, flag, modeOf, modeNumber, controlAt, stackAt, pairsAt, machineAt, typed, untyped, unpacked, controlBytes, stackBytes, packed}
+use Rattle.certificate.proofs.Facts.{both-true}
+use Rattle.exports.specs.Every.{every}
+use Rattle.exports.specs.States.{isFlag, isValid, lowByte, highByte, flagByte, modeOf, modeNumber, controlAt}
+use Rattle.exports.specs.States.{stackAt, pairsAt, machineAt, valid, invalid, unpacked, controlBytes, stackBytes}
+use Rattle.exports.specs.States.{packed}
 use Rattle.exports.specs.Laws.{Sized, PackingInverts, WordReads}
-use Rattle.exports.proofs.Filling.{typed-length}
+use Rattle.exports.proofs.Every.{every-holds}
+use Rattle.exports.proofs.Pasting.{valid-length}
 
-low-back : (a b : ℕ) → a < 256 → low (a + b * 256) ≡ a
+low-back : (a b : ℕ) → a < 256 → lowByte (a + b * 256) ≡ a
 low-back a b h = omega arith
 
-high-back : (a b : ℕ) → a < 256 → high (a + b * 256) ≡ b
+high-back : (a b : ℕ) → a < 256 → highByte (a + b * 256) ≡ b
 high-back a b h = omega arith
 
-pub number-back : (n : ℕ) → low n + high n * 256 ≡ n
+pub number-back : (n : ℕ) → lowByte n + highByte n * 256 ≡ n
 number-back n = omega arith
 
-flag-back : (n : ℕ) → n < 2 → flag (eqb n 1) ≡ n
+flag-back : (n : ℕ) → n < 2 → flagByte (eqb n 1) ≡ n
 flag-back zero h = refl
 flag-back (suc zero) h = refl
 flag-back (suc (suc n)) h = absurd (omega arith)
 
-back-flag : (b : Bool) → eqb (flag b) 1 ≡ b
+back-flag : (b : Bool) → eqb (flagByte b) 1 ≡ b
 back-flag true = refl
 back-flag false = refl
 
-flag-small : (b : Bool) → leb 2 (flag b) ≡ false
+flag-small : (b : Bool) → ltb (flagByte b) 2 ≡ true
 flag-small true = refl
 flag-small false = refl
 
@@ -70,43 +74,36 @@ listed s from (suc n) = getD s from 0 ∷ listed s (suc from) n
 
 elements : (s : List ℕ) (from n : ℕ) → length s ≡ from + n → drop from s ≡ listed s from n
 elements s from zero e = let over : length s ≤ from = omega arith in drop-of-length-le s over
-elements s from (suc n) e = drop-cons s from 0 (omega arith) ∙ ap (λ (l : List ℕ). getD s from 0 ∷ l) (elements s (suc from) n (omega arith))
+elements s from (suc n) e =
+    drop-cons s from 0 (omega arith) ∙ ap (λ (l : List ℕ). getD s from 0 ∷ l) (elements s (suc from) n (omega arith))
 
 -- what the tests of a state tell
-passed : (b x : Bool) → cond b false x ≡ true → (b ≡ false) × (x ≡ true)
-passed true x e = let z : _≡_ {A = ℕ} 0 1 = cc in absurd (omega arith)
-passed false x e = (refl, e)
-
-pub both : (a b : Bool) → a && b ≡ true → (a ≡ true) × (b ≡ true)
-both true b e = (refl, e)
-both false b e = let z : _≡_ {A = ℕ} 0 1 = cc in absurd (omega arith)
-
-flags-below : (s : List ℕ) (n : ℕ) → flagsTyped s n ≡ true → (k : ℕ) → k < n → getD s (260 + k) 0 < 2
-unfolding flagsTyped
-flags-below s zero e k h = absurd (omega arith)
-flags-below s (suc n) e k h =
-    let p : (leb 2 (getD s (260 + n) 0) ≡ false) × (flagsTyped s n ≡ true) = passed (leb 2 (getD s (260 + n) 0)) (flagsTyped s n) e in
-    below-more (λ j. getD s (260 + j) 0 < 2) n (flags-below s n (p .1)) (leb-false 2 (getD s (260 + n) 0) (p .0)) k (omega arith)
-
-record Typed (s : List ℕ) : Type 0 where
+record Valid (s : List ℕ) : Type 0 where
   mode : getD s 259 0 ≤ 4
   nought : getD s 267 0 ≡ 0
   flags : (k : ℕ) → k < 7 → getD s (260 + k) 0 < 2
 
-typed-facts : (s : List ℕ) → isTyped s ≡ true → Typed s
-unfolding isTyped
-typed-facts s e =
-    let p : (eqb (length s) 280 ≡ true) × (leb (getD s 259 0) 4 && (eqb (getD s 267 0) 0 && flagsTyped s 7) ≡ true) = both _ _ e in
-    let q : (leb (getD s 259 0) 4 ≡ true) × (eqb (getD s 267 0) 0 && flagsTyped s 7 ≡ true) = both _ _ (p .1) in
-    let r : (eqb (getD s 267 0) 0 ≡ true) × (flagsTyped s 7 ≡ true) = both _ _ (q .1) in
-    record { mode = leb-true (getD s 259 0) 4 (q .0); nought = eqb-true (getD s 267 0) 0 (r .0); flags = flags-below s 7 (r .1) }
+valid-facts : (s : List ℕ) → isValid s ≡ true → Valid s
+unfolding isValid
+valid-facts s e =
+    let p : (eqb (length s) 280 ≡ true)
+    × (leb (getD s 259 0) 4 && (eqb (getD s 267 0) 0 && every (isFlag s) 7) ≡ true) = both-true _ _ e in
+    let q : (leb (getD s 259 0) 4 ≡ true) × (eqb (getD s 267 0) 0 && every (isFlag s) 7 ≡ true) =
+    both-true _ _ (p .1) in
+    let r : (eqb (getD s 267 0) 0 ≡ true) × (every (isFlag s) 7 ≡ true) = both-true _ _ (q .1) in
+    record {
+      mode = leb-true (getD s 259 0) 4 (q .0);
+      nought = eqb-true (getD s 267 0) 0 (r .0);
+      flags = λ k h. ltb-true (getD s (260 + k) 0) 2 (every-holds (isFlag s) 7 (r .1) k h);
+    }
 
-packed-again : (s : List ℕ) → Bytes s → isTyped s ≡ true → packed (machineAt s) ≡ s
+packed-again : (s : List ℕ) → Bytes s → isValid s ≡ true → packed (machineAt s) ≡ s
 unfolding packed machineAt controlAt stackAt pairsAt controlBytes stackBytes
 packed-again s b e =
-    let t = typed-facts s e in
+    let t = valid-facts s e in
     let flags = t .flags in
-    let whole : take 256 s ++ listed s 256 24 ≡ s = rw (← elements s 256 24 (typed-length s e)) (take-append-drop 256 s) in
+    let whole : take 256 s ++ listed s 256 24 ≡ s =
+    rw (← elements s 256 24 (valid-length s e)) (take-append-drop 256 s) in
     rw (
       low-back (getD s 256 0) (getD s 257 0) (b 256),
       high-back (getD s 256 0) (getD s 257 0) (b 256),
@@ -141,9 +138,9 @@ module _ (m : Machine) (z : Sized m) where
   at : (n : ℕ) → getD (m .bytes ++ tail) (256 + n) 0 ≡ getD tail n 0
   at n = rw (← z .bytes) (getD-append-add (m .bytes) tail n 0)
 
-  is-typed : isTyped (m .bytes ++ tail) ≡ true
-  unfolding tail isTyped flagsTyped controlBytes stackBytes
-  is-typed =
+  is-valid : isValid (m .bytes ++ tail) ≡ true
+  unfolding tail isValid every controlBytes stackBytes
+  is-valid =
       rw (
         length-append,
         z .bytes,
@@ -213,20 +210,21 @@ module _ (m : Machine) (z : Sized m) where
         six,
       )
 
-  unpacked-again : unpacked (packed m) ≡ typed m
+  unpacked-again : unpacked (packed m) ≡ valid m
   unfolding unpacked packed tail
-  unpacked-again = rw (append-assoc, is-typed, is-machine)
+  unpacked-again = rw (append-assoc, is-valid, is-machine)
 
-typed-is : (s : List ℕ) (b : Bool) (m : Machine) → cond b (typed (machineAt s)) untyped ≡ typed m → (b ≡ true) × (machineAt s ≡ m)
-typed-is s true m e = (refl, cc)
-typed-is s false m e = let z : _≡_ {A = ℕ} 0 1 = cc in absurd (omega arith)
+valid-is : (s : List ℕ) (b : Bool) (m : Machine) → cond b (valid (machineAt s)) invalid ≡ valid m
+    → (b ≡ true) × (machineAt s ≡ m)
+valid-is s true m e = (refl, cc)
+valid-is s false m e = let z : _≡_ {A = ℕ} 0 1 = cc in absurd (omega arith)
 
 pub packing-inverts : PackingInverts
 unfolding unpacked
 packing-inverts = record {
   unpack-pack = unpacked-again;
   pack-unpack = λ s b m e.
-      let p : (isTyped s ≡ true) × (machineAt s ≡ m) = typed-is s (isTyped s) m e in
+      let p : (isValid s ≡ true) × (machineAt s ≡ m) = valid-is s (isValid s) m e in
       rw (← p .1) (packed-again s b (p .0));
 }
 

@@ -9,7 +9,7 @@ use Rattle.isa.specs.Refusals.{Numbered, plain, numbered, Answer, done, refused
 use Rattle.isa.specs.declared.Refusal.{Refusal}
 use Rattle.jobs.specs.declared.Answered.{Answered}
 use Rattle.jobs.specs.declared.Answered.the-variants.{Line, Refused}
-use Rattle.jobs.specs.Answers.{fits, Answers}
+use Rattle.jobs.specs.Answer.{fits, Answers}
 use Rattle.exports.specs.Answers.{word, refusalWord, answerWord}
 use Rattle.exports.specs.Lent.{Lent, lent, lineLent}
 
@@ -25,13 +25,16 @@ module _ (line before after : List ℕ) where
       let h : length line ≤ 16 = a .short in
       omega arith
 
-  same : (o : Answer ℕ) (b : Bool) → o ≡ cond b (done (length line)) (refused (plain 9)) → after ≡ cond b (line ++ drop (length line) before) before
-      → lent (answerWord o) after ≡ cond b (lent (word 0 0 (length line)) (line ++ drop (length line) before)) (lent (refusalWord (plain 9)) before)
+  same : (o : Answer ℕ) (b : Bool) → o ≡ cond b (done (length line)) (refused (plain 9))
+      → after ≡ cond b (line ++ drop (length line) before) before
+      → lent (answerWord o) after
+      ≡ cond b (lent (word 0 0 (length line)) (line ++ drop (length line) before)) (lent (refusalWord (plain 9)) before)
   same o true e f = rw (e, f)
   same o false e f = rw (e, f)
 
   pub line-lent : (n : ℕ) → Answers line before after (Line n) → lent (word 0 0 n) after ≡ lineLent line before
   line-lent n a = same (done n) (fits line before) (a .answer) (a .buffer)
 
-  pub refused-lent : (r : Refusal) → Answers line before after (Refused r) → lent (refusalWord (numbered r)) after ≡ lineLent line before
+  pub refused-lent : (r : Refusal) → Answers line before after (Refused r)
+      → lent (refusalWord (numbered r)) after ≡ lineLent line before
   refused-lent r a = same (refused (numbered r)) (fits line before) (a .answer) (a .buffer)

@@ -1,7 +1,8 @@
-pub mod Filling
-pub mod Beyond
+pub mod Every
+pub mod Pasting
+pub mod Clamping
 pub mod JobLine
 pub mod Inverse
-pub mod Leaving
+pub mod Runs
+pub mod RefusalsLeave
 pub mod Reading
-pub mod TurnedDown

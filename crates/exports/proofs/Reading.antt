@@ -1,12 +1,11 @@
 -- Fields are read as the one instruction whose row they are.
-use Prim.Native.Nat.{ℕ, zero, suc, _+_, _<_, _≤_}
+use Prim.Native.Nat.{ℕ, _<_, _≤_}
 use mathlib.Core.Path.{_≡_, refl, sym, _∙_}
 use mathlib.Core.Bool.{Bool, true, false, cond, _&&_}
 use mathlib.Core.List.{List, _++_}
 use native.Mathlib.Omega.{arith}
-use borrow.Author.Count.{below-more}
 use borrow.Author.Tests.{ltb-true, leb-true, eqb-true, eq-eqb, le-leb}
-use lib.Dec.{eqb, leb}
+use lib.Dec.{leb}
 use lib.IntN.{ℤ}
 use lib.Signed.{mag}
 use lib.ListN.{length, getD, take, length-append, List·getD-append}
@@ -19,6 +18,8 @@ use Rattle.isa.specs.declared.Instruction.{Instruction}
 use Rattle.isa.specs.declared.Instruction.the-variants as I
 use Rattle.isa.proofs.Finite.{eqZ, atSigned, eqZ→eq}
 use Rattle.exports.specs.declared.fields.Reading.the-variants.{Is, Unreadable}
+use Rattle.certificate.proofs.Facts.{both-true}
+use Rattle.exports.specs.Every.{every}
 use Rattle.exports.specs.Fields.{
   operandRow,
   packedInstruction,
@@ -30,7 +31,8 @@ use Rattle.exports.specs.Fields.{
   unpackedInstruction,
 }
 use Rattle.exports.specs.Laws.{displacementOf, FieldsInvert}
-use Rattle.exports.proofs.Inverse.{number-back, both}
+use Rattle.exports.proofs.Every.{every-when, every-holds}
+use Rattle.exports.proofs.Inverse.{number-back}
 
 operand-seven : (form : ℕ) (o : Operand) → length (operandRow form o) ≡ 7
 operand-seven form (Direct n) = refl
@@ -76,7 +78,8 @@ displacement-back d fits =
     eqZ→eq (longDisplacement (modulo 256 d)) d
     (atSigned (λ z. eqZ (longDisplacement (modulo 256 z)) z) tt d (record { sfits = ltb-true (mag d) 128 fits }))
 
-back : (i : Instruction) → inField 8 (displacementOf i) ≡ true → (more : List ℕ) → instructionAt (packedInstruction i ++ more) ≡ i
+back : (i : Instruction) → inField 8 (displacementOf i) ≡ true → (more : List ℕ)
+    → instructionAt (packedInstruction i ++ more) ≡ i
 unfolding packedInstruction instructionAt instructionBy instructions operandBy
 back (I.Jrnz d) fits more = rw (displacement-back d fits)
 back (I.Jrnc d) fits more = rw (displacement-back d fits)
@@ -134,27 +137,14 @@ back I.Stop fits more = refl
 back I.Wait fits more = refl
 
 -- lists that agree in their first n elements
-agree-when : (s t : List ℕ) (n : ℕ) → ((k : ℕ) → k < n → getD s k 0 ≡ getD t k 0) → agree s t n ≡ true
-unfolding agree
-agree-when s t zero same = refl
-agree-when s t (suc n) same =
-    rw (eq-eqb (getD s n 0) (getD t n 0) (same n (omega arith))) (agree-when s t n (λ k h. same k (omega arith)))
+when-agree : (s t : List ℕ) (n : ℕ) → every (agree s t) n ≡ true → (k : ℕ) → k < n → getD s k 0 ≡ getD t k 0
+when-agree s t n e k h = eqb-true (getD s k 0) (getD t k 0) (every-holds (agree s t) n e k h)
 
-tested : (b x : Bool) → cond b x false ≡ true → (b ≡ true) × (x ≡ true)
-tested true x e = (refl, e)
-tested false x e = let z : _≡_ {A = ℕ} 0 1 = cc in absurd (omega arith)
+in-front : (t more : List ℕ) → length t ≡ 7 → every (agree (t ++ more) t) 7 ≡ true
+in-front t more e = every-when (agree (t ++ more) t) 7 (λ k h. eq-eqb _ _ (List·getD-append t more 0 k (omega arith)))
 
-when-agree : (s t : List ℕ) (n : ℕ) → agree s t n ≡ true → (k : ℕ) → k < n → getD s k 0 ≡ getD t k 0
-unfolding agree
-when-agree s t zero e k h = absurd (omega arith)
-when-agree s t (suc n) e k h =
-    let p : (eqb (getD s n 0) (getD t n 0) ≡ true) × (agree s t n ≡ true) = tested (eqb (getD s n 0) (getD t n 0)) (agree s t n) e in
-    below-more (λ j. getD s j 0 ≡ getD t j 0) n (when-agree s t n (p .1)) (eqb-true (getD s n 0) (getD t n 0) (p .0)) k (omega arith)
-
-in-front : (t more : List ℕ) → length t ≡ 7 → agree (t ++ more) t 7 ≡ true
-in-front t more e = agree-when (t ++ more) t 7 (λ k h. List·getD-append t more 0 k (omega arith))
-
-row-read : (s : List ℕ) (i : Instruction) → (7 ≤ length s) → agree s (packedInstruction i) 7 ≡ true → take 7 s ≡ packedInstruction i
+row-read : (s : List ℕ) (i : Instruction) → (7 ≤ length s) → every (agree s (packedInstruction i)) 7 ≡ true
+    → take 7 s ≡ packedInstruction i
 row-read s i long e =
     let size : length (take 7 s) ≡ 7 = length-take-le 7 s long in
     ext-getD 0 (take 7 s) (packedInstruction i) (size ∙ sym (seven i))
@@ -169,9 +159,15 @@ unfolding unpackedInstruction
 fields-invert = record {
   read-row = λ i fits more.
       let long : 7 ≤ length (packedInstruction i ++ more) = simp length-append (omega (arith, seven i)) in
-      rw (back i fits more, le-leb 7 (length (packedInstruction i ++ more)) long, in-front (packedInstruction i) more (seven i));
+      rw (
+        back i fits more,
+        le-leb 7 (length (packedInstruction i ++ more)) long,
+        in-front (packedInstruction i) more (seven i),
+      );
   row-read = λ s i e.
-      let p : (leb 7 (length s) && agree s (packedInstruction (instructionAt s)) 7 ≡ true) × (instructionAt s ≡ i) = is-read _ _ _ e in
-      let q : (leb 7 (length s) ≡ true) × (agree s (packedInstruction (instructionAt s)) 7 ≡ true) = both _ _ (p .0) in
+      let p : (leb 7 (length s) && every (agree s (packedInstruction (instructionAt s))) 7 ≡ true)
+      × (instructionAt s ≡ i) = is-read _ _ _ e in
+      let q : (leb 7 (length s) ≡ true) × (every (agree s (packedInstruction (instructionAt s))) 7 ≡ true) =
+      both-true _ _ (p .0) in
       row-read s i (leb-true 7 (length s) (q .0)) (rw (p .1) at (q .1));
 }

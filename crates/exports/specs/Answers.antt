@@ -1,9 +1,9 @@
--- Answers as one number: bits 0 to 7 the refusal's or stop's number (0: none), bits 8 to 23 its address, bits 24 to 55 a value.
+-- Answers as one number: bits 0 to 7 the refusal's or stop's number (0: none), bits 8 to 23 its address, bits 24 to 55
+-- a value.
 use Prim.Native.Nat.{ℕ, _+_, _*_}
 use mathlib.Core.Bool.{Bool, true, false, cond}
 use mathlib.Core.List.{List}
 use lib.ListN.{length}
-use lib.Dec.{ltb}
 use Rattle.isa.specs.Refusals.{Numbered, plain, located, Answer, Ended, done, refused}
 use Rattle.isa.specs.Rom.{isImage}
 
@@ -15,9 +15,9 @@ abbrev pub refusalWord : Numbered → ℕ
 refusalWord (plain n) = word n 0 0
 refusalWord (located n a) = word n a 0
 
--- step and run on a state that is none: 2, after 1
-abbrev pub untypedWord : (image : List ℕ) → ℕ
-untypedWord image = refusalWord (cond (isImage (length image)) (plain 2) (plain 1))
+-- step and run on an invalid state: 2, after 1
+abbrev pub invalidWord : (image : List ℕ) → ℕ
+invalidWord image = refusalWord (cond (isImage (length image)) (plain 2) (plain 1))
 
 -- a step's cycles, the check's levels, the length of a written instruction
 abbrev pub answerWord : Answer ℕ → ℕ
@@ -30,14 +30,7 @@ endedWord (done tt) = word 0 0 0
 endedWord (refused r) = refusalWord r
 
 -- a run's refusals, 1, 2, 12 and 11, have no address; a stop has one
-abbrev pub isTurnedDown : Ended → Bool
-isTurnedDown (done tt) = false
-isTurnedDown (refused (plain n)) = true
-isTurnedDown (refused (located n a)) = false
-
--- what stands in for a number beyond a byte, and beyond the program addresses: it is refused as that number is
-abbrev pub byteOr : ℕ → ℕ
-byteOr n = cond (ltb n 256) n 255
-
-abbrev pub addressOrEnd : ℕ → ℕ
-addressOrEnd n = cond (ltb n 4096) n 4096
+abbrev pub isRefusedRun : Ended → Bool
+isRefusedRun (done tt) = false
+isRefusedRun (refused (plain n)) = true
+isRefusedRun (refused (located n a)) = false

@@ -1,7 +1,7 @@
--- An instruction as a row of fields: form, operand kind, value low and high, second value, bit number, displacement; decoding adds
--- length, cycles and a zero.
-use Prim.Native.Nat.{ℕ, zero, suc, _+_, _*_}
-use mathlib.Core.Bool.{Bool, true, false, cond, _&&_}
+-- An instruction as a row of fields: form, operand kind, value low and high, second value, bit number, displacement;
+-- decoding adds length, cycles and a zero.
+use Prim.Native.Nat.{ℕ, _+_, _*_}
+use mathlib.Core.Bool.{Bool, cond, _&&_}
 use mathlib.Core.List.{List, [], _∷_, _++_}
 use lib.ListN.{length, getD}
 use lib.Dec.{eqb, leb}
@@ -11,7 +11,8 @@ use Rattle.isa.specs.declared.Operand.{Operand}
 use Rattle.isa.specs.declared.Operand.the-variants.{Direct, Short, ThroughX, ThroughY}
 use Rattle.isa.specs.declared.Instruction.{Instruction}
 use Rattle.isa.specs.declared.Instruction.the-variants as I
-use Rattle.exports.specs.States.{low, high}
+use Rattle.exports.specs.Every.{every}
+use Rattle.exports.specs.States.{lowByte, highByte}
 use Rattle.exports.specs.declared.fields.Reading.{Reading}
 use Rattle.exports.specs.declared.fields.Reading.the-variants.{Is, Unreadable}
 
@@ -26,7 +27,7 @@ abbrev pub jumpRow : (form : ℕ) → ℤ → List ℕ
 jumpRow form d = rowOf form 0 0 0 0 0 (modulo 256 d)
 
 abbrev pub toRow : (form target : ℕ) → List ℕ
-toRow form target = rowOf form 0 (low target) (high target) 0 0 0
+toRow form target = rowOf form 0 (lowByte target) (highByte target) 0 0 0
 
 abbrev pub bitJumpRow : (form bit a : ℕ) → ℤ → List ℕ
 bitJumpRow form bit a d = rowOf form 0 a 0 0 bit (modulo 256 d)
@@ -100,16 +101,16 @@ instructionBy form o n target second bit d = getD (instructions o n target secon
 -- the one instruction that seven fields can be of
 unfoldable pub instructionAt : List ℕ → Instruction
 instructionAt s =
-    instructionBy (getD s 0 0) (operandBy (getD s 1 0) (getD s 2 0)) (getD s 2 0) (getD s 2 0 + getD s 3 0 * 256) (getD s 4 0)
+    instructionBy (getD s 0 0) (operandBy (getD s 1 0) (getD s 2 0)) (getD s 2 0) (getD s 2 0 + getD s 3 0 * 256)
+    (getD s 4 0)
     (getD s 5 0) (longDisplacement (getD s 6 0))
 
--- the first n elements of two lists agree
-unfoldable pub agree : List ℕ → List ℕ → ℕ → Bool
-agree s t zero = true
-agree s t (suc n) = cond (eqb (getD s n 0) (getD t n 0)) (agree s t n) false
+-- two lists agree at an index
+abbrev pub agree : (s t : List ℕ) → (k : ℕ) → Bool
+agree s t k = eqb (getD s k 0) (getD t k 0)
 
--- Fields are an instruction's where they are exactly its row: there are seven, the form and the kind exist, and a field that the form
--- does not use is 0.
+-- Fields are an instruction's where they are exactly its row: there are seven, the form and the kind exist, and a field
+-- that the form does not use is 0.
 unfoldable pub unpackedInstruction : List ℕ → Reading
 unpackedInstruction s =
-    cond (leb 7 (length s) && agree s (packedInstruction (instructionAt s)) 7) (Is (instructionAt s)) Unreadable
+    cond (leb 7 (length s) && every (agree s (packedInstruction (instructionAt s))) 7) (Is (instructionAt s)) Unreadable

@@ -12,11 +12,11 @@ use Rattle.isa.specs.Encode.{encodeOf}
 use Rattle.machine.specs.State.{HostStore, resetOf, hostStoreOf}
 use Rattle.machine.specs.Step.{Step, stepOf}
 use Rattle.machine.specs.Run.{Run, runOf}
-use Rattle.jobs.specs.Jobs.{jobOf}
-use Rattle.jobs.specs.Lines.{lineOf}
-use Rattle.jobs.specs.Answers.{fits}
-use Rattle.exports.specs.Answers.{word, refusalWord, untypedWord, answerWord, endedWord, isTurnedDown}
-use Rattle.exports.specs.States.{Unpacked, typed, untyped, unpacked, packed}
+use Rattle.jobs.specs.CheckJob.{jobOf}
+use Rattle.jobs.specs.Line.{lineOf}
+use Rattle.jobs.specs.Answer.{fits}
+use Rattle.exports.specs.Answers.{word, refusalWord, invalidWord, answerWord, endedWord, isRefusedRun}
+use Rattle.exports.specs.States.{Unpacked, valid, invalid, unpacked, packed}
 use Rattle.exports.specs.Fields.{decodedRow, unpackedInstruction}
 use Rattle.exports.specs.declared.fields.Reading.{Reading}
 use Rattle.exports.specs.declared.fields.Reading.the-variants.{Is, Unreadable}
@@ -29,10 +29,10 @@ pub record Lent : Type 0 where
 abbrev pub lent : (answer : ℕ) → (buffer : List ℕ) → Lent
 lent answer buffer = record { answer = answer; buffer = buffer }
 
--- a state that is none is refused with 2
+-- an invalid state is refused with 2
 abbrev pub resetBy : List ℕ → Unpacked → Lent
-resetBy s (typed m) = lent (word 0 0 0) (packed (resetOf m))
-resetBy s untyped = lent (refusalWord (plain 2)) s
+resetBy s (valid m) = lent (word 0 0 0) (packed (resetOf m))
+resetBy s invalid = lent (refusalWord (plain 2)) s
 
 unfoldable pub resetLent : List ℕ → Lent
 resetLent s = resetBy s (unpacked s)
@@ -41,19 +41,20 @@ abbrev pub storedLent : HostStore → Lent
 storedLent r = lent (endedWord (r .ending)) (packed (r .machine))
 
 abbrev pub storeBy : List ℕ → (a value : ℕ) → Unpacked → Lent
-storeBy s a value (typed m) = storedLent (hostStoreOf m a value)
-storeBy s a value untyped = lent (refusalWord (plain 2)) s
+storeBy s a value (valid m) = storedLent (hostStoreOf m a value)
+storeBy s a value invalid = lent (refusalWord (plain 2)) s
 
 -- an address or a value beyond its byte is refused with 8, first
 unfoldable pub storeLent : List ℕ → (a value : ℕ) → Lent
-storeLent s a value = cond (leb a 255 && leb value 255) (storeBy s a value (unpacked s)) (lent (refusalWord (plain 8)) s)
+storeLent s a value =
+    cond (leb a 255 && leb value 255) (storeBy s a value (unpacked s)) (lent (refusalWord (plain 8)) s)
 
 abbrev pub steppedLent : Step → Lent
 steppedLent r = lent (answerWord (r .answer)) (packed (r .machine))
 
 abbrev pub stepBy : (image s : List ℕ) → (request : ℕ) → Unpacked → Lent
-stepBy image s request (typed m) = steppedLent (stepOf image m request)
-stepBy image s request untyped = lent (untypedWord image) s
+stepBy image s request (valid m) = steppedLent (stepOf image m request)
+stepBy image s request invalid = lent (invalidWord image) s
 
 unfoldable pub stepLent : (image s : List ℕ) → (request : ℕ) → Lent
 stepLent image s request = stepBy image s request (unpacked s)
@@ -76,14 +77,15 @@ reportBytes steps cycles =
 -- a refused run leaves both buffers, and so does one without room for its report: 9
 unfoldable pub ranLent : (s report : List ℕ) → Run → LentRun
 ranLent s report r =
-    cond (isTurnedDown (r .report .ending)) (lentRun (endedWord (r .report .ending)) s report)
+    cond (isRefusedRun (r .report .ending)) (lentRun (endedWord (r .report .ending)) s report)
     (cond (leb 8 (length report))
-    (lentRun (endedWord (r .report .ending)) (packed (r .machine)) (reportBytes (r .report .steps) (r .report .cycles) ++ drop 8 report))
+    (lentRun (endedWord (r .report .ending)) (packed (r .machine))
+    (reportBytes (r .report .steps) (r .report .cycles) ++ drop 8 report))
     (lentRun (refusalWord (plain 9)) s report))
 
 abbrev pub runBy : (image s requests : List ℕ) → (n : ℕ) → (report : List ℕ) → Unpacked → LentRun
-runBy image s requests n report (typed m) = ranLent s report (runOf image m requests n)
-runBy image s requests n report untyped = lentRun (untypedWord image) s report
+runBy image s requests n report (valid m) = ranLent s report (runOf image m requests n)
+runBy image s requests n report invalid = lentRun (invalidWord image) s report
 
 unfoldable pub runLent : (image s requests : List ℕ) → (n : ℕ) → (report : List ℕ) → LentRun
 runLent image s requests n report = runBy image s requests n report (unpacked s)
@@ -91,7 +93,8 @@ runLent image s requests n report = runBy image s requests n report (unpacked s)
 -- decoding's own refusals come first, then 9
 unfoldable pub decodedLent : List ℕ → Answer decode.Decoding → Lent
 decodedLent out (done (decode.instruction i bytes cycles)) =
-    cond (leb 10 (length out)) (lent (word 0 0 bytes) (decodedRow i bytes cycles ++ drop 10 out)) (lent (refusalWord (plain 9)) out)
+    cond (leb 10 (length out)) (lent (word 0 0 bytes) (decodedRow i bytes cycles ++ drop 10 out))
+    (lent (refusalWord (plain 9)) out)
 decodedLent out (refused r) = lent (refusalWord r) out
 
 unfoldable pub decodeLent : (image : List ℕ) → (address : ℕ) → (out : List ℕ) → Lent
@@ -108,7 +111,8 @@ writeLent fields out = writeBy out (unpackedInstruction fields)
 -- a job's line, written from the buffer's first byte, with its length; 9 where the buffer is too short for it
 abbrev pub lineLent : (line buffer : List ℕ) → Lent
 lineLent line buffer =
-    cond (fits line buffer) (lent (word 0 0 (length line)) (line ++ drop (length line) buffer)) (lent (refusalWord (plain 9)) buffer)
+    cond (fits line buffer) (lent (word 0 0 (length line)) (line ++ drop (length line) buffer))
+    (lent (refusalWord (plain 9)) buffer)
 
 unfoldable pub jobLent : (job buffer : List ℕ) → Lent
 jobLent job buffer = lineLent (lineOf (jobOf job)) buffer

@@ -1,5 +1,7 @@
-pub mod Answers
+pub mod Every
+pub mod Clamp
 pub mod States
+pub mod Answers
 pub mod Fields
 pub mod Lent
 pub mod Laws

@@ -1,10 +1,10 @@
--- A machine as a state of 280 bytes: 0-255 data; 256, 257 PC; 258 levels; 259 mode; 260 asleep; 261-266 Z and C of normal, interrupt
--- and NMI; 267 zero; 268-279 the return addresses. Numbers of two bytes stand low byte first.
-use Prim.Native.Nat.{ℕ, zero, suc, _+_, _*_, _/_, _%_}
-use mathlib.Core.Bool.{Bool, true, false, cond, _&&_}
+-- A machine as a state of 280 bytes: 0-255 data; 256, 257 PC; 258 levels; 259 mode; 260 asleep; 261-266 Z and C of
+-- normal, interrupt and NMI; 267 zero; 268-279 the return addresses. Numbers of two bytes stand low byte first.
+use Prim.Native.Nat.{ℕ, _+_, _*_, _/_, _%_}
+use mathlib.Core.Bool.{Bool, cond, _&&_}
 use mathlib.Core.List.{List, [], _∷_, _++_}
 use lib.ListN.{length, getD, take}
-use lib.Dec.{eqb, leb}
+use lib.Dec.{eqb, leb, ltb}
 use Rattle.alu.specs.declared.Flags.{Flags}
 use Rattle.control.specs.declared.Mode.{Mode}
 use Rattle.control.specs.declared.Mode.the-variants.{Reset, Normal, Interrupt, NmiOverNormal, NmiOverInterrupt}
@@ -12,15 +12,15 @@ use Rattle.control.specs.declared.Control.{Control}
 use Rattle.machine.specs.declared.FlagPairs.{FlagPairs}
 use Rattle.machine.specs.declared.Machine.{Machine}
 use Rattle.machine.specs.State.{machineOf}
+use Rattle.exports.specs.Every.{every}
 
--- the first n of the bytes from 260 on, asleep and the flags, are 0 or 1
-unfoldable pub flagsTyped : List ℕ → ℕ → Bool
-flagsTyped s zero = true
-flagsTyped s (suc n) = cond (leb 2 (getD s (260 + n) 0)) false (flagsTyped s n)
+-- the byte at 260 + k, asleep or a flag, is 0 or 1
+abbrev pub isFlag : List ℕ → (k : ℕ) → Bool
+isFlag s k = ltb (getD s (260 + k) 0) 2
 
--- whether bytes are a state: 280 of them, and none that is no mode or flag
-unfoldable pub isTyped : List ℕ → Bool
-isTyped s = eqb (length s) 280 && (leb (getD s 259 0) 4 && (eqb (getD s 267 0) 0 && flagsTyped s 7))
+-- whether bytes are the state of a machine: 280 of them, with a mode, seven flags and the zero
+unfoldable pub isValid : List ℕ → Bool
+isValid s = eqb (length s) 280 && (leb (getD s 259 0) 4 && (eqb (getD s 267 0) 0 && every (isFlag s) 7))
 
 -- the number of two bytes
 abbrev pub wordAt : List ℕ → ℕ → ℕ
@@ -53,13 +53,13 @@ pairsAt s = record { normal = pairAt s 261; interrupt = pairAt s 263; nmi = pair
 unfoldable pub machineAt : List ℕ → Machine
 machineAt s = machineOf (controlAt s) (stackAt s) (pairsAt s) (take 256 s)
 
--- what bytes are as a state
+-- what bytes are as a state: that of a machine, or invalid
 pub data Unpacked : Type 0 where
-  typed : Machine → Unpacked
-  untyped : Unpacked
+  valid : Machine → Unpacked
+  invalid : Unpacked
 
 unfoldable pub unpacked : List ℕ → Unpacked
-unpacked s = cond (isTyped s) (typed (machineAt s)) untyped
+unpacked s = cond (isValid s) (valid (machineAt s)) invalid
 
 abbrev pub modeNumber : Mode → ℕ
 modeNumber Reset = 0
@@ -68,30 +68,30 @@ modeNumber Interrupt = 2
 modeNumber NmiOverNormal = 3
 modeNumber NmiOverInterrupt = 4
 
-abbrev pub flag : Bool → ℕ
-flag is = cond is 1 0
+abbrev pub flagByte : Bool → ℕ
+flagByte is = cond is 1 0
 
-abbrev pub low : ℕ → ℕ
-low n = n % 256
+abbrev pub lowByte : ℕ → ℕ
+lowByte n = n % 256
 
-abbrev pub high : ℕ → ℕ
-high n = n / 256
+abbrev pub highByte : ℕ → ℕ
+highByte n = n / 256
 
 unfoldable pub controlBytes : Control → FlagPairs → List ℕ
 controlBytes c f =
-    low (c .pc) ∷ high (c .pc) ∷ c .levels ∷ modeNumber (c .mode) ∷ flag (c .asleep)
-    ∷ flag (f .normal .zero) ∷ flag (f .normal .carry)
-    ∷ flag (f .interrupt .zero) ∷ flag (f .interrupt .carry)
-    ∷ flag (f .nmi .zero) ∷ flag (f .nmi .carry) ∷ 0 ∷ []
+    lowByte (c .pc) ∷ highByte (c .pc) ∷ c .levels ∷ modeNumber (c .mode) ∷ flagByte (c .asleep)
+    ∷ flagByte (f .normal .zero) ∷ flagByte (f .normal .carry)
+    ∷ flagByte (f .interrupt .zero) ∷ flagByte (f .interrupt .carry)
+    ∷ flagByte (f .nmi .zero) ∷ flagByte (f .nmi .carry) ∷ 0 ∷ []
 
 unfoldable pub stackBytes : List ℕ → List ℕ
 stackBytes stack =
-    low (getD stack 0 0) ∷ high (getD stack 0 0)
-    ∷ low (getD stack 1 0) ∷ high (getD stack 1 0)
-    ∷ low (getD stack 2 0) ∷ high (getD stack 2 0)
-    ∷ low (getD stack 3 0) ∷ high (getD stack 3 0)
-    ∷ low (getD stack 4 0) ∷ high (getD stack 4 0)
-    ∷ low (getD stack 5 0) ∷ high (getD stack 5 0) ∷ []
+    lowByte (getD stack 0 0) ∷ highByte (getD stack 0 0)
+    ∷ lowByte (getD stack 1 0) ∷ highByte (getD stack 1 0)
+    ∷ lowByte (getD stack 2 0) ∷ highByte (getD stack 2 0)
+    ∷ lowByte (getD stack 3 0) ∷ highByte (getD stack 3 0)
+    ∷ lowByte (getD stack 4 0) ∷ highByte (getD stack 4 0)
+    ∷ lowByte (getD stack 5 0) ∷ highByte (getD stack 5 0) ∷ []
 
 -- the state of a machine
 unfoldable pub packed : Machine → List ℕ

@@ -1,4 +1,5 @@
-// Answers as one number: bits 0 to 7 the refusal's or stop's number (0: none), bits 8 to 23 its address, bits 24 to 55 a value.
+// Answers as one number: bits 0 to 7 the refusal's or stop's number (0: none), bits 8 to 23 its address, bits 24 to 55
+// a value.
 use certificate::Checked;
 use isa::Number;
 use isa::Refusal;
@@ -13,7 +14,7 @@ ghost use Rattle.isa.specs.Write.{outcomeOf};
 ghost use Rattle.machine.specs.State.{endedOf};
 ghost use Rattle.machine.specs.Step.{answerOf};
 ghost use Rattle.certificate.specs.Check.{answered};
-ghost use Rattle.exports.specs.Answers.{word, refusalWord, untypedWord, answerWord, endedWord, isTurnedDown};
+ghost use Rattle.exports.specs.Answers.{word, refusalWord, invalidWord, answerWord, endedWord, isRefusedRun};
 
 // What is done, with its value.
 pub fn done(value: u32) -> u64
@@ -31,9 +32,9 @@ pub fn refused(refusal: Refusal) -> u64
     }
 }
 
-// Step and run on a state that is none: 1 comes before 2.
-pub fn untyped(image: &[u8]) -> u64
-    ensures { λ r. ⌜ r ≡ untypedWord (now (image .entry)) ⌝ }
+// Step and run on an invalid state: 1 comes before 2.
+pub fn invalid_state(image: &[u8]) -> u64
+    ensures { λ r. ⌜ r ≡ invalidWord (now (image .entry)) ⌝ }
 {
     if is_image_length(image.len()) {
         refused(Refusal::IllFormedMachine)
@@ -61,8 +62,8 @@ pub fn ending_word(ending: Ending) -> u64
 }
 
 // Whether a run was refused: a refusal has no address, a stop has one.
-pub fn is_turned_down(ending: Ending) -> bool
-    ensures { λ r. ⌜ r ≡ isTurnedDown (endedOf ending) ⌝ }
+pub fn is_refused(ending: Ending) -> bool
+    ensures { λ r. ⌜ r ≡ isRefusedRun (endedOf ending) ⌝ }
 {
     match ending {
         Ending::Done => false,

@@ -1,5 +1,5 @@
-// An instruction as a row of fields: form, operand kind, value low and high, second value, bit number, displacement; decoding adds
-// length, cycles and a zero.
+// An instruction as a row of fields: form, operand kind, value low and high, second value, bit number, displacement;
+// decoding adds length, cycles and a zero.
 use crate::copying::number;
 use crate::copying::put;
 use isa::Instruction;
@@ -10,6 +10,7 @@ ghost use mathlib.Core.Path.{_≡_};
 ghost use mathlib.Core.List.{_++_};
 ghost use Prim.Native.Nat.{_≤_};
 ghost use lib.ListN.{length, drop};
+ghost use Rattle.exports.specs.Every.{every};
 ghost use Rattle.exports.specs.Fields.{
   bareRow,
   jumpRow,
@@ -198,21 +199,20 @@ fn candidate(fields: &[u8]) -> Instruction
 // Whether the first seven bytes of a slice are these.
 fn begins_with(fields: &[u8], own: &[u8; 7]) -> bool
     requires { ⌜ 7 ≤ length (now fields) ⌝ }
-    ensures { λ r. ⌜ r ≡ agree (now (fields .entry)) (now (own .entry)) 7 ⌝ }
+    ensures { λ r. ⌜ r ≡ every (agree (now (fields .entry)) (now (own .entry))) 7 ⌝ }
 {
-    let mut same = true;
     let mut i: usize = 0;
     while i < 7 {
         if fields[i] != own[i] {
-            same = false;
+            return false;
         }
         i += 1;
     }
-    same
+    true
 }
 
-// Reads an instruction. A row that is not exactly that of its instruction, as one with a byte in a field that the form does not use,
-// is no instruction's.
+// Reads an instruction. A row that is not exactly that of its instruction, as one with a byte in a field that the form
+// does not use, is no instruction's.
 pub fn read(fields: &[u8]) -> Reading
     ensures { λ r. ⌜ r ≡ unpackedInstruction (now (fields .entry)) ⌝ }
 {

@@ -1,6 +1,7 @@
-// The boundary for tests from outside: functions on numbers and byte slices. Every answer is one number (`answers`), a machine is a
-// state of 280 bytes (`states`), and an instruction is a row of fields (`fields`).
+// The boundary for tests from outside: functions on numbers and byte slices. Every answer is one number (`answers`), a
+// machine is a state of 280 bytes (`states`), and an instruction is a row of fields (`fields`).
 mod answers;
+mod clamp;
 mod copying;
 mod fields;
 mod packing;
@@ -9,14 +10,14 @@ mod states;
 use answers::check_word;
 use answers::done;
 use answers::ending_word;
-use answers::is_turned_down;
+use answers::invalid_state;
+use answers::is_refused;
 use answers::refused;
 use answers::step_word;
-use answers::untyped;
 use answers::write_word;
 use certificate::check::check;
-use copying::address_or_end;
-use copying::byte_or;
+use clamp::clamp_address;
+use clamp::clamp_byte;
 use copying::put;
 use fields::Reading;
 use fields::put_row;
@@ -33,19 +34,20 @@ use machine::state::reset;
 use machine::step::step;
 use packing::pack;
 use packing::report_bytes;
-use states::is_typed;
+use states::is_valid;
 use states::unpack;
 ghost use mathlib.Core.Path.{_≡_};
 ghost use Rattle.certificate.specs.Check.{checkOf};
 ghost use Rattle.exports.specs.Answers.{answerWord};
-ghost use Rattle.exports.specs.Lent.{lent, lentRun, decodeLent, writeLent, resetLent, storeLent, stepLent, runLent, jobLent};
+ghost use Rattle.exports.specs.Lent.{lent, lentRun, decodeLent, writeLent, resetLent, storeLent, stepLent};
+ghost use Rattle.exports.specs.Lent.{runLent, jobLent};
 
 // Decodes at an address of the image into `out`.
 #[no_mangle]
 pub extern "C" fn st62_decode(image: &[u8], address: u32, out: &mut [u8]) -> u64
     ensures { λ r. ⌜ lent r (now (out .exit)) ≡ decodeLent (now (image .entry)) address (now (out .entry)) ⌝ }
 {
-    match decode(image, address_or_end(address)) {
+    match decode(image, clamp_address(address)) {
         Decoded::Refused(refusal) => refused(refusal),
         Decoded::Valid {
             instruction,
@@ -76,7 +78,7 @@ pub extern "C" fn st62_write(fields: &[u8], out: &mut [u8]) -> u64
 pub extern "C" fn st62_reset(state: &mut [u8]) -> u64
     ensures { λ r. ⌜ lent r (now (state .exit)) ≡ resetLent (now (state .entry)) ⌝ }
 {
-    if !is_typed(state) {
+    if !is_valid(state) {
         return refused(Refusal::IllFormedMachine);
     }
     let m = reset(unpack(state));
@@ -95,7 +97,7 @@ pub extern "C" fn st62_store(state: &mut [u8], address: u32, value: u32) -> u64
     if 255 < value {
         return refused(Refusal::OperandRange);
     }
-    if !is_typed(state) {
+    if !is_valid(state) {
         return refused(Refusal::IllFormedMachine);
     }
     let stored = host_store(unpack(state), address as u8, value as u8);
@@ -109,10 +111,10 @@ pub extern "C" fn st62_store(state: &mut [u8], address: u32, value: u32) -> u64
 pub extern "C" fn st62_step(image: &[u8], state: &mut [u8], request: u32) -> u64
     ensures { λ r. ⌜ lent r (now (state .exit)) ≡ stepLent (now (image .entry)) (now (state .entry)) request ⌝ }
 {
-    if !is_typed(state) {
-        return untyped(image);
+    if !is_valid(state) {
+        return invalid_state(image);
     }
-    let stepped = step(image, unpack(state), byte_or(request));
+    let stepped = step(image, unpack(state), clamp_byte(request));
     let m = stepped.machine;
     let answer = stepped.answer;
     pack(state, m);
@@ -128,16 +130,17 @@ pub extern "C" fn st62_run(
     n: u32,
     report: &mut [u8],
 ) -> u64
-    ensures { λ r. ⌜ lentRun r (now (state .exit)) (now (report .exit)) ≡ runLent (now (image .entry)) (now (state .entry)) (now (requests .entry)) n (now (report .entry)) ⌝ }
+    ensures { λ r. ⌜ lentRun r (now (state .exit)) (now (report .exit))
+        ≡ runLent (now (image .entry)) (now (state .entry)) (now (requests .entry)) n (now (report .entry)) ⌝ }
 {
-    if !is_typed(state) {
-        return untyped(image);
+    if !is_valid(state) {
+        return invalid_state(image);
     }
     let ran = run(image, unpack(state), requests, n);
     let m = ran.machine;
     let reported = ran.report;
     let ending = reported.ending;
-    if is_turned_down(ending) {
+    if is_refused(ending) {
         return ending_word(ending);
     }
     if report.len() < 8 {
@@ -153,7 +156,7 @@ pub extern "C" fn st62_run(
 pub extern "C" fn st62_check(image: &[u8], certificate: &[u8], wired: u32) -> u64
     ensures { λ r. ⌜ r ≡ answerWord (checkOf (now (image .entry)) (now (certificate .entry)) wired) ⌝ }
 {
-    check_word(check(image, certificate, byte_or(wired)))
+    check_word(check(image, certificate, clamp_byte(wired)))
 }
 
 // Answers a job with its line, written into `line`.

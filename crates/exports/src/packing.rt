@@ -8,7 +8,7 @@ use machine::Machine;
 ghost use mathlib.Core.Path.{_≡_};
 ghost use Prim.Native.Nat.{_<_, _/_, _%_};
 ghost use lib.ListN.{length};
-ghost use Rattle.exports.specs.States.{modeNumber, flag, low, high, controlBytes, stackBytes, packed};
+ghost use Rattle.exports.specs.States.{modeNumber, flagByte, lowByte, highByte, controlBytes, stackBytes, packed};
 ghost use Rattle.exports.specs.Lent.{reportBytes};
 
 fn mode_number(mode: Mode) -> u8
@@ -24,19 +24,19 @@ fn mode_number(mode: Mode) -> u8
 }
 
 fn flag(is: bool) -> u8
-    ensures { λ r. ⌜ r ≡ flag is ⌝ }
+    ensures { λ r. ⌜ r ≡ flagByte is ⌝ }
 {
     if is { 1 } else { 0 }
 }
 
 fn low(n: u16) -> u8
-    ensures { λ r. ⌜ r ≡ low n ⌝ }
+    ensures { λ r. ⌜ r ≡ lowByte n ⌝ }
 {
     (n % 256) as u8
 }
 
 fn high(n: u16) -> u8
-    ensures { λ r. ⌜ r ≡ high n ⌝ }
+    ensures { λ r. ⌜ r ≡ highByte n ⌝ }
 {
     (n / 256) as u8
 }

@@ -1,5 +1,5 @@
-// From a state's 280 bytes to the machine: 0-255 data; 256, 257 PC; 258 levels; 259 mode; 260 asleep; 261-266 Z and C of normal,
-// interrupt and NMI; 267 zero; 268-279 the return addresses. Numbers of two bytes stand low byte first.
+// From a state's 280 bytes to the machine: 0-255 data; 256, 257 PC; 258 levels; 259 mode; 260 asleep; 261-266 Z and C
+// of normal, interrupt and NMI; 267 zero; 268-279 the return addresses. Numbers of two bytes stand low byte first.
 use crate::copying::number;
 use alu::Flags;
 use control::Control;
@@ -9,27 +9,28 @@ use machine::Machine;
 ghost use mathlib.Core.Path.{_≡_};
 ghost use Prim.Native.Nat.{_+_, _<_};
 ghost use lib.ListN.{length, take};
-ghost use Rattle.exports.specs.States.{flagsTyped, isTyped, wordAt, pairAt, modeOf, controlAt, stackAt, pairsAt, machineAt};
+ghost use Rattle.exports.specs.Every.{every};
+ghost use Rattle.exports.specs.States.{isFlag, isValid, wordAt, pairAt, modeOf, controlAt, stackAt, pairsAt};
+ghost use Rattle.exports.specs.States.{machineAt};
 
 // Whether the seven bytes from 260 on are 0 or 1.
-fn flags_typed(state: &[u8]) -> bool
+fn flags_valid(state: &[u8]) -> bool
     requires { ⌜ length (now state) ≡ 280 ⌝ }
-    ensures { λ r. ⌜ r ≡ flagsTyped (now (state .entry)) 7 ⌝ }
+    ensures { λ r. ⌜ r ≡ every (isFlag (now (state .entry))) 7 ⌝ }
 {
-    let mut typed = true;
     let mut i: usize = 0;
     while i < 7 {
         if 2 <= state[260 + i] {
-            typed = false;
+            return false;
         }
         i += 1;
     }
-    typed
+    true
 }
 
-// Whether a slice is a state.
-pub fn is_typed(state: &[u8]) -> bool
-    ensures { λ r. ⌜ r ≡ isTyped (now (state .entry)) ⌝ }
+// Whether a slice is a valid state.
+pub fn is_valid(state: &[u8]) -> bool
+    ensures { λ r. ⌜ r ≡ isValid (now (state .entry)) ⌝ }
 {
     if state.len() != 280 {
         return false;
@@ -40,7 +41,7 @@ pub fn is_typed(state: &[u8]) -> bool
     if state[267] != 0 {
         return false;
     }
-    flags_typed(state)
+    flags_valid(state)
 }
 
 // The number of two bytes.

@@ -13,7 +13,7 @@ use Rattle.certificate.specs.Marks.{lowest}
 use Rattle.certificate.specs.Check.{Verdict}
 use Rattle.certificate.specs.Refusals.{Question, FirstApplies, questions, atMark, atMarks, atVectors, tooManyLevels}
 use Rattle.certificate.proofs.Refusals.{answers-first}
-use Rattle.jobs.specs.Jobs.{isWhole, jobOf, imageOf, certificateOf, romBytes, wiredOf}
+use Rattle.jobs.specs.CheckJob.{isWhole, jobOf, imageOf, certificateOf, romBytes, wiredOf}
 use Rattle.jobs.specs.Addresses.{ThreeDigitsAreEnough}
 
 -- a refusal's address, if it has one, is below 1000h
@@ -39,7 +39,8 @@ module _ (image certificate : List ℕ) (wired : ℕ) where
   marks-below zero a h = tt
   marks-below (suc n) a h =
       let low : a < 0x1000 = omega arith in
-      joined (atMark certificate (decodeAt image a) a) (atMarks certificate image n (suc a)) (low, (low, (low, (low, (low, (low, tt))))))
+      joined (atMark certificate (decodeAt image a) a) (atMarks certificate image n (suc a))
+      (low, (low, (low, (low, (low, (low, tt))))))
       (marks-below n (suc a) (omega arith))
 
   -- the questions of the marks, and all that come after 1, 13 and 11
@@ -67,7 +68,8 @@ module _ (image certificate : List ℕ) (wired : ℕ) where
 -- where a job is refused with an address, its check refuses
 from-check :
     {number address : ℕ} {v : Verdict} (long version whole : Bool)
-    → unless long (refused (plain 20)) (unless version (refused (plain 21)) (unless whole (refused (plain 22)) v)) ≡ refused (located number address)
+    → unless long (refused (plain 20)) (unless version (refused (plain 21)) (unless whole (refused (plain 22)) v))
+    ≡ refused (located number address)
     → v ≡ refused (located number address)
 from-check true true true e = e
 from-check true true false e = cc

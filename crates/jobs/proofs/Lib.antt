@@ -1,7 +1,6 @@
-pub mod Appending
+pub mod LineLaws
 pub mod Digits
-pub mod Halves
-pub mod Assembled
+pub mod CheckJob
 pub mod Cases
-pub mod Written
+pub mod AnswerLaws
 pub mod Addresses

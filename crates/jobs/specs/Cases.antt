@@ -1,30 +1,13 @@
 -- Document 01's P11 and P12: "the job program prints exactly ..".
-use Prim.Native.Nat.{ℕ, _+_, _/_, _%_}
 use mathlib.Core.Path.{_≡_}
-use mathlib.Core.Logic.{_⊎_}
-use mathlib.Core.List.{List, [], _∷_, _++_}
-use lib.ListN.{length}
+use mathlib.Core.List.{[], _∷_}
 use Rattle.isa.specs.Refusals.{plain, located, refused}
-use Rattle.certificate.specs.Check.{checkOf}
 use Rattle.certificate.specs.Cases.{image11, certificate11, put}
-use Rattle.jobs.specs.Jobs.{jobOf}
-use Rattle.jobs.specs.Lines.{lineOf}
-
--- "A job is version 1, a two-byte big-endian count of the bytes after it .., wired byte, image, certificate."
-abbrev pub jobFor : (wired : ℕ) → (image certificate : List ℕ) → List ℕ
-jobFor wired image certificate =
-    let count = 1 + (length image + length certificate) in
-    1 ∷ count / 256 ∷ count % 256 ∷ wired ∷ (image ++ certificate)
-
--- a job of an image of either length and a certificate as long answers what the check answers of them
-abbrev pub JobsAreChecked : Type 0
-JobsAreChecked =
-    (wired : ℕ) (image certificate : List ℕ)
-    → (length image ≡ 2048) ⊎ (length image ≡ 4096)
-    → length certificate ≡ length image
-    → jobOf (jobFor wired image certificate) ≡ checkOf image certificate wired
+use Rattle.jobs.specs.CheckJob.{jobFor, jobOf}
+use Rattle.jobs.specs.Line.{lineOf}
 
 -- what is printed, byte for byte
+-- proved by printed-cases, proofs/Cases
 pub record PrintedCases : Type 0 where
   -- P11: "`accepted 2` and a newline"
   pub p11 :

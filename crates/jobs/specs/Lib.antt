@@ -1,6 +1,6 @@
-pub mod Jobs
-pub mod Lines
-pub mod Texts
-pub mod Answers
+pub mod CheckJob
+pub mod Line
+pub mod LineBuffer
+pub mod Answer
 pub mod Addresses
 pub mod Cases

@@ -1,21 +1,21 @@
-// A job answered.
+// A job answered by its line.
 use crate::Answered;
-use crate::Text;
-use crate::job::check_job;
+use crate::LineBuffer;
+use crate::check_job::check_job;
 use crate::line::line_of;
 use isa::Refusal;
-ghost use Rattle.jobs.specs.Answers.{Answers};
-ghost use Rattle.jobs.specs.Jobs.{jobOf};
-ghost use Rattle.jobs.specs.Lines.{lineOf};
-ghost use Rattle.jobs.specs.Texts.{Fits, textOf};
+ghost use Rattle.jobs.specs.Answer.{Answers};
+ghost use Rattle.jobs.specs.CheckJob.{jobOf};
+ghost use Rattle.jobs.specs.Line.{lineOf};
+ghost use Rattle.jobs.specs.LineBuffer.{Fits, contentOf};
 
-// Writes a text from the buffer's first byte, where it fits.
-fn write_text(text: Text, line: &mut [u8]) -> Answered
-    requires { ⌜ Fits text ⌝ }
-    ensures { λ r. ⌜ Answers (textOf text) (now (line .entry)) (now (line .exit)) r ⌝ }
+// Writes what was made from the buffer's first byte, where it fits.
+fn write_line(made: LineBuffer, line: &mut [u8]) -> Answered
+    requires { ⌜ Fits made ⌝ }
+    ensures { λ r. ⌜ Answers (contentOf made) (now (line .entry)) (now (line .exit)) r ⌝ }
 {
-    let letters = text.letters;
-    let count = text.count;
+    let letters = made.letters;
+    let count = made.count;
     if line.len() < count {
         return Answered::Refused(Refusal::BufferLength);
     }
@@ -27,6 +27,6 @@ fn write_text(text: Text, line: &mut [u8]) -> Answered
 pub fn answer(job: &[u8], line: &mut [u8]) -> Answered
     ensures { λ r. ⌜ Answers (lineOf (jobOf (now (job .entry)))) (now (line .entry)) (now (line .exit)) r ⌝ }
 {
-    let text = line_of(check_job(job));
-    write_text(text, line)
+    let made = line_of(check_job(job));
+    write_line(made, line)
 }

@@ -1,8 +1,8 @@
-// Jobs: a job's bytes to the line that answers it (document 01, "Job program").
+// Jobs: a job's bytes to the answer by number, and to the line that it is printed as (document 01, "Job program").
 pub mod answer;
-mod job;
+pub mod check_job;
 mod line;
-mod texts;
+mod line_buffer;
 
 use isa::Refusal;
 
@@ -13,7 +13,7 @@ pub enum Answered {
 }
 
 // A line in the making: its first bytes, in an array that the longest line fills.
-pub struct Text {
+pub struct LineBuffer {
     pub letters: [u8; 16],
     pub count: usize,
 }

@@ -3,12 +3,12 @@ use mathlib.Core.Path.{_∙_}
 use borrow.Author.Tests.{le-leb, lt-leb}
 use borrow.Author.Needs.{needs}
 use Rattle.exports.specs.Lent.{decodeLent, decodedLent}
-use Rattle.exports.proofs.Beyond.{decode-beyond}
+use Rattle.exports.proofs.Clamping.{decode-clamped}
 use Rattle.exports.proofs.st62_decode.Statement.{statement}
 use Rattle.exports.proofs.st62_decode.Tie as tie
 
-address-or-end-requires : tie.Need-address-or-end-requires
-address-or-end-requires c κs = search needs
+clamp-address-requires : tie.Need-clamp-address-requires
+clamp-address-requires c κs = search needs
 
 decode-requires : tie.Need-decode-requires
 decode-requires c κs = search needs
@@ -27,12 +27,18 @@ refused-requires-2 c κs = search needs
 
 returns : tie.Need-returns
 unfolding decodeLent decodedLent
-returns c = rw (
-  ← ((rw (c .before .before .before .before .before .before .address-or-end .ensures) at (c .before .before .before .before .before .decode .ensures)) ∙ decode-beyond (c .before .before .before .before .before .before .before .before .before .args .image .now) (c .before .before .before .before .before .before .before .before .before .args .address)),
-  c .before .before .before .instruction .given .1,
-  lt-leb _ _ (c .before .if1 .taken),
-  c .refused2 .ensures,
-)
+returns c =
+    let at-instruction = c .before .before .before in
+    let at-decode = at-instruction .before .before in
+    let at-clamp-address = at-decode .before in
+    let start = at-clamp-address .before .before .before in
+    rw (
+      ← ((rw (at-clamp-address .clamp-address .ensures) at (at-decode .decode .ensures))
+          ∙ decode-clamped (start .args .image .now) (start .args .address)),
+      at-instruction .instruction .given .1,
+      lt-leb _ _ (c .before .if1 .taken),
+      c .refused2 .ensures,
+    )
 
 put-row-requires : tie.Need-put-row-requires
 put-row-requires c κs = search needs
@@ -45,30 +51,44 @@ done-requires c κs = search needs
 
 returns-2 : tie.Need-returns-2
 unfolding decodeLent decodedLent
-returns-2 c = rw (
-  ← ((rw (c .before .before .before .before .before .address-or-end .ensures) at (c .before .before .before .before .decode .ensures)) ∙ decode-beyond (c .before .before .before .before .before .before .before .before .args .image .now) (c .before .before .before .before .before .before .before .before .args .address)),
-  c .before .before .refusal .given .1,
-  c .refused .ensures,
-)
+returns-2 c =
+    let at-refusal = c .before .before in
+    let at-decode = at-refusal .before .before in
+    let at-clamp-address = at-decode .before in
+    let start = at-clamp-address .before .before .before in
+    rw (
+      ← ((rw (at-clamp-address .clamp-address .ensures) at (at-decode .decode .ensures))
+          ∙ decode-clamped (start .args .image .now) (start .args .address)),
+      at-refusal .refusal .given .1,
+      c .refused .ensures,
+    )
 
 same-length : tie.Need-same-length
 same-length c = search needs
 
 returns-3 : tie.Need-returns-3
 unfolding decodeLent decodedLent
-returns-3 c = rw (
-  ← ((rw (c .before .before .before .before .before .before .before .before .before .before .address-or-end .ensures) at (c .before .before .before .before .before .before .before .before .before .decode .ensures)) ∙ decode-beyond (c .before .before .before .before .before .before .before .before .before .before .before .before .before .args .image .now) (c .before .before .before .before .before .before .before .before .before .before .before .before .before .args .address)),
-  c .before .before .before .before .before .before .before .instruction .given .1,
-  le-leb _ _ (c .before .before .before .before .before .if1 .left),
-  c .done .ensures,
-  c .before .before .before .put-row .ensures,
-)
+returns-3 c =
+    let at-put-row = c .before .before .before in
+    let at-if1 = at-put-row .before .before in
+    let at-instruction = at-if1 .before .before in
+    let at-decode = at-instruction .before .before in
+    let at-clamp-address = at-decode .before in
+    let start = at-clamp-address .before .before .before in
+    rw (
+      ← ((rw (at-clamp-address .clamp-address .ensures) at (at-decode .decode .ensures))
+          ∙ decode-clamped (start .args .image .now) (start .args .address)),
+      at-instruction .instruction .given .1,
+      le-leb _ _ (at-if1 .if1 .left),
+      c .done .ensures,
+      at-put-row .put-row .ensures,
+    )
 
 pub st62-decode-spec : {M : Type 1} → statement M
 st62-decode-spec =
     tie.close
     (tie.spec
-    address-or-end-requires
+    clamp-address-requires
     decode-requires
     enum-known-refusal
     refused-requires

@@ -13,7 +13,9 @@ enum-known-count : tie.Need-enum-known-count
 enum-known-count c = search needs
 
 cast-done : tie.Need-cast-done
-cast-done c = omega (arith, line-short _ _ _ _ (rw (c .before .count .given .1) at (c .before .before .before .before .before .answer .ensures)))
+cast-done c =
+    let at-answer = c .before .before .before .before .before in
+    omega (arith, line-short _ _ _ _ (rw (c .before .count .given .1) at (at-answer .answer .ensures)))
 
 done-requires : tie.Need-done-requires
 done-requires c κs = search needs
@@ -29,14 +31,20 @@ same-length c = search needs
 
 returns : tie.Need-returns
 unfolding jobLent
-returns c = rw (c .done .ensures) (line-lent _ _ _ _ (rw (c .before .before .count .given .1) at (c .before .before .before .before .before .before .answer .ensures)))
+returns c =
+    let at-count = c .before .before in
+    let at-answer = at-count .before .before .before .before in
+    rw (c .done .ensures) (line-lent _ _ _ _ (rw (at-count .count .given .1) at (at-answer .answer .ensures)))
 
 same-length-2 : tie.Need-same-length-2
 same-length-2 c = search needs
 
 returns-2 : tie.Need-returns-2
 unfolding jobLent
-returns-2 c = rw (c .refused .ensures) (refused-lent _ _ _ _ (rw (c .before .before .refusal .given .1) at (c .before .before .before .before .before .before .answer .ensures)))
+returns-2 c =
+    let at-refusal = c .before .before in
+    let at-answer = at-refusal .before .before .before .before in
+    rw (c .refused .ensures) (refused-lent _ _ _ _ (rw (at-refusal .refusal .given .1) at (at-answer .answer .ensures)))
 
 pub st62-job-spec : {M : Type 1} → statement M
 st62-job-spec =

@@ -4,31 +4,37 @@ use borrow.Author.Tests.{le-leb, lt-leb, not-true, not-false}
 use borrow.Author.Needs.{needs}
 use Rattle.exports.specs.Lent.{runLent, ranLent, reportBytes}
 use Rattle.exports.specs.States.{unpacked}
-use Rattle.exports.proofs.Filling.{typed-length}
+use Rattle.exports.proofs.Pasting.{valid-length}
 use Rattle.exports.proofs.st62_run.Statement.{statement}
 use Rattle.exports.proofs.st62_run.Tie as tie
 
-is-typed-requires : tie.Need-is-typed-requires
-is-typed-requires c κs = search needs
+is-valid-requires : tie.Need-is-valid-requires
+is-valid-requires c κs = search needs
 
-untyped-requires : tie.Need-untyped-requires
-untyped-requires c κs = search needs
+invalid-state-requires : tie.Need-invalid-state-requires
+invalid-state-requires c κs = search needs
 
 same-length : tie.Need-same-length
 same-length c = search needs
 
 returns : tie.Need-returns
 unfolding runLent unpacked
-returns c = rw (← c .before .before .is-typed .ensures, not-true (c .before .before .is-typed .result) (c .before .if1 .taken), c .untyped .ensures)
+returns c =
+    let at-is-valid = c .before .before in
+    rw (
+      ← at-is-valid .is-valid .ensures,
+      not-true (at-is-valid .is-valid .result) (c .before .if1 .taken),
+      c .invalid-state .ensures,
+    )
 
 unpack-requires : tie.Need-unpack-requires
-unpack-requires c κs = typed-length _ (sym (c .before .before .is-typed .ensures) ∙ not-false _ (c .before .if1 .left))
+unpack-requires c κs = valid-length _ (sym (c .before .before .is-valid .ensures) ∙ not-false _ (c .before .if1 .left))
 
 run-requires : tie.Need-run-requires
 run-requires c κs = search needs
 
-is-turned-down-requires : tie.Need-is-turned-down-requires
-is-turned-down-requires c κs = search needs
+is-refused-requires : tie.Need-is-refused-requires
+is-refused-requires c κs = search needs
 
 ending-word-requires : tie.Need-ending-word-requires
 ending-word-requires c κs = search needs
@@ -38,14 +44,20 @@ same-length-2 c = search needs
 
 returns-2 : tie.Need-returns-2
 unfolding runLent unpacked ranLent
-returns-2 c = rw (
-  ← c .before .before .before .before .before .before .before .before .before .is-typed .ensures,
-  not-false (c .before .before .before .before .before .before .before .before .before .is-typed .result) (c .before .before .before .before .before .before .before .before .if1 .left),
-  ← (rw (c .before .before .before .before .before .before .unpack .ensures) at (c .before .before .before .before .before .run .ensures)),
-  ← c .before .before .is-turned-down .ensures,
-  c .before .if2 .taken,
-  c .ending-word .ensures,
-)
+returns-2 c =
+    let at-is-refused = c .before .before in
+    let at-run = at-is-refused .before .before .before in
+    let at-unpack = at-run .before in
+    let at-if1 = at-unpack .before .before in
+    let at-is-valid = at-if1 .before in
+    rw (
+      ← at-is-valid .is-valid .ensures,
+      not-false (at-is-valid .is-valid .result) (at-if1 .if1 .left),
+      ← (rw (at-unpack .unpack .ensures) at (at-run .run .ensures)),
+      ← at-is-refused .is-refused .ensures,
+      c .before .if2 .taken,
+      c .ending-word .ensures,
+    )
 
 refused-requires : tie.Need-refused-requires
 refused-requires c κs = search needs
@@ -55,21 +67,31 @@ same-length-3 c = search needs
 
 returns-3 : tie.Need-returns-3
 unfolding runLent unpacked ranLent
-returns-3 c = rw (
-  ← c .before .before .before .before .before .before .before .before .before .before .is-typed .ensures,
-  not-false (c .before .before .before .before .before .before .before .before .before .before .is-typed .result) (c .before .before .before .before .before .before .before .before .before .if1 .left),
-  ← (rw (c .before .before .before .before .before .before .before .unpack .ensures) at (c .before .before .before .before .before .before .run .ensures)),
-  ← c .before .before .before .is-turned-down .ensures,
-  c .before .before .if2 .left,
-  lt-leb _ _ (c .before .if3 .taken),
-  c .refused .ensures,
-)
+returns-3 c =
+    let at-if2 = c .before .before in
+    let at-is-refused = at-if2 .before in
+    let at-run = at-is-refused .before .before .before in
+    let at-unpack = at-run .before in
+    let at-if1 = at-unpack .before .before in
+    let at-is-valid = at-if1 .before in
+    rw (
+      ← at-is-valid .is-valid .ensures,
+      not-false (at-is-valid .is-valid .result) (at-if1 .if1 .left),
+      ← (rw (at-unpack .unpack .ensures) at (at-run .run .ensures)),
+      ← at-is-refused .is-refused .ensures,
+      at-if2 .if2 .left,
+      lt-leb _ _ (c .before .if3 .taken),
+      c .refused .ensures,
+    )
 
 report-bytes-requires : tie.Need-report-bytes-requires
 report-bytes-requires c κs = search needs
 
 pack-requires : tie.Need-pack-requires
-pack-requires c κs = typed-length _ (sym (c .before .before .before .before .before .before .before .before .before .before .before .is-typed .ensures) ∙ not-false _ (c .before .before .before .before .before .before .before .before .before .before .if1 .left))
+pack-requires c κs =
+    let at-if1 = c .before .before .before .before .before .before .before .before .before .before in
+    let at-is-valid = at-if1 .before in
+    valid-length _ (sym (at-is-valid .is-valid .ensures) ∙ not-false _ (at-if1 .if1 .left))
 
 slice-aggregate-put : tie.Need-slice-aggregate-put
 slice-aggregate-put c = search needs
@@ -88,30 +110,41 @@ same-length-5 c = search needs
 
 returns-4 : tie.Need-returns-4
 unfolding runLent unpacked ranLent reportBytes
-returns-4 c = rw (
-  ← c .before .before .before .before .before .before .before .before .before .before .before .before .before .before .before .before .before .before .before .before .is-typed .ensures,
-  not-false (c .before .before .before .before .before .before .before .before .before .before .before .before .before .before .before .before .before .before .before .before .is-typed .result) (c .before .before .before .before .before .before .before .before .before .before .before .before .before .before .before .before .before .before .before .if1 .left),
-  ← (rw (c .before .before .before .before .before .before .before .before .before .before .before .before .before .before .before .before .before .unpack .ensures) at (c .before .before .before .before .before .before .before .before .before .before .before .before .before .before .before .before .run .ensures)),
-  ← c .before .before .before .before .before .before .before .before .before .before .before .before .before .is-turned-down .ensures,
-  c .before .before .before .before .before .before .before .before .before .before .before .before .if2 .left,
-  le-leb _ _ (c .before .before .before .before .before .before .before .before .before .before .before .if3 .left),
-  c .ending-word2 .ensures,
-  c .before .before .before .before .before .before .before .before .pack .ensures,
-  c .before .before .before .put .ensures,
-  c .before .before .before .before .before .before .before .before .before .before .report-bytes .ensures,
-)
+returns-4 c =
+    let at-put = c .before .before .before in
+    let at-pack = at-put .before .before .before .before .before in
+    let at-report-bytes = at-pack .before .before in
+    let at-if3 = at-report-bytes .before in
+    let at-if2 = at-if3 .before in
+    let at-is-refused = at-if2 .before in
+    let at-run = at-is-refused .before .before .before in
+    let at-unpack = at-run .before in
+    let at-if1 = at-unpack .before .before in
+    let at-is-valid = at-if1 .before in
+    rw (
+      ← at-is-valid .is-valid .ensures,
+      not-false (at-is-valid .is-valid .result) (at-if1 .if1 .left),
+      ← (rw (at-unpack .unpack .ensures) at (at-run .run .ensures)),
+      ← at-is-refused .is-refused .ensures,
+      at-if2 .if2 .left,
+      le-leb _ _ (at-if3 .if3 .left),
+      c .ending-word2 .ensures,
+      at-pack .pack .ensures,
+      at-put .put .ensures,
+      at-report-bytes .report-bytes .ensures,
+    )
 
 pub st62-run-spec : {M : Type 1} → statement M
 st62-run-spec =
     tie.close
     (tie.spec
-    is-typed-requires
-    untyped-requires
+    is-valid-requires
+    invalid-state-requires
     same-length
     returns
     unpack-requires
     run-requires
-    is-turned-down-requires
+    is-refused-requires
     ending-word-requires
     same-length-2
     returns-2

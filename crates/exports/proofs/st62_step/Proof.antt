@@ -4,35 +4,44 @@ use borrow.Author.Tests.{not-true, not-false}
 use borrow.Author.Needs.{needs}
 use Rattle.exports.specs.States.{unpacked}
 use Rattle.exports.specs.Lent.{stepLent, steppedLent}
-use Rattle.exports.proofs.Beyond.{step-beyond}
-use Rattle.exports.proofs.Filling.{typed-length}
+use Rattle.exports.proofs.Clamping.{step-clamped}
+use Rattle.exports.proofs.Pasting.{valid-length}
 use Rattle.exports.proofs.st62_step.Statement.{statement}
 use Rattle.exports.proofs.st62_step.Tie as tie
 
-is-typed-requires : tie.Need-is-typed-requires
-is-typed-requires c κs = search needs
+is-valid-requires : tie.Need-is-valid-requires
+is-valid-requires c κs = search needs
 
-untyped-requires : tie.Need-untyped-requires
-untyped-requires c κs = search needs
+invalid-state-requires : tie.Need-invalid-state-requires
+invalid-state-requires c κs = search needs
 
 same-length : tie.Need-same-length
 same-length c = search needs
 
 returns : tie.Need-returns
 unfolding stepLent unpacked
-returns c = rw (← c .before .before .is-typed .ensures, not-true (c .before .before .is-typed .result) (c .before .if1 .taken), c .untyped .ensures)
+returns c =
+    let at-is-valid = c .before .before in
+    rw (
+      ← at-is-valid .is-valid .ensures,
+      not-true (at-is-valid .is-valid .result) (c .before .if1 .taken),
+      c .invalid-state .ensures,
+    )
 
 unpack-requires : tie.Need-unpack-requires
-unpack-requires c κs = typed-length _ (sym (c .before .before .is-typed .ensures) ∙ not-false _ (c .before .if1 .left))
+unpack-requires c κs = valid-length _ (sym (c .before .before .is-valid .ensures) ∙ not-false _ (c .before .if1 .left))
 
-byte-or-requires : tie.Need-byte-or-requires
-byte-or-requires c κs = search needs
+clamp-byte-requires : tie.Need-clamp-byte-requires
+clamp-byte-requires c κs = search needs
 
 step-requires : tie.Need-step-requires
 step-requires c κs = search needs
 
 pack-requires : tie.Need-pack-requires
-pack-requires c κs = typed-length _ (sym (c .before .before .before .before .before .before .before .is-typed .ensures) ∙ not-false _ (c .before .before .before .before .before .before .if1 .left))
+pack-requires c κs =
+    let at-if1 = c .before .before .before .before .before .before in
+    let at-is-valid = at-if1 .before in
+    valid-length _ (sym (at-is-valid .is-valid .ensures) ∙ not-false _ (at-if1 .if1 .left))
 
 step-word-requires : tie.Need-step-word-requires
 step-word-requires c κs = search needs
@@ -43,29 +52,35 @@ same-length-2 c = search needs
 returns-2 : tie.Need-returns-2
 unfolding stepLent unpacked
 returns-2 c =
+    let at-pack = c .before .before .before in
+    let at-step = at-pack .before .before .before in
+    let at-clamp-byte = at-step .before in
+    let at-unpack = at-clamp-byte .before in
+    let at-if1 = at-unpack .before .before in
+    let at-is-valid = at-if1 .before in
     rw (
-      ← c .before .before .before .before .before .before .before .before .before .before .before .is-typed .ensures,
-      not-false (c .before .before .before .before .before .before .before .before .before .before .before .is-typed .result) (c .before .before .before .before .before .before .before .before .before .before .if1 .left),
+      ← at-is-valid .is-valid .ensures,
+      not-false (at-is-valid .is-valid .result) (at-if1 .if1 .left),
       c .step-word .ensures,
-      c .before .before .before .pack .ensures,
+      at-pack .pack .ensures,
     )
     (ap steppedLent
     ((rw (
-      c .before .before .before .before .before .before .before .before .unpack .ensures,
-      c .before .before .before .before .before .before .before .byte-or .ensures,
-    ) at (c .before .before .before .before .before .before .step .ensures))
-    ∙ step-beyond _ _ _))
+      at-unpack .unpack .ensures,
+      at-clamp-byte .clamp-byte .ensures,
+    ) at (at-step .step .ensures))
+    ∙ step-clamped _ _ _))
 
 pub st62-step-spec : {M : Type 1} → statement M
 st62-step-spec =
     tie.close
     (tie.spec
-    is-typed-requires
-    untyped-requires
+    is-valid-requires
+    invalid-state-requires
     same-length
     returns
     unpack-requires
-    byte-or-requires
+    clamp-byte-requires
     step-requires
     pack-requires
     step-word-requires

@@ -27,13 +27,17 @@ same-length c = search needs
 
 returns : tie.Need-returns
 unfolding writeLent
-returns c = rw (
-  ← c .before .before .before .before .before .before .before .before .read .ensures,
-  c .before .before .before .before .before .before .instruction .given .1,
-  c .write-word .ensures,
-  c .before .before .before .write .ensures .answer,
-  c .before .before .before .write .ensures .buffer,
-)
+returns c =
+    let at-write = c .before .before .before in
+    let at-instruction = at-write .before .before .before in
+    let at-read = at-instruction .before .before in
+    rw (
+      ← at-read .read .ensures,
+      at-instruction .instruction .given .1,
+      c .write-word .ensures,
+      at-write .write .ensures .answer,
+      at-write .write .ensures .buffer,
+    )
 
 returns-2 : tie.Need-returns-2
 unfolding writeLent

@@ -2,7 +2,7 @@
 use mathlib.Core.Path.{sym}
 use lib.Seq.{length-take-le}
 use borrow.Author.Needs.{needs}
-use Rattle.jobs.proofs.Written.{within-buffer}
+use Rattle.jobs.proofs.AnswerLaws.{within-buffer}
 use Rattle.job.proofs.print_answer.Statement.{statement}
 use Rattle.job.proofs.print_answer.Tie as tie
 
@@ -16,11 +16,15 @@ enum-known-length : tie.Need-enum-known-length
 enum-known-length c = search needs
 
 array-share-prefix-line : tie.Need-array-share-prefix-line
-array-share-prefix-line c = within-buffer (c .before .length .given .1) (c .before .before .before .before .answer .ensures)
+array-share-prefix-line c =
+    let at-answer = c .before .before .before .before in
+    within-buffer (c .before .length .given .1) (at-answer .answer .ensures)
 
 slice-aggregate-write-all : tie.Need-slice-aggregate-write-all
 slice-aggregate-write-all c =
-    let written = within-buffer (c .before .before .length .given .1) (c .before .before .before .before .before .answer .ensures) in
+    let at-length = c .before .before in
+    let at-answer = at-length .before .before .before in
+    let written = within-buffer (at-length .length .given .1) (at-answer .answer .ensures) in
     sym (length-take-le _ _ written)
 
 write-all-requires : tie.Need-write-all-requires

@@ -1,4 +1,5 @@
--- `bench::keys::key_store` meets its contract: its statements are walked by `Lent.antt`'s `asked` and `answers`. Here stand what the operation is passed, what it asks, and where the locals stand.
+-- `bench::keys::key_store` meets its contract: its statements are walked by `KeyWalk.antt`'s `asked` and `answers`.
+-- Here stand what the operation is passed, what it asks, and where the locals stand.
 use mathlib.Core.Path.{_≡_, refl}
 use Prim.Native.Nat.{ℕ, _<_, _^_}
 use mathlib.Core.List.{[], _∷_, List}
@@ -29,9 +30,9 @@ use denote.Triple.Walked.{Stays, walkOf, Walks, walked}
 use denote.Exit.{yes}
 use Rattle.machine.specs.State.{storedOf, hostStoreOf}
 use Rattle.machine.specs.declared.Machine.{Machine}
-use Rattle.bench.proofs.Lent as Lent
-use Rattle.bench.proofs.Close.{Met, leaves, proved, framed}
-use Rattle.bench.proofs.Lent.{begins, asked, answers, vals}
+use Rattle.bench.proofs.KeyWalk as key-walk
+use Rattle.bench.proofs.FunctionWalk.{Met, leaves, proved, framed}
+use Rattle.bench.proofs.KeyWalk.{begins, asked, answers, vals}
 use Rattle.bench.proofs.Answers.{low-ending, stored}
 use Rattle.machine.proofs.Machine as T
 use Rattle.machine.proofs.Stored.Laws as S′
@@ -51,13 +52,15 @@ abbrev ps : List (Slot 1)
 ps = plain (λ _. u8) ∷ plain (λ _. u8) ∷ []
 
 abbrev stayed : Stays (key.ended .signature .params) (key.ended .kept)
-stayed = Lent.stayed tt [] ps (plain (λ _. O.the-row)) (yes, (yes, tt))
+stayed = key-walk.stayed tt [] ps (plain (λ _. O.the-row)) (yes, (yes, tt))
 
 -- the contract that the proof cites
-abbrev Op : {M : Type 1} (𝓤 : URA M) (H : Heap 𝓤) (A : Atoms 𝓤) (at-mem : Memory → SProp 𝓤) (run : Routine → Fun 𝓤) → Contract 𝓤
+abbrev Op : {M : Type 1} (𝓤 : URA M) (H : Heap 𝓤) (A : Atoms 𝓤) (at-mem : Memory → SProp 𝓤) (run : Routine → Fun 𝓤)
+    → Contract 𝓤
 Op 𝓤 H A at-mem run = Met 𝓤 H A store.ended (store.clauses 𝓤 H A at-mem run)
 
-module _ {M : Type 1} (𝓤 : URA M) (H : Heap 𝓤) (A : Atoms 𝓤) (W : Given 𝓤 H A) (at-mem : Memory → SProp 𝓤) (run : Routine → Fun 𝓤) (κ : Lft) (q : Share) (b o : ℕ) (γ : GName) (h : Machine) (n w : ℕ) where
+module _ {M : Type 1} (𝓤 : URA M) (H : Heap 𝓤) (A : Atoms 𝓤) (W : Given 𝓤 H A) (at-mem : Memory → SProp 𝓤)
+    (run : Routine → Fun 𝓤) (κ : Lft) (q : Share) (b o : ℕ) (γ : GName) (h : Machine) (n w : ℕ) where
   -- the parameters: the reference, and the others with their machine values
   abbrev x : RefT Machine
   x = record { ptr = (b, o); name = γ; now = h }
@@ -69,7 +72,9 @@ module _ {M : Type 1} (𝓤 : URA M) (H : Heap 𝓤) (A : Atoms 𝓤) (W : Given
   at = (vint w8 n ∷ [], (vint w8 w ∷ [], tt))
 
   abbrev Post : Val → SProp 𝓤
-  Post = walkOf 𝓤 H A key.ended stayed (key.clauses 𝓤 H A at-mem run) .post (((κ, tt), (q, tt), tt, (x, xs), (vptr b o ∷ [], at)), tt)
+  Post =
+      walkOf 𝓤 H A key.ended stayed (key.clauses 𝓤 H A at-mem run) .post
+      (((κ, tt), (q, tt), tt, (x, xs), (vptr b o ∷ [], at)), tt)
 
   -- what `host_store` is passed, and what it asks
   abbrev to : Op 𝓤 H A at-mem run .Ghost
@@ -79,36 +84,62 @@ module _ {M : Type 1} (𝓤 : URA M) (H : Heap 𝓤) (A : Atoms 𝓤) (W : Given
   P = ‵ ftrue ⊛ ‵ (owns (u8 ∷ u8 ∷ []) xs at)
 
   asks : ent 𝓤 (sep 𝓤 (mean 𝓤 H A P) (mean 𝓤 H A (‵ (T.the-row .own h (vals h))))) (Op 𝓤 H A at-mem run .pre to)
-  asks = qed W (P ∷ ‵ (T.the-row .own h (vals h)) ∷ []) ∵ split ! $ move ! (2 ∷ 1 ∷ []) $ fjoin ! $ move ! (1 ∷ 0 ∷ []) $ join ! $ frame ! $ done !
+  asks =
+      qed W (P ∷ ‵ (T.the-row .own h (vals h)) ∷ []) ∵ split ! $ move ! (2 ∷ 1 ∷ []) $ fjoin ! $ move ! (1 ∷ 0 ∷ []) $
+      join ! $ frame ! $ done !
 
-  module _ (C : Calls 𝓤 H) (Λ : Loops 𝓤 H) (fm : FmC 𝓤 H (W .laws) C) (known : Triple 𝓤 (C #machine·state·host-store) (Op 𝓤 H A at-mem run)) where
+  module _ (C : Calls 𝓤 H) (Λ : Loops 𝓤 H) (fm : FmC 𝓤 H (W .laws) C)
+      (known : Triple 𝓤 (C #machine·state·host-store) (Op 𝓤 H A at-mem run)) where
     walk : n < 2 ^ 8 → w < 2 ^ 8
-        → ent 𝓤 (onEntry 𝓤 H A key.signature (κ, tt) (q, tt) (x, xs) (vptr b o ∷ [], at)) (WpFn 𝓤 H C Λ code.function (vptr b o ∷ vint w8 n ∷ vint w8 w ∷ []) Post)
+        → ent 𝓤 (onEntry 𝓤 H A key.signature (κ, tt) (q, tt) (x, xs) (vptr b o ∷ [], at))
+        (WpFn 𝓤 H C Λ code.function (vptr b o ∷ vint w8 n ∷ vint w8 w ∷ []) Post)
     walk gn gw =
-        qed W ((‵ (flft κ q) ⊛ ‵ ftrue) ∷ ‵ (owns (MutRef (named 0) κ T.the-row ∷ u8 ∷ u8 ∷ []) (x, xs) (vptr b o ∷ [], at)) ∷ []) ∵
+        qed W ((‵ (flft κ q) ⊛ ‵ ftrue) ∷ ‵
+        (owns (MutRef (named 0) κ T.the-row ∷ u8 ∷ u8 ∷ []) (x, xs) (vptr b o ∷ [], at)) ∷ []) ∵
         begins ! b o h $ enter ! C Λ code.function (vptr b o ∷ vint w8 n ∷ vint w8 w ∷ []) _ $
-        alloc1 ! (λ l₀. alloc1 ! (λ l₁. alloc1 ! (λ l₂. alloc1 ! (λ l₃. alloc1 ! (λ l₄. alloc1 ! (λ l₅. alloc0 ! $ params1 ! $
-        pass1 ! (init ! 8 refl (tt, tt)) $ pass1 ! (init ! 6 refl (tt, record { fits = gn })) $ pass1 ! (init ! 4 refl (tt, record { fits = gw })) $ pass0 ! $
+        alloc1 ! (λ l₀. alloc1 !
+        (λ l₁. alloc1 ! (λ l₂. alloc1 ! (λ l₃. alloc1 ! (λ l₄. alloc1 ! (λ l₅. alloc0 ! $ params1 ! $
+        pass1 ! (init ! 8 refl (tt, tt)) $ pass1 ! (init ! 6 refl (tt, record { fits = gn })) $
+        pass1 ! (init ! 4 refl (tt, record { fits = gw })) $ pass0 ! $
         -- [_5; …; _4; …; _3; …; _2; …; _1; …; _0; …; obs; the borrow; the token; P]
         move ! (12 ∷ 13 ∷ 14 ∷ 15 ∷ 0 ∷ 2 ∷ 8 ∷ 10 ∷ []) $
-        asked W fm store.ended (store.clauses 𝓤 H A at-mem run) known to (λ r. storedOf r ≡ hostStoreOf h n w) (λ r ws. refl) S′.mir (stored 𝓤 H A W .typed) b o h ! refl refl asks
-        (and-then ! (load ! (from ! (stop !)) (look ! 5 refl)) (and-then ! (load ! (from ! (stop !)) (look ! 13 refl)) (and-then ! (load ! (from ! (stop !)) (look ! 11 refl)) (no-more !))))
+        asked W fm store.ended (store.clauses 𝓤 H A at-mem run) known to (λ r. storedOf r ≡ hostStoreOf h n w)
+        (λ r ws. refl) S′.mir (stored 𝓤 H A W .typed) b o h ! refl refl asks
+        (and-then ! (load ! (from ! (stop !)) (look ! 5 refl))
+        (and-then ! (load ! (from ! (stop !)) (look ! 13 refl))
+        (and-then ! (load ! (from ! (stop !)) (look ! 11 refl)) (no-more !))))
         (λ r v e is. answers W (stored 𝓤 H A W) r v is b o h ! refl $
         -- [obs; the borrow; the token; the tokens; _5; _4; _1; _0; 5's; 4's; _3; …; _2; …; 1's; 0's]
-        move ! (7 ∷ 15 ∷ 6 ∷ 14 ∷ 12 ∷ 13 ∷ 10 ∷ 11 ∷ 5 ∷ 9 ∷ 4 ∷ 8 ∷ []) $ leaves ! $ leaves ! $ leaves ! $ leaves ! $ leaves ! $ leaves ! $ free0 ! $
+        move ! (7 ∷ 15 ∷ 6 ∷ 14 ∷ 12 ∷ 13 ∷ 10 ∷ 11 ∷ 5 ∷ 9 ∷ 4 ∷ 8 ∷ []) $ leaves ! $ leaves ! $ leaves ! $ leaves ! $
+        leaves ! $ leaves ! $ free0 ! $
         move ! (2 ∷ 3 ∷ []) $ join ! $ move ! (1 ∷ 2 ∷ 0 ∷ []) $
-        by ! (Lent.exits tt [] ps (plain (λ _. O.the-row)) (yes, (yes, tt)) 𝓤 H A W (key.clauses 𝓤 H A at-mem run) (κ, tt) (q, tt) tt b o γ h xs at tt
-        (r .machine) (tt, (tt, tt)) (r .ending) (low-ending (r .ending)) (factI 𝓤 _ (emp 𝓤) e) (EL.makes O.the-type O′.the-plain 𝓤 H A (r .ending) _ (stored 𝓤 H A W .result-is r v is))))))))))
+        by ! (key-walk.exits tt [] ps (plain (λ _. O.the-row)) (yes, (yes, tt)) 𝓤 H A W (key.clauses 𝓤 H A at-mem run)
+        (κ, tt) (q, tt) tt b o γ h xs at tt
+        (r .machine) (tt, (tt, tt)) (r .ending) (low-ending (r .ending)) (factI 𝓤 _ (emp 𝓤) e)
+        (EL.makes O.the-type O′.the-plain 𝓤 H A (r .ending) _ (stored 𝓤 H A W .result-is r v is))))))))))
 
-module _ {M : Type 1} (𝓤 : URA M) (H : Heap 𝓤) (A : Atoms 𝓤) (W : Given 𝓤 H A) (at-mem : Memory → SProp 𝓤) (run : Routine → Fun 𝓤) where
-  walks : (C : Calls 𝓤 H) (Λ : Loops 𝓤 H) → FmC 𝓤 H (W .laws) C → Triple 𝓤 (C #machine·state·host-store) (Op 𝓤 H A at-mem run) → Walks 𝓤 H A key.ended stayed (WpFn 𝓤 H C Λ code.function) (key.clauses 𝓤 H A at-mem run)
-  walks C Λ fm known = walked 𝓤 H A key.ended stayed (key.clauses 𝓤 H A at-mem run) (WpFn 𝓤 H C Λ code.function) (λ κs. (ptr-vals, (uint-vals w8, (uint-vals w8, tt)))) (λ κs. (mut-tells (named 0) (κs .0) T.the-row, (uint-tells w8, (uint-tells w8, tt))))
-      (λ κs qs bounds a _ are. via 𝓤 _ (fst∗ 𝓤 _ (emp 𝓤)) (walk 𝓤 H A W at-mem run (κs .0) (qs .0) (a .0 .ptr .0) (a .0 .ptr .1) (a .0 .name) (a .0 .now) (a .1 .0) (a .1 .1 .0) C Λ fm known (are .1 .0 .1) (are .1 .1 .0 .1)))
+module _ {M : Type 1} (𝓤 : URA M) (H : Heap 𝓤) (A : Atoms 𝓤) (W : Given 𝓤 H A) (at-mem : Memory → SProp 𝓤)
+    (run : Routine → Fun 𝓤) where
+  walks : (C : Calls 𝓤 H) (Λ : Loops 𝓤 H) → FmC 𝓤 H (W .laws) C
+      → Triple 𝓤 (C #machine·state·host-store) (Op 𝓤 H A at-mem run)
+      → Walks 𝓤 H A key.ended stayed (WpFn 𝓤 H C Λ code.function) (key.clauses 𝓤 H A at-mem run)
+  walks C Λ fm known =
+      walked 𝓤 H A key.ended stayed (key.clauses 𝓤 H A at-mem run) (WpFn 𝓤 H C Λ code.function)
+      (λ κs. (ptr-vals, (uint-vals w8, (uint-vals w8, tt))))
+      (λ κs. (mut-tells (named 0) (κs .0) T.the-row, (uint-tells w8, (uint-tells w8, tt))))
+      (λ κs qs bounds a _ are. via 𝓤 _ (fst∗ 𝓤 _ (emp 𝓤))
+      (walk 𝓤 H A W at-mem run (κs .0) (qs .0) (a .0 .ptr .0) (a .0 .ptr .1) (a .0 .name) (a .0 .now) (a .1 .0)
+      (a .1 .1 .0) C Λ fm known (are .1 .0 .1) (are .1 .1 .0 .1)))
 
 pub key-store-spec : {M : Type 1} → stated.statement M
 unfolding code.routine
 key-store-spec 𝓤 H 𝓜 𝓖 𝓡 =
-    proved 𝓤 H 𝓜 𝓖 𝓡 code.env #bench·keys·key-store code.function (code.unfolded 𝓤 H 𝓜 𝓡) key.ended stayed (key.clauses 𝓤 H (𝓖 .A) (𝓜 .mem) (𝓡 .run))
-    (Lent.goes tt [] ps (plain (λ _. O.the-row)) (yes, (yes, tt)) 𝓤 H (𝓖 .A) (givenOf 𝓤 H 𝓜 𝓖) ((λ κs x f. refl), ((λ κs x f. refl), tt)))
+    proved 𝓤 H 𝓜 𝓖 𝓡 code.env #bench·keys·key-store code.function (code.unfolded 𝓤 H 𝓜 𝓡) key.ended stayed
+    (key.clauses 𝓤 H (𝓖 .A) (𝓜 .mem) (𝓡 .run))
+    (key-walk.goes tt [] ps (plain (λ _. O.the-row)) (yes, (yes, tt)) 𝓤 H (𝓖 .A) (givenOf 𝓤 H 𝓜 𝓖)
+    ((λ κs x f. refl), ((λ κs x f. refl), tt)))
     (walks 𝓤 H (𝓖 .A) (givenOf 𝓤 H 𝓜 𝓖) (𝓜 .mem) (𝓡 .run) _ _ (framed 𝓤 H 𝓜 𝓖 𝓡 code.env)
-    (cited 𝓤 H (Op 𝓤 H (𝓖 .A) (𝓜 .mem) (𝓡 .run)) 𝓜 𝓡 code.env #machine·state·host-store store-def.routine code.calls-machine·state·host-store (store-thm.met 𝓤 H 𝓜 𝓖 𝓡)))
+    (cited 𝓤 H
+    (Op 𝓤 H (𝓖 .A) (𝓜 .mem)
+    (𝓡 .run)) 𝓜 𝓡 code.env #machine·state·host-store store-def.routine code.calls-machine·state·host-store
+    (store-thm.met 𝓤 H 𝓜 𝓖 𝓡)))

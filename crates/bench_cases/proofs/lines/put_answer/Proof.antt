@@ -2,7 +2,7 @@
 use mathlib.Core.Path.{sym}
 use lib.Seq.{length-take-le}
 use borrow.Author.Needs.{needs}
-use Rattle.jobs.proofs.Written.{within-buffer}
+use Rattle.jobs.proofs.AnswerLaws.{within-buffer}
 use Rattle.bench_cases.proofs.lines.put_answer.Statement.{statement}
 use Rattle.bench_cases.proofs.lines.put_answer.Tie as tie
 

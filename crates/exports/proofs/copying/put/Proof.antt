@@ -35,20 +35,25 @@ loop-less c = search needs
 
 loop-again : tie.Need-loop-again Inv-loop μ-loop
 loop-again c =
-    let start = c .before .before .before .args in
-    let at-loop = c .before .before .loop in
+    let at-loop = c .before .before in
+    let start = at-loop .before in
+    let start = start .args in
+    let at-loop = at-loop .loop in
     let fits : start .at + at-loop .i < length (start .out .now) = omega arith in (
       search needs,
       search needs,
       rw (at-loop .inv .2, add-one (at-loop .i))
-          (paste-suc (start .out .now) (start .at) (start .part .now) (at-loop .i) 0 fits (c .before .loop-test .taken)),
+          (paste-suc (start .out .now) (start .at) (start .part .now) (at-loop .i) 0 fits
+          (c .before .loop-test .taken)),
     )
 
 same-length : tie.Need-same-length Inv-loop μ-loop
 same-length c = search needs
 
 returns : tie.Need-returns Inv-loop μ-loop
-returns c = let e : c .before .loop .i ≡ length (c .before .before .args .part .now) = omega arith in rw (← e) (c .before .loop .inv .2)
+returns c =
+    let start = c .before .before in
+    let e : c .before .loop .i ≡ length (start .args .part .now) = omega arith in rw (← e) (c .before .loop .inv .2)
 
 pub put-spec : {M : Type 1} → statement M
 put-spec =

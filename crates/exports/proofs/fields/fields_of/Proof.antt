@@ -223,16 +223,18 @@ returns-6 c = rw (c .before .before .i6 .given .1) (c .to2 .ensures)
 returns-7 : tie.Need-returns-7
 unfolding packedInstruction
 returns-7 c =
-    let fits : SFits w8 (c .before .before .i7 .given .0 .1 .1 .0) = search needs in
-    rw (c .before .before .i7 .given .1)
-    (c .bit-jump .ensures ∙ ap (bitJumpRow 6 (c .before .before .i7 .given .0 .0) (c .before .before .i7 .given .0 .1 .0)) (kept fits))
+    let at-i7 = c .before .before in
+    let fits : SFits w8 (at-i7 .i7 .given .0 .1 .1 .0) = search needs in
+    rw (at-i7 .i7 .given .1)
+    (c .bit-jump .ensures ∙ ap (bitJumpRow 6 (at-i7 .i7 .given .0 .0) (at-i7 .i7 .given .0 .1 .0)) (kept fits))
 
 returns-8 : tie.Need-returns-8
 unfolding packedInstruction
 returns-8 c =
-    let fits : SFits w8 (c .before .before .i8 .given .0 .1 .1 .0) = search needs in
-    rw (c .before .before .i8 .given .1)
-    (c .bit-jump2 .ensures ∙ ap (bitJumpRow 7 (c .before .before .i8 .given .0 .0) (c .before .before .i8 .given .0 .1 .0)) (kept fits))
+    let at-i8 = c .before .before in
+    let fits : SFits w8 (at-i8 .i8 .given .0 .1 .1 .0) = search needs in
+    rw (at-i8 .i8 .given .1)
+    (c .bit-jump2 .ensures ∙ ap (bitJumpRow 7 (at-i8 .i8 .given .0 .0) (at-i8 .i8 .given .0 .1 .0)) (kept fits))
 
 returns-9 : tie.Need-returns-9
 unfolding packedInstruction

@@ -2,7 +2,7 @@
 use mathlib.Core.Path.{refl, sym}
 use mathlib.Core.List.{[], _∷_}
 use borrow.Author.Needs.{needs}
-use Rattle.exports.proofs.Filling.{two-parts}
+use Rattle.exports.proofs.Pasting.{two-parts}
 use Rattle.exports.proofs.fields.put_row.Statement.{statement}
 use Rattle.exports.proofs.fields.put_row.Tie as tie
 
@@ -26,12 +26,16 @@ same-length c = search needs
 
 returns : tie.Need-returns
 returns c =
-    let args = c .before .before .before .before .before .before .before .before .before .before .before .before .args in
-    rw (← c .before .before .before .before .before .before .before .before .before .before .fields-of .ensures)
-    (two-parts (args .out .now) (c .before .before .before .before .before .before .before .before .before .before .fields-of .result) (args .bytes ∷ args .cycles ∷ 0 ∷ [])
-    (c .before .before .before .before .before .before .before .put .last .0) (c .before .before .put2 .last .0)
-    (sym (slice-aggregate-put (c .before .before .before .before .before .before .before .before))) refl
-    (c .before .before .before .before .before .before .before .put .ensures) (c .before .before .put2 .ensures))
+    let at-put2 = c .before .before in
+    let at-put = at-put2 .before .before .before .before .before in
+    let at-fields-of = at-put .before .before .before in
+    let start = at-fields-of .before .before in
+    let args = start .args in
+    rw (← at-fields-of .fields-of .ensures)
+    (two-parts (args .out .now) (at-fields-of .fields-of .result) (args .bytes ∷ args .cycles ∷ 0 ∷ [])
+    (at-put .put .last .0) (at-put2 .put2 .last .0)
+    (sym (slice-aggregate-put (at-put .before))) refl
+    (at-put .put .ensures) (at-put2 .put2 .ensures))
 
 pub put-row-spec : {M : Type 1} → statement M
 put-row-spec =

@@ -20,23 +20,31 @@ begins-with-requires c κs = search needs
 
 returns-2 : tie.Need-returns-2
 unfolding unpackedInstruction
-returns-2 c = rw (
-  le-leb _ _ (c .before .before .before .before .before .if1 .left),
-  ← c .before .before .before .before .candidate .ensures,
-  ← c .before .before .before .fields-of .ensures,
-  ← c .before .begins-with .ensures,
-  c .if2 .taken,
-)
+returns-2 c =
+    let at-fields-of = c .before .before .before in
+    let at-candidate = at-fields-of .before in
+    let at-if1 = at-candidate .before in
+    rw (
+      le-leb _ _ (at-if1 .if1 .left),
+      ← at-candidate .candidate .ensures,
+      ← at-fields-of .fields-of .ensures,
+      ← c .before .begins-with .ensures,
+      c .if2 .taken,
+    )
 
 returns-3 : tie.Need-returns-3
 unfolding unpackedInstruction
-returns-3 c = rw (
-  le-leb _ _ (c .before .before .before .before .before .if1 .left),
-  ← c .before .before .before .before .candidate .ensures,
-  ← c .before .before .before .fields-of .ensures,
-  ← c .before .begins-with .ensures,
-  c .if2 .left,
-)
+returns-3 c =
+    let at-fields-of = c .before .before .before in
+    let at-candidate = at-fields-of .before in
+    let at-if1 = at-candidate .before in
+    rw (
+      le-leb _ _ (at-if1 .if1 .left),
+      ← at-candidate .candidate .ensures,
+      ← at-fields-of .fields-of .ensures,
+      ← c .before .begins-with .ensures,
+      c .if2 .left,
+    )
 
 pub read-spec : {M : Type 1} → statement M
 read-spec =

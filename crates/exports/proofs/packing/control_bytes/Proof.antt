@@ -36,18 +36,27 @@ flag-requires-7 c κs = search needs
 
 returns : tie.Need-returns
 unfolding controlBytes
-returns c = rw (
-  c .before .before .before .before .before .before .before .before .before .low .ensures,
-  c .before .before .before .before .before .before .before .before .high .ensures,
-  c .before .before .before .before .before .before .before .mode-number .ensures,
-  c .before .before .before .before .before .before .flag .ensures,
-  c .before .before .before .before .before .flag2 .ensures,
-  c .before .before .before .before .flag3 .ensures,
-  c .before .before .before .flag4 .ensures,
-  c .before .before .flag5 .ensures,
-  c .before .flag6 .ensures,
-  c .flag7 .ensures,
-)
+returns c =
+    let at-flag5 = c .before .before in
+    let at-flag4 = at-flag5 .before in
+    let at-flag3 = at-flag4 .before in
+    let at-flag2 = at-flag3 .before in
+    let at-flag = at-flag2 .before in
+    let at-mode-number = at-flag .before in
+    let at-high = at-mode-number .before in
+    let at-low = at-high .before in
+    rw (
+      at-low .low .ensures,
+      at-high .high .ensures,
+      at-mode-number .mode-number .ensures,
+      at-flag .flag .ensures,
+      at-flag2 .flag2 .ensures,
+      at-flag3 .flag3 .ensures,
+      at-flag4 .flag4 .ensures,
+      at-flag5 .flag5 .ensures,
+      c .before .flag6 .ensures,
+      c .flag7 .ensures,
+    )
 
 pub control-bytes-spec : {M : Type 1} → statement M
 control-bytes-spec =

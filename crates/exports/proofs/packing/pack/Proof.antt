@@ -3,7 +3,7 @@ use mathlib.Core.Path.{sym}
 use native.Mathlib.Omega.{arith}
 use borrow.Author.Needs.{needs}
 use Rattle.exports.specs.States.{packed}
-use Rattle.exports.proofs.Filling.{three-parts}
+use Rattle.exports.proofs.Pasting.{three-parts}
 use Rattle.exports.proofs.packing.pack.Statement.{statement}
 use Rattle.exports.proofs.packing.pack.Tie as tie
 
@@ -37,13 +37,20 @@ same-length c = search needs
 returns : tie.Need-returns
 unfolding packed
 returns c =
-    let m = c .before .before .before .before .before .before .before .before .before .before .before .before .before .before .before .before .before .before .before .before .before .before .before .args .m in
-    three-parts (c .before .before .before .before .before .before .before .before .before .before .before .before .before .before .before .before .before .before .before .before .before .before .before .args .state .now) (m .bytes) (c .before .before .before .before .before .before .before .before .before .before .before .before .put .last .0) (c .before .before .before .before .before .before .before .put2 .last .0) (c .before .before .put3 .last .0)
-    (m .control) (m .flags) (m .stack) (c .before .before .before .before .before .before .before .before .before .before .before .before .before .before .before .before .before .before .before .before .before .before .before .pre)
-    (sym (slice-aggregate-put (c .before .before .before .before .before .before .before .before .before .before .before .before .before)))
-    (c .before .before .before .before .before .before .before .before .before .before .before .before .put .ensures)
-    (rw (c .before .before .before .before .before .before .before .before .before .before .before .before .before .before .before .before .before .control-bytes .ensures) at (c .before .before .before .before .before .before .before .put2 .ensures))
-    (rw (c .before .before .before .before .before .before .before .before .before .before .before .before .before .before .before .stack-bytes .ensures) at (c .before .before .put3 .ensures))
+    let at-put3 = c .before .before in
+    let at-put2 = at-put3 .before .before .before .before .before in
+    let at-put = at-put2 .before .before .before .before .before in
+    let at-stack-bytes = at-put .before .before .before in
+    let at-control-bytes = at-stack-bytes .before .before in
+    let start = at-control-bytes .before .before .before .before .before .before in
+    let m = start .args .m in
+    three-parts (start .args .state .now) (m .bytes) (at-put .put .last .0) (at-put2 .put2 .last .0)
+    (at-put3 .put3 .last .0)
+    (m .control) (m .flags) (m .stack) (start .pre)
+    (sym (slice-aggregate-put (at-put .before)))
+    (at-put .put .ensures)
+    (rw (at-control-bytes .control-bytes .ensures) at (at-put2 .put2 .ensures))
+    (rw (at-stack-bytes .stack-bytes .ensures) at (at-put3 .put3 .ensures))
 
 pub pack-spec : {M : Type 1} → statement M
 pack-spec =

@@ -30,16 +30,23 @@ digit-requires-8 c κs = search needs
 
 returns : tie.Need-returns
 unfolding reportBytes
-returns c = rw (
-  c .before .before .before .before .before .before .before .digit .ensures,
-  c .before .before .before .before .before .before .digit2 .ensures,
-  c .before .before .before .before .before .digit3 .ensures,
-  c .before .before .before .before .digit4 .ensures,
-  c .before .before .before .digit5 .ensures,
-  c .before .before .digit6 .ensures,
-  c .before .digit7 .ensures,
-  c .digit8 .ensures,
-)
+returns c =
+    let at-digit6 = c .before .before in
+    let at-digit5 = at-digit6 .before in
+    let at-digit4 = at-digit5 .before in
+    let at-digit3 = at-digit4 .before in
+    let at-digit2 = at-digit3 .before in
+    let at-digit = at-digit2 .before in
+    rw (
+      at-digit .digit .ensures,
+      at-digit2 .digit2 .ensures,
+      at-digit3 .digit3 .ensures,
+      at-digit4 .digit4 .ensures,
+      at-digit5 .digit5 .ensures,
+      at-digit6 .digit6 .ensures,
+      c .before .digit7 .ensures,
+      c .digit8 .ensures,
+    )
 
 pub report-bytes-spec : {M : Type 1} → statement M
 report-bytes-spec =

@@ -78,20 +78,32 @@ high-requires-6 c κs = search needs
 
 returns : tie.Need-returns
 unfolding stackBytes
-returns c = rw (
-  c .before .before .before .before .before .before .before .before .before .before .before .before .before .before .before .before .before .before .before .before .before .before .low .ensures,
-  c .before .before .before .before .before .before .before .before .before .before .before .before .before .before .before .before .before .before .before .before .high .ensures,
-  c .before .before .before .before .before .before .before .before .before .before .before .before .before .before .before .before .before .before .low2 .ensures,
-  c .before .before .before .before .before .before .before .before .before .before .before .before .before .before .before .before .high2 .ensures,
-  c .before .before .before .before .before .before .before .before .before .before .before .before .before .before .low3 .ensures,
-  c .before .before .before .before .before .before .before .before .before .before .before .before .high3 .ensures,
-  c .before .before .before .before .before .before .before .before .before .before .low4 .ensures,
-  c .before .before .before .before .before .before .before .before .high4 .ensures,
-  c .before .before .before .before .before .before .low5 .ensures,
-  c .before .before .before .before .high5 .ensures,
-  c .before .before .low6 .ensures,
-  c .high6 .ensures,
-)
+returns c =
+    let at-low6 = c .before .before in
+    let at-high5 = at-low6 .before .before in
+    let at-low5 = at-high5 .before .before in
+    let at-high4 = at-low5 .before .before in
+    let at-low4 = at-high4 .before .before in
+    let at-high3 = at-low4 .before .before in
+    let at-low3 = at-high3 .before .before in
+    let at-high2 = at-low3 .before .before in
+    let at-low2 = at-high2 .before .before in
+    let at-high = at-low2 .before .before in
+    let at-low = at-high .before .before in
+    rw (
+      at-low .low .ensures,
+      at-high .high .ensures,
+      at-low2 .low2 .ensures,
+      at-high2 .high2 .ensures,
+      at-low3 .low3 .ensures,
+      at-high3 .high3 .ensures,
+      at-low4 .low4 .ensures,
+      at-high4 .high4 .ensures,
+      at-low5 .low5 .ensures,
+      at-high5 .high5 .ensures,
+      at-low6 .low6 .ensures,
+      c .high6 .ensures,
+    )
 
 pub stack-bytes-spec : {M : Type 1} → statement M
 stack-bytes-spec =

@@ -32,13 +32,20 @@ loop-less c = search needs
 
 loop-again : tie.Need-loop-again Inv-loop μ-loop
 loop-again c =
-    let state = c .before .before .before .args .state .now in
-    let at-loop = c .before .before .loop in
+    let at-loop = c .before .before in
+    let start = at-loop .before in
+    let state = start .args .state .now in
+    let at-loop = at-loop .loop in
     let within : at-loop .i < length state = omega arith in
     let below : at-loop .i < length (at-loop .bytes) = omega arith in (
       search needs,
       search needs,
-      rw (add-one (at-loop .i), take-suc-set (at-loop .bytes) (at-loop .i) _ below, take-suc state (at-loop .i) 0 within, at-loop .inv .2),
+      rw (
+        add-one (at-loop .i),
+        take-suc-set (at-loop .bytes) (at-loop .i) _ below,
+        take-suc state (at-loop .i) 0 within,
+        at-loop .inv .2,
+      ),
     )
 
 returns : tie.Need-returns Inv-loop μ-loop

@@ -24,14 +24,19 @@ word-at-requires-6 c κs = search needs
 
 returns : tie.Need-returns
 unfolding stackAt
-returns c = rw (
-  c .before .before .before .before .before .word-at .ensures,
-  c .before .before .before .before .word-at2 .ensures,
-  c .before .before .before .word-at3 .ensures,
-  c .before .before .word-at4 .ensures,
-  c .before .word-at5 .ensures,
-  c .word-at6 .ensures,
-)
+returns c =
+    let at-word-at4 = c .before .before in
+    let at-word-at3 = at-word-at4 .before in
+    let at-word-at2 = at-word-at3 .before in
+    let at-word-at = at-word-at2 .before in
+    rw (
+      at-word-at .word-at .ensures,
+      at-word-at2 .word-at2 .ensures,
+      at-word-at3 .word-at3 .ensures,
+      at-word-at4 .word-at4 .ensures,
+      c .before .word-at5 .ensures,
+      c .word-at6 .ensures,
+    )
 
 pub stack-of-spec : {M : Type 1} → statement M
 stack-of-spec =

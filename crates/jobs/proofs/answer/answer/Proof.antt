@@ -9,18 +9,21 @@ check-job-requires c κs = search needs
 line-of-requires : tie.Need-line-of-requires
 line-of-requires c κs = search needs
 
-write-text-requires : tie.Need-write-text-requires
-write-text-requires c κs = c .before .line-of .ensures .fits
+write-line-requires : tie.Need-write-line-requires
+write-line-requires c κs = c .before .line-of .ensures .fits
 
 same-length : tie.Need-same-length
 same-length c = search needs
 
 returns : tie.Need-returns
 returns c =
-    rw (← c .before .before .before .before .before .check-job .ensures, ← c .before .before .before .before .line-of .ensures .text)
-    (c .before .before .write-text .ensures)
+    let at-write-line = c .before .before in
+    let at-line-of = at-write-line .before .before in
+    let at-check-job = at-line-of .before in
+    rw (← at-check-job .check-job .ensures, ← at-line-of .line-of .ensures .content)
+    (at-write-line .write-line .ensures)
 
 pub answer-spec : {M : Type 1} → statement M
 answer-spec =
     tie.close
-    (tie.spec check-job-requires line-of-requires write-text-requires same-length returns)
+    (tie.spec check-job-requires line-of-requires write-line-requires same-length returns)

@@ -1,9 +1,9 @@
 -- `line::line_of` meets its contract.
 use native.Mathlib.Omega.{arith}
 use borrow.Author.Needs.{needs}
-use Rattle.jobs.specs.Lines.{lineOf}
+use Rattle.jobs.specs.Line.{lineOf}
 use Rattle.jobs.proofs.Digits.{at-most-three}
-use Rattle.jobs.proofs.Appending.{then, both}
+use Rattle.jobs.proofs.LineLaws.{then, both}
 use Rattle.jobs.proofs.line.line_of.Statement.{statement}
 use Rattle.jobs.proofs.line.line_of.Tie as tie
 
@@ -36,11 +36,14 @@ refusal-line-requires c κs = search needs
 returns : tie.Need-returns
 unfolding lineOf
 returns c =
-    rw (c .before .before .before .before .before .checked .given .1)
-    (then (c .before .before .new .ensures) (both (c .before .decimal .ensures) (c .letter .ensures)))
+    let begun = c .before .before in
+    rw (begun .before .before .before .checked .given .1)
+    (then (begun .new .ensures) (both (c .before .decimal .ensures) (c .letter .ensures)))
 
 returns-2 : tie.Need-returns-2
-returns-2 c = rw (c .before .before .before .checked2 .given .1, ← c .before .number-of .ensures) (c .refusal-line .ensures)
+returns-2 c =
+    let at-checked2 = c .before .before .before in
+    rw (at-checked2 .checked2 .given .1, ← c .before .number-of .ensures) (c .refusal-line .ensures)
 
 pub line-of-spec : {M : Type 1} → statement M
 line-of-spec =

@@ -1,9 +1,9 @@
 -- `line::refusal_line` meets its contract.
 use native.Mathlib.Omega.{arith}
 use borrow.Author.Needs.{needs}
-use Rattle.jobs.specs.Lines.{lineOf}
+use Rattle.jobs.specs.Line.{lineOf}
 use Rattle.jobs.proofs.Digits.{at-most-three}
-use Rattle.jobs.proofs.Appending.{then, both}
+use Rattle.jobs.proofs.LineLaws.{then, both}
 use Rattle.jobs.proofs.line.refusal_line.Statement.{statement}
 use Rattle.jobs.proofs.line.refusal_line.Tie as tie
 
@@ -37,26 +37,47 @@ letter-requires-2 c κs =
 
 address-requires : tie.Need-address-requires
 address-requires c κs =
-    let digits = at-most-three (c .before .before .before .number2 .given .0 .0) (search needs) in
-    omega (arith, digits, c .letter2 .ensures .count, c .before .decimal2 .ensures .count, c .before .before .before .before .before .new .ensures .count)
+    let known = c .before .before .before in
+    let digits = at-most-three (known .number2 .given .0 .0) (search needs) in
+    omega (
+      arith,
+      digits,
+      c .letter2 .ensures .count,
+      c .before .decimal2 .ensures .count,
+      known .before .before .new .ensures .count,
+    )
 
 letter-requires-3 : tie.Need-letter-requires-3
 letter-requires-3 c κs =
-    let digits = at-most-three (c .before .before .before .before .number2 .given .0 .0) (search needs) in
-    omega (arith, digits, c .address .ensures .count, c .before .letter2 .ensures .count, c .before .before .decimal2 .ensures .count, c .before .before .before .before .before .before .new .ensures .count)
+    let numbered = c .before .before in
+    let known = numbered .before .before in
+    let digits = at-most-three (known .number2 .given .0 .0) (search needs) in
+    let begun = known .before .before .new .ensures .count in
+    omega (
+      arith,
+      digits,
+      begun,
+      c .address .ensures .count,
+      c .before .letter2 .ensures .count,
+      numbered .decimal2 .ensures .count,
+    )
 
 returns : tie.Need-returns
 unfolding lineOf
 returns c =
-    rw (c .before .before .before .number .given .1)
-    (then (c .before .before .before .before .before .new .ensures) (both (c .before .decimal .ensures) (c .letter .ensures)))
+    let known = c .before .before .before in
+    rw (known .number .given .1)
+    (then (known .before .before .new .ensures) (both (c .before .decimal .ensures) (c .letter .ensures)))
 
 returns-2 : tie.Need-returns-2
 unfolding lineOf
 returns-2 c =
-    rw (c .before .before .before .before .before .number2 .given .1)
-    (then (c .before .before .before .before .before .before .before .new .ensures)
-    (both (c .before .before .before .decimal2 .ensures) (both (c .before .before .letter2 .ensures) (both (c .before .address .ensures) (c .letter3 .ensures)))))
+    let numbered = c .before .before .before in
+    let known = numbered .before .before in
+    let address = both (c .before .address .ensures) (c .letter3 .ensures) in
+    let located = both (c .before .before .letter2 .ensures) address in
+    rw (known .number2 .given .1)
+    (then (known .before .before .new .ensures) (both (numbered .decimal2 .ensures) located))
 
 pub refusal-line-spec : {M : Type 1} → statement M
 refusal-line-spec =

@@ -1,0 +1,58 @@
+-- A number beyond its range is refused as the one that stands in for it.
+use Prim.Native.Nat.{ℕ}
+use mathlib.Core.Path.{_≡_, refl}
+use mathlib.Core.Bool.{Bool, true, false, cond}
+use mathlib.Core.List.{List}
+use native.Mathlib.Omega.{arith}
+use borrow.Author.Tests.{ltb-false, le-ltb}
+use lib.Dec.{eqb, ltb}
+use lib.ListN.{length}
+use Rattle.isa.specs.Refusals.{plain, unless}
+use Rattle.isa.specs.Rom.{isImage}
+use Rattle.isa.specs.Decode.{decodeAt}
+use Rattle.machine.specs.declared.Machine.{Machine}
+use Rattle.machine.specs.Step.{stepOf}
+use Rattle.certificate.specs.Levels.{levelsOf}
+use Rattle.certificate.specs.Findings.{fault}
+use Rattle.certificate.specs.Check.{verdict, checkOf}
+
+step-by : (image : List ℕ) (m : Machine) (n : ℕ) (b : Bool) → ltb n 256 ≡ b
+    → stepOf image m (cond b n 255) ≡ stepOf image m n
+unfolding stepOf
+step-by image m n true e = refl
+step-by image m n false e = rw (le-ltb n 32 (omega (arith, ltb-false n 256 e)))
+
+pub step-clamped : (image : List ℕ) (m : Machine) (n : ℕ) → stepOf image m (cond (ltb n 256) n 255) ≡ stepOf image m n
+step-clamped image m n = step-by image m n (ltb n 256) refl
+
+-- a refusal before the levels does not depend on them
+unwired : (a b : Bool) (n k : ℕ)
+    → verdict n (unless a (fault (plain 1)) (unless b (fault (plain 13)) (fault (plain 11))))
+    ≡ verdict k (unless a (fault (plain 1)) (unless b (fault (plain 13)) (fault (plain 11))))
+unwired true true n k = refl
+unwired true false n k = refl
+unwired false b n k = refl
+
+check-by :
+    (image certificate : List ℕ) (n : ℕ) (b : Bool) → ltb n 256 ≡ b →
+    checkOf image certificate (cond b n 255) ≡ checkOf image certificate n
+unfolding checkOf
+check-by image certificate n true e = refl
+check-by image certificate n false e =
+    rw (le-ltb n 32 (omega (arith, ltb-false n 256 e)))
+    (unwired (isImage (length image)) (eqb (length certificate) (length image)) (levelsOf certificate 255)
+    (levelsOf certificate n))
+
+pub check-clamped :
+    (image certificate : List ℕ) (n : ℕ)
+    → checkOf image certificate (cond (ltb n 256) n 255) ≡ checkOf image certificate n
+check-clamped image certificate n = check-by image certificate n (ltb n 256) refl
+
+decode-by :
+    (image : List ℕ) (a : ℕ) (b : Bool) → ltb a 4096 ≡ b → decodeAt image (cond b a 4096) ≡ decodeAt image a
+unfolding decodeAt
+decode-by image a true e = refl
+decode-by image a false e = rw e
+
+pub decode-clamped : (image : List ℕ) (a : ℕ) → decodeAt image (cond (ltb a 4096) a 4096) ≡ decodeAt image a
+decode-clamped image a = decode-by image a (ltb a 4096) refl
