@@ -61,8 +61,8 @@ module _ (image : List ℕ) (m : Machine) (request : ℕ) where
   does-keep t (executes i bytes cycles none awake at room) r e = let z : _≡_ {A = ℕ} 0 1 = cc in absurd (omega arith)
 
   tested-keep : (t : Step) → Tested image m request t → (r : Numbered) → t .answer ≡ refused r → t .machine ≡ m
-  tested-keep t (refuses n) r e = refl
-  tested-keep t (passes size formed) r e = does-keep t (step-does image m request size formed) r e
+  tested-keep t (refuses n why) r e = refl
+  tested-keep t (passes size formed sources) r e = does-keep t (step-does image m request size formed) r e
 
 module _ (s : List ℕ) (bytes : Bytes s) where
   again : (m : Machine) → unpacked s ≡ typed m → packed m ≡ s

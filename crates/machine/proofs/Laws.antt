@@ -30,7 +30,7 @@ use Rattle.machine.specs.Step.{Step, doneOf, refusedOf, completedOf, exe
 use Rattle.machine.specs.Step as step
 use Rattle.machine.specs.Run.{Run, runAt, joinedBy, joinedOf, continuedBy, continuedOf, stepsOf, requestsFit}
 use Rattle.machine.specs.Laws.{IsStop, Does, stops, takes, idles, executes, pairNumber, OtherPairsKept, GoesOn, DataGoesOn, StopsOnly, RunEndsByStop, followedBy, RunIsSteps}
-use Rattle.machine.proofs.StepDoes.{step-does, Tested, refuses, passes, step-tested}
+use Rattle.machine.proofs.StepDoes.{step-does, numbered-stop, Tested, refuses, passes, step-tested}
 use Rattle.machine.proofs.Steps.{step-advances, fits-at, next-step}
 use Rattle.machine.proofs.StaysWellFormed.{stays-well-formed}
 
@@ -65,8 +65,8 @@ module _ (image : List ℕ) (m : Machine) (request : ℕ) (mode : Mode) (apart :
   by-case _ (executes i bytes cycles none awake at goes) = other-pair (m .flags) _ (m .control .mode) mode apart
 
   by-test : (s : Step) → Tested image m request s → pairOf (s .machine .flags) mode ≡ pairOf (m .flags) mode
-  by-test _ (refuses r) = refl
-  by-test _ (passes size formed) = by-case _ (step-does image m request size formed)
+  by-test _ (refuses r why) = refl
+  by-test _ (passes size formed sources) = by-case _ (step-does image m request size formed)
 
 pub other-pairs-kept : OtherPairsKept
 other-pairs-kept image m request mode apart = by-test image m request mode apart _ (step-tested image m request)
@@ -77,15 +77,15 @@ data-goes-on image m i bytes cycles e = record { control = rw e; stack = rw e; a
 
 -- a run that has not ended is at a step that is not refused
 module _ (image : List ℕ) (all : Bytes image) (size : isImage (length image) ≡ true) (requests : List ℕ) (m : Machine) (formed : isWellFormed m ≡ true) where
-  stopped : (n : Machine) (request : ℕ) (s : Step) → Does image n request s → (r : Run) → StopsOnly (joinedOf r s .report .ending)
-  stopped n request _ (stops reason is) r = is
-  stopped n request _ (takes source e none) r = tt
-  stopped n request _ (idles none asleep) r = tt
-  stopped n request _ (executes i bytes cycles none awake at goes) r = tt
+  stopped : (n : Machine) (request : ℕ) → isWellFormed n ≡ true → (s : Step) → Does image n request s → (r : Run) → StopsOnly (joinedOf r s .report .ending)
+  stopped n request w _ (stops reason why) r = numbered-stop image n request size w reason why
+  stopped n request w _ (takes source e none) r = tt
+  stopped n request w _ (idles none asleep) r = tt
+  stopped n request w _ (executes i bytes cycles none awake at goes) r = tt
 
   continued : (r : Run) (request : ℕ) → isWellFormed (r .machine) ≡ true → namesOnlySources request ≡ true → (e : Ended) → r .report .ending ≡ e → StopsOnly e → StopsOnly (continuedBy image r request e .report .ending)
   continued r request w fits (done tt) is f =
-      rw (step-advances image (r .machine) request size w fits) (stopped (r .machine) request _ (step-does image (r .machine) request size w) r)
+      rw (step-advances image (r .machine) request size w fits) (stopped (r .machine) request w _ (step-does image (r .machine) request size w) r)
   continued r request w fits (refused reason) is f = rw is f
 
   ends : (n : ℕ) → requestsFit requests n ≡ true → (k : ℕ) → k ≤ n → StopsOnly (stepsOf image requests m k .report .ending)

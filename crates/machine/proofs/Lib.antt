@@ -3,4 +3,5 @@ pub mod Stops
 pub mod StepDoes
 pub mod StaysWellFormed
 pub mod Steps
+pub mod Refusals
 pub mod Laws

@@ -21,7 +21,7 @@ use Rattle.machine.specs.State.{viewOf, isWellFormed, inWindow, withByte
 use Rattle.machine.specs.Step.{Step, advancedOf, stepOf}
 use Rattle.machine.specs.Step as step
 use Rattle.machine.specs.Run.{Run, joinedBy, continuedBy, stepsOf, requestsFit, refusedRun, runOf}
-use Rattle.machine.specs.Laws.{executionAt, Does, stops, takes, idles, executes, StaysWellFormed}
+use Rattle.machine.specs.Laws.{Does, stops, takes, idles, executes, StaysWellFormed}
 use Rattle.machine.proofs.StepDoes.{step-does, Tested, refuses, passes, step-tested}
 
 -- the machine after a step is well formed
@@ -52,8 +52,8 @@ module _ (image : List ℕ) (all : Bytes image) (m : Machine) (formed : isWellFo
 
   -- a step, refused or not
   by-test : (s : Step) → Tested image m request s → FormedStep s
-  by-test _ (refuses r) = formed
-  by-test _ (passes size w) = advance-formed size
+  by-test _ (refuses r why) = formed
+  by-test _ (passes size w sources) = advance-formed size
 
   by-step : FormedStep (stepOf image m request)
   by-step = by-test _ (step-tested image m request)

@@ -11,37 +11,23 @@ use Rattle.isa.specs.RoundTrip.{Bytes}
 use Rattle.isa.specs.Displacement.{forwardOf}
 use Rattle.isa.specs.ControlFlow.{flowOf}
 use Rattle.isa.specs.Rom.{isImage}
-use Rattle.isa.specs.Decode.{decodeAt}
-use Rattle.isa.specs.Decode as decode
 use Rattle.isa.specs.declared.Instruction.{Instruction}
 use Rattle.isa.specs.declared.Flow.the-variants as flow
 use Rattle.isa.specs.declared.Source.{Source}
 use Rattle.control.specs.declared.Mode.{Mode}
 use Rattle.control.specs.declared.Mode.the-variants.{Reset, Normal, Interrupt, NmiOverNormal, NmiOverInterrupt}
-use Rattle.control.specs.declared.Requested.the-variants.{Nothing, Taken}
 use Rattle.control.specs.declared.Stop.the-variants as stop
-use Rattle.control.specs.Stack.{Transferred}
 use Rattle.control.specs.Transfers.{atOf}
-use Rattle.control.specs.Requests.{requestedOf, takeOf}
+use Rattle.control.specs.Requests.{takeOf}
 use Rattle.machine.specs.declared.Machine.{Machine}
-use Rattle.machine.specs.Pairs.{pairOf, withPairOf}
+use Rattle.machine.specs.Pairs.{pairOf}
 use Rattle.machine.specs.Execute.{Execution, executeOf}
-use Rattle.machine.specs.State.{machineOf, viewOf, isWellFormed, hostStoreOf, resetOf}
-use Rattle.machine.specs.Step.{Step, doneOf, refusedOf, enabledOf, executedOf, advancedOf, stepOf}
-use Rattle.machine.specs.Step as step
+use Rattle.machine.specs.State.{viewOf, isWellFormed, hostStoreOf, resetOf}
+use Rattle.machine.specs.Step.{Step, doneOf, refusedOf, servedOf, afterOf, executedOf, advancedOf, stepOf}
 use Rattle.machine.specs.Run.{Run, runAt, stepsOf, requestsFit, runOf}
+use Rattle.machine.specs.Refusals.{Takes, TakesNone, AtPc, StepStops}
 
--- the request that a step takes
-abbrev pub Takes : Machine → (request : ℕ) → Source → Type 0
-Takes m request source = requestedOf (m .control .mode) (enabledOf (m .bytes)) request ≡ Taken source
-
-abbrev pub TakesNone : Machine → (request : ℕ) → Type 0
-TakesNone m request = requestedOf (m .control .mode) (enabledOf (m .bytes)) request ≡ Nothing
-
--- the instruction at PC, with its bytes and cycles, and what executing it does
-abbrev pub AtPc : (image : List ℕ) → Machine → Instruction → (bytes cycles : ℕ) → Type 0
-AtPc image m i bytes cycles = decodeAt image (m .control .pc) ≡ done (decode.instruction i bytes cycles)
-
+-- what executing an instruction at PC does
 abbrev pub executionAt : (image : List ℕ) → Machine → Instruction → (bytes : ℕ) → Execution
 executionAt image m i bytes = executeOf image (viewOf m) (m .stack) (m .control) i (forwardOf (m .control .pc) bytes)
 
@@ -54,22 +40,19 @@ pub record IsStop (r : Numbered) : Type 0 where
   pub most : number ≤ 7
 
 -- What a step that is not refused does: it stops and leaves the machine as it was, or takes a request in one cycle, or is idle in none,
--- or executes the instruction at PC in the cycles of the table, with its flags in the pair of the mode before it.
+-- or executes the instruction at PC in the cycles of the table
 pub data Does (image : List ℕ) (m : Machine) (request : ℕ) : Step → Type 0 where
-  stops : (r : Numbered) → IsStop r → Does image m request (refusedOf m r)
+  stops : (r : Numbered) → StepStops image m request r → Does image m request (refusedOf m r)
   takes :
       (source : Source) → Takes m request source → takeOf (m .stack) (m .control) source .stop ≡ stop.None →
-      Does image m request
-      (doneOf (machineOf (takeOf (m .stack) (m .control) source .control) (takeOf (m .stack) (m .control) source .stack) (m .flags) (m .bytes)) 1)
+      Does image m request (doneOf (servedOf m (takeOf (m .stack) (m .control) source)) 1)
   idles : TakesNone m request → m .control .asleep ≡ true → Does image m request (doneOf m 0)
   executes :
       (i : Instruction) (bytes cycles : ℕ) → TakesNone m request → m .control .asleep ≡ false → AtPc image m i bytes cycles →
       executionAt image m i bytes .stop ≡ stop.None →
-      Does image m request
-      (doneOf
-      (machineOf (executionAt image m i bytes .control) (executionAt image m i bytes .stack)
-      (withPairOf (m .flags) (m .control .mode) (executionAt image m i bytes .space .flags)) (executionAt image m i bytes .space .bytes)) cycles)
+      Does image m request (doneOf (afterOf m (executionAt image m i bytes)) cycles)
 
+-- proved by step-does, proofs/StepDoes
 abbrev pub StepDoes : Type 0
 StepDoes =
     (image : List ℕ) (m : Machine) (request : ℕ) → isImage (length image) ≡ true → isWellFormed m ≡ true →

@@ -3,4 +3,5 @@ pub mod Execute
 pub mod State
 pub mod Step
 pub mod Run
+pub mod Refusals
 pub mod Laws

@@ -57,18 +57,24 @@ stoppedOf m stop.None more = more
 stoppedOf m stop.Full more = refusedOf m (located 6 (m .control .pc))
 stoppedOf m stop.Empty more = refusedOf m (located 7 (m .control .pc))
 
+-- the machine after a request: flags and data as they were
+abbrev pub servedOf : Machine → Transferred → Machine
+servedOf m t = machineOf (t .control) (t .stack) (m .flags) (m .bytes)
+
 -- "Taking one [..] costs one cycle, and is a step by itself."
 unfoldable pub takenBy : Machine → Transferred → Step
-takenBy m t = stoppedOf m (t .stop) (doneOf (machineOf (t .control) (t .stack) (m .flags) (m .bytes)) 1)
+takenBy m t = stoppedOf m (t .stop) (doneOf (servedOf m t) 1)
 
 unfoldable pub takenOf : Machine → Source → Step
 takenOf m source = takenBy m (takeOf (m .stack) (m .control) source)
 
--- an instruction's flags go to the pair of the mode before it
+-- the machine after an instruction: its flags go to the pair of the mode before it
+abbrev pub afterOf : Machine → Execution → Machine
+afterOf m x =
+    machineOf (x .control) (x .stack) (withPairOf (m .flags) (m .control .mode) (x .space .flags)) (x .space .bytes)
+
 unfoldable pub completedOf : Machine → (cycles : ℕ) → Execution → Step
-completedOf m cycles x =
-    stoppedOf m (x .stop)
-    (doneOf (machineOf (x .control) (x .stack) (withPairOf (m .flags) (m .control .mode) (x .space .flags)) (x .space .bytes)) cycles)
+completedOf m cycles x = stoppedOf m (x .stop) (doneOf (afterOf m x) cycles)
 
 -- an instruction of so many bytes and cycles
 unfoldable pub executedOf : (image : List ℕ) → Machine → Instruction → (bytes cycles : ℕ) → Step
