@@ -1,14 +1,12 @@
 -- Laws of steps and runs that callers use.
 use Prim.Native.Nat.{ℕ, zero, suc, _+_, _≤_, _<_}
 use mathlib.Core.Path.{_≡_, refl, sym, ap, _∙_}
-use mathlib.Core.Logic.{_≢_}
 use mathlib.Core.Bool.{Bool, true, false, _&&_}
 use mathlib.Core.List.{List, [], _∷_}
 use native.Mathlib.Omega.{arith}
 use native.Mathlib.Nat.{zero-add, add-zero, add-suc, add-assoc}
 use lib.ListN.{length, getD, drop}
 use lib.Seq.{getD-drop}
-use Rattle.alu.specs.declared.Flags.{Flags}
 use Rattle.data.specs.Effect.{effectOf}
 use Rattle.isa.specs.Refusals.{Numbered, Answer, Ended, done, refused}
 use Rattle.isa.specs.RoundTrip.{Bytes}
@@ -18,58 +16,17 @@ use Rattle.isa.specs.Sources.{namesOnlySources}
 use Rattle.isa.specs.Rom.{isImage}
 use Rattle.isa.specs.declared.Instruction.{Instruction}
 use Rattle.isa.specs.declared.Flow.the-variants as flow
-use Rattle.control.specs.declared.Mode.{Mode}
-use Rattle.control.specs.declared.Mode.the-variants.{Reset, Normal, Interrupt, NmiOverNormal, NmiOverInterrupt}
 use Rattle.control.specs.Transfers.{advanceOf}
 use Rattle.machine.specs.declared.Machine.{Machine}
-use Rattle.machine.specs.declared.FlagPairs.{FlagPairs}
-use Rattle.machine.specs.Pairs.{pairOf, withNmi, withPairOf}
 use Rattle.machine.specs.Execute.{executeOf}
 use Rattle.machine.specs.State.{isWellFormed}
 use Rattle.machine.specs.Step.{Step, doneOf, refusedOf, completedOf, executedOf, advancedOf, stepOf}
 use Rattle.machine.specs.Step as step
 use Rattle.machine.specs.Run.{Run, runAt, joinedBy, joinedOf, continuedBy, continuedOf, stepsOf, requestsFit}
-use Rattle.machine.specs.Laws.{IsStop, Does, stops, takes, idles, executes, pairNumber, OtherPairsKept, GoesOn, DataGoesOn, StopsOnly, RunEndsByStop, followedBy, RunIsSteps}
-use Rattle.machine.proofs.StepDoes.{step-does, numbered-stop, Tested, refuses, passes, step-tested}
+use Rattle.machine.specs.Laws.{IsStop, Does, stops, takes, idles, executes, GoesOn, DataGoesOn, StopsOnly, RunEndsByStop, followedBy, RunIsSteps}
+use Rattle.machine.proofs.StepDoes.{step-does, numbered-stop}
 use Rattle.machine.proofs.Steps.{step-advances, fits-at, next-step}
 use Rattle.machine.proofs.StaysWellFormed.{stays-well-formed}
-
--- a pair that was stored is that of the mode alone
-other-than-nmi : (p : FlagPairs) (f : Flags) (b : Mode) → 3 ≢ pairNumber b → pairOf (withNmi p f) b ≡ pairOf p b
-other-than-nmi p f Normal n = refl
-other-than-nmi p f Interrupt n = refl
-other-than-nmi p f Reset n = absurd (n refl)
-other-than-nmi p f NmiOverNormal n = absurd (n refl)
-other-than-nmi p f NmiOverInterrupt n = absurd (n refl)
-
-other-pair : (p : FlagPairs) (f : Flags) (a b : Mode) → pairNumber a ≢ pairNumber b → pairOf (withPairOf p a f) b ≡ pairOf p b
-other-pair p f Normal Normal n = absurd (n refl)
-other-pair p f Normal Interrupt n = refl
-other-pair p f Normal Reset n = refl
-other-pair p f Normal NmiOverNormal n = refl
-other-pair p f Normal NmiOverInterrupt n = refl
-other-pair p f Interrupt Normal n = refl
-other-pair p f Interrupt Interrupt n = absurd (n refl)
-other-pair p f Interrupt Reset n = refl
-other-pair p f Interrupt NmiOverNormal n = refl
-other-pair p f Interrupt NmiOverInterrupt n = refl
-other-pair p f Reset b n = other-than-nmi p f b n
-other-pair p f NmiOverNormal b n = other-than-nmi p f b n
-other-pair p f NmiOverInterrupt b n = other-than-nmi p f b n
-
-module _ (image : List ℕ) (m : Machine) (request : ℕ) (mode : Mode) (apart : pairNumber (m .control .mode) ≢ pairNumber mode) where
-  by-case : (s : Step) → Does image m request s → pairOf (s .machine .flags) mode ≡ pairOf (m .flags) mode
-  by-case _ (stops r is) = refl
-  by-case _ (takes source e none) = refl
-  by-case _ (idles none asleep) = refl
-  by-case _ (executes i bytes cycles none awake at goes) = other-pair (m .flags) _ (m .control .mode) mode apart
-
-  by-test : (s : Step) → Tested image m request s → pairOf (s .machine .flags) mode ≡ pairOf (m .flags) mode
-  by-test _ (refuses r why) = refl
-  by-test _ (passes size formed sources) = by-case _ (step-does image m request size formed)
-
-pub other-pairs-kept : OtherPairsKept
-other-pairs-kept image m request mode apart = by-test image m request mode apart _ (step-tested image m request)
 
 pub data-goes-on : DataGoesOn
 unfolding executedOf completedOf executeOf advanceOf

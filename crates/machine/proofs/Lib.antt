@@ -5,3 +5,4 @@ pub mod StaysWellFormed
 pub mod Steps
 pub mod Refusals
 pub mod Laws
+pub mod PairUse

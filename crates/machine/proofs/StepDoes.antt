@@ -77,8 +77,8 @@ module _ (image : List ℕ) (m : Machine) (request : ℕ) (formed : isWellFormed
       by-test _ _ stop.Empty _ (return-stops (m .stack) (m .control) (forwardOf (m .control .pc) bytes) .stop)
       (executes i bytes cycles none awake at)
       (λ f.
-        let p = not-start-up (eqb (m .control .levels) 0) (isReset (m .control .mode)) f in
-        stops _ (reti-empty bytes cycles none awake at (eqb-true (m .control .levels) 0 (p .0)) (p .1)))
+      let p = not-start-up (eqb (m .control .levels) 0) (isReset (m .control .mode)) f in
+      stops _ (reti-empty bytes cycles none awake at (eqb-true (m .control .levels) 0 (p .0)) (p .1)))
   executed none awake i bytes cycles at (goes-on e) =
       by-test _ _ stop.Full false (e image (viewOf m) (m .stack) (m .control) (forwardOf (m .control .pc) bytes))
       (executes i bytes cycles none awake at) (λ f. never f)

@@ -2,7 +2,6 @@
 -- "What each operation turns down").
 use Prim.Native.Nat.{ℕ, _+_, _≤_}
 use mathlib.Core.Path.{_≡_}
-use mathlib.Core.Logic.{_⊎_, _≢_}
 use mathlib.Core.Bool.{true, false}
 use mathlib.Core.List.{List, [], _∷_}
 use lib.ListN.{length, drop}
@@ -14,13 +13,10 @@ use Rattle.isa.specs.Rom.{isImage}
 use Rattle.isa.specs.declared.Instruction.{Instruction}
 use Rattle.isa.specs.declared.Flow.the-variants as flow
 use Rattle.isa.specs.declared.Source.{Source}
-use Rattle.control.specs.declared.Mode.{Mode}
-use Rattle.control.specs.declared.Mode.the-variants.{Reset, Normal, Interrupt, NmiOverNormal, NmiOverInterrupt}
 use Rattle.control.specs.declared.Stop.the-variants as stop
 use Rattle.control.specs.Transfers.{atOf}
 use Rattle.control.specs.Requests.{takeOf}
 use Rattle.machine.specs.declared.Machine.{Machine}
-use Rattle.machine.specs.Pairs.{pairOf}
 use Rattle.machine.specs.Execute.{Execution, executeOf}
 use Rattle.machine.specs.State.{viewOf, isWellFormed, hostStoreOf, resetOf}
 use Rattle.machine.specs.Step.{Step, doneOf, refusedOf, servedOf, afterOf, executedOf, advancedOf, stepOf}
@@ -57,20 +53,6 @@ abbrev pub StepDoes : Type 0
 StepDoes =
     (image : List ℕ) (m : Machine) (request : ℕ) → isImage (length image) ≡ true → isWellFormed m ≡ true →
     Does image m request (advancedOf image m request)
-
--- the three pairs, and which one a mode has in use
-abbrev pub pairNumber : Mode → ℕ
-pairNumber Normal = 1
-pairNumber Interrupt = 2
-pairNumber Reset = 3
-pairNumber NmiOverNormal = 3
-pairNumber NmiOverInterrupt = 3
-
--- a step changes only the flag pair of its own mode
-abbrev pub OtherPairsKept : Type 0
-OtherPairsKept =
-    (image : List ℕ) (m : Machine) (request : ℕ) (mode : Mode) → pairNumber (m .control .mode) ≢ pairNumber mode →
-    pairOf (stepOf image m request .machine .flags) mode ≡ pairOf (m .flags) mode
 
 -- a data instruction, whose flow is the next address, moves PC there, and leaves stack, mode, levels and sleep
 pub record GoesOn (image : List ℕ) (m : Machine) (i : Instruction) (bytes cycles : ℕ) : Type 0 where

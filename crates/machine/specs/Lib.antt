@@ -5,3 +5,4 @@ pub mod Step
 pub mod Run
 pub mod Refusals
 pub mod Laws
+pub mod PairUse
