@@ -9,9 +9,10 @@ use Rattle.isa.specs.declared.Source.{Source}
 use Rattle.control.specs.declared.Control.{Control}
 use Rattle.control.specs.declared.Stop.{Stop}
 use Rattle.control.specs.declared.Stop.the-variants as stop
+use Rattle.control.specs.Update.{withPc, withMode}
 use Rattle.control.specs.Modes.{modeBeneath}
 use Rattle.control.specs.Stack.{Transferred, goesOn, stops, isFull, pushOf, popOf}
-use Rattle.control.specs.Transfers.{atOf, inModeOf, thenIn, callOf, endsStartUp, returnFromInterruptOf}
+use Rattle.control.specs.Transfers.{thenIn, callOf, endsStartUp, returnFromInterruptOf}
 use Rattle.control.specs.Requests.{takeOf}
 
 -- it goes on, or the stack is as it was
@@ -28,17 +29,17 @@ module _ (stack : List ℕ) (c : Control) where
   by-test true s more e = record { stop = refl; kept = inr refl }
   by-test false s more e = record { stop = e; kept = inl e }
 
-  goes-on : (address : ℕ) → pushOf stack c address .stop ≡ stop.None
+  push-stops : (address : ℕ) → StopsWhere (isFull c) stop.Full stack (pushOf stack c address)
   unfolding pushOf
-  goes-on address = refl
+  push-stops address = by-test (isFull c) stop.Full _ refl
 
   pub call-stops : (to next : ℕ) → StopsWhere (isFull c) stop.Full stack (callOf stack c to next)
   unfolding callOf
-  call-stops to next = by-test (isFull c) stop.Full _ (goes-on next)
+  call-stops to next = record { stop = push-stops next .stop; kept = push-stops next .kept }
 
   pub take-stops : (s : Source) → StopsWhere (isFull c) stop.Full stack (takeOf stack c s)
   unfolding takeOf
-  take-stops s = by-test (isFull c) stop.Full _ (goes-on (c .pc))
+  take-stops s = record { stop = push-stops (c .pc) .stop; kept = push-stops (c .pc) .kept }
 
   pub pop-stops : StopsWhere (eqb (c .levels) 0) stop.Empty stack (popOf stack c)
   unfolding popOf
@@ -50,6 +51,6 @@ module _ (stack : List ℕ) (c : Control) where
     where
       by-start-up :
           (b : Bool) → StopsWhere (not b && eqb (c .levels) 0) stop.Empty stack
-          (cond b (goesOn stack (inModeOf (atOf c next) (modeBeneath (c .mode)))) (thenIn (popOf stack c) (modeBeneath (c .mode))))
+          (cond b (goesOn stack (withMode (withPc c next) (modeBeneath (c .mode)))) (thenIn (popOf stack c) (modeBeneath (c .mode))))
       by-start-up true = record { stop = refl; kept = inl refl }
       by-start-up false = record { stop = pop-stops .stop; kept = pop-stops .kept }
