@@ -15,7 +15,7 @@ use Rattle.machine.specs.State.{HostStore, withByte, inWindow, hostStoreOf, res
 use Rattle.machine.specs.Step as stepping
 use Rattle.machine.specs.Step.{stepOf}
 use Rattle.machine.specs.Run.{Run, refusedRun, joinedBy, continuedBy, stepsOf, requestsFit, runOf}
-use Rattle.machine.proofs.Steps.{fits-at}
+use Rattle.machine.proofs.StepByStep.{fits-at}
 use Rattle.certificate.specs.Rules.{Rules}
 use Rattle.certificate.proofs.Agreement.{agreement}
 use Rattle.bench.specs.Calls.{Call, step, run, store, reset, leaves, leavesAll, AsksOnly, FirstAskOnly, CallAsksOnly, AllAskOnly}

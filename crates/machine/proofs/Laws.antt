@@ -20,12 +20,12 @@ use Rattle.control.specs.Transfers.{advanceOf}
 use Rattle.machine.specs.declared.Machine.{Machine}
 use Rattle.machine.specs.Execute.{executeOf}
 use Rattle.machine.specs.State.{isWellFormed}
-use Rattle.machine.specs.Step.{Step, doneOf, refusedOf, completedOf, executedOf, advancedOf, stepOf}
-use Rattle.machine.specs.Step as step
-use Rattle.machine.specs.Run.{Run, runAt, joinedBy, joinedOf, continuedBy, continuedOf, stepsOf, requestsFit}
+use Rattle.machine.specs.Advance.{Step, doneOf, refusedOf, completedOf, executedOf, advancedOf}
+use Rattle.machine.specs.Step.{stepOf}
+use Rattle.machine.specs.Steps.{Run, runAt, joinedBy, joinedOf, continuedBy, continuedOf, stepsOf, requestsFit}
 use Rattle.machine.specs.Laws.{IsStop, Does, stops, takes, idles, executes, GoesOn, DataGoesOn, StopsOnly, RunEndsByStop, followedBy, RunIsSteps}
 use Rattle.machine.proofs.StepDoes.{step-does, numbered-stop}
-use Rattle.machine.proofs.Steps.{step-advances, fits-at, next-step}
+use Rattle.machine.proofs.StepByStep.{step-advances, fits-at, next-step}
 use Rattle.machine.proofs.StaysWellFormed.{stays-well-formed}
 
 pub data-goes-on : DataGoesOn

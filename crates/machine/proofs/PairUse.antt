@@ -26,14 +26,16 @@ use Rattle.control.specs.declared.Requested.{Requested}
 use Rattle.control.specs.declared.Requested.the-variants.{Nothing, Taken}
 use Rattle.control.specs.Modes.{modeBeneath}
 use Rattle.control.specs.Stack.{goesOn, popOf}
-use Rattle.control.specs.Transfers.{atOf, inModeOf, thenIn, endsStartUp, returnFromInterruptOf, advanceOf}
+use Rattle.control.specs.Update.{withPc, withMode}
+use Rattle.control.specs.Transfers.{thenIn, endsStartUp, returnFromInterruptOf, advanceOf}
 use Rattle.control.specs.Requests.{requestedOf, takeOf}
 use Rattle.machine.specs.declared.FlagPairs.{FlagPairs}
 use Rattle.machine.specs.declared.Machine.{Machine}
 use Rattle.machine.specs.Pairs.{pairOf, withNmi, withPairOf}
 use Rattle.machine.specs.Execute.{Execution, executeOf}
 use Rattle.machine.specs.State.{viewOf, isWellFormed}
-use Rattle.machine.specs.Step.{Step, doneOf, refusedOf, stoppedOf, afterOf, takenBy, takenOf, completedOf, executedOf, decodedOf, unrequestedOf, respondOf, enabledOf, advancedOf, stepOf}
+use Rattle.machine.specs.Advance.{Step, doneOf, refusedOf, stoppedOf, afterOf, takenBy, takenOf, completedOf, executedOf, decodedOf, uninterruptedOf, respondOf, enabledOf, advancedOf}
+use Rattle.machine.specs.Step.{stepOf}
 use Rattle.machine.specs.Refusals.{TakesNone, AtPc}
 use Rattle.machine.specs.Laws.{executionAt, Does, stops, takes, idles, executes}
 use Rattle.machine.specs.PairUse.{pairNumber, OtherPairsKept, withFlags, Alike, OwnPairRead, FlagsAfterReti, NmiNotNested}
@@ -122,7 +124,7 @@ module _ (image : List ℕ) (m : Machine) (flags : FlagPairs) (same : pairOf fla
   unrequested false = decoded (decodeAt image (m .control .pc))
 
   responded : (r : Requested) → Alike (m .control .mode) (respondOf image m r) (respondOf image (withFlags m flags) r)
-  unfolding respondOf takenOf takenBy unrequestedOf
+  unfolding respondOf takenOf takenBy uninterruptedOf
   responded (Taken source) =
       unless-stopped (takeOf (m .stack) (m .control) source .stop) _ _
       (record { answer = refl; control = refl; stack = refl; bytes = refl; pair = sym same })
@@ -148,12 +150,12 @@ own-pair-read image m request flags same =
 
 -- RETI goes to the mode beneath, and puts back the pair that it was handed
 beneath : (stack : List ℕ) (c : Control) (next : ℕ) → returnFromInterruptOf stack c next .control .mode ≡ modeBeneath (c .mode)
-unfolding returnFromInterruptOf inModeOf
+unfolding returnFromInterruptOf
 beneath stack c next = by-test (endsStartUp c)
   where
     by-test :
         (b : Bool) →
-        cond b (goesOn stack (inModeOf (atOf c next) (modeBeneath (c .mode)))) (thenIn (popOf stack c) (modeBeneath (c .mode))) .control .mode
+        cond b (goesOn stack (withMode (withPc c next) (modeBeneath (c .mode)))) (thenIn (popOf stack c) (modeBeneath (c .mode))) .control .mode
         ≡ modeBeneath (c .mode)
     by-test true = refl
     by-test false = refl

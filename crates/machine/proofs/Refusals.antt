@@ -21,15 +21,18 @@ use Rattle.control.specs.Requests.{takeOf}
 use Rattle.control.proofs.Stopped.{take-stops, call-stops, pop-stops, return-stops}
 use Rattle.machine.specs.declared.Machine.{Machine}
 use Rattle.machine.specs.Execute.{executeOf}
-use Rattle.machine.specs.State.{isWellFormed, inWindow, withByte, HostStore, hostStored, hostStoreOf}
-use Rattle.machine.specs.Step.{Step, refusedOf, stoppedOf, takenBy, takenOf, completedOf, executedOf, decodedOf, unrequestedOf, respondOf, advancedOf, stepOf}
-use Rattle.machine.specs.Run.{Run, refusedRun, requestsFit, stepsOf, runOf}
+use Rattle.data.specs.Space.{inWindow}
+use Rattle.machine.specs.State.{isWellFormed, withByte, HostStore, hostStored, hostStoreOf}
+use Rattle.machine.specs.Advance.{Step, refusedOf, stoppedOf, takenBy, takenOf, completedOf, executedOf, decodedOf, uninterruptedOf, respondOf, advancedOf}
+use Rattle.machine.specs.Step.{stepOf}
+use Rattle.machine.specs.Steps.{Run, requestsFit, stepsOf}
+use Rattle.machine.specs.Run.{refusedRun, runOf}
 use Rattle.machine.specs.Refusals as why
 use Rattle.machine.specs.Refusals.{TakesNone, AtPc, StepStops, StepRefused, DoneIn, StepRefusals, RunRefused, RunRefusals, StoreRefused, StoreRefusals}
 use Rattle.machine.specs.Laws.{executionAt, Does, stops, takes, idles, executes}
 use Rattle.machine.proofs.StepDoes.{step-does, Tested, refuses, passes, step-tested}
-use Rattle.machine.proofs.Steps.{fits-at}
-use Rattle.machine.proofs.Steps as steps
+use Rattle.machine.proofs.StepByStep.{fits-not}
+use Rattle.machine.proofs.StepByStep as steps
 
 -- the two ends of an answer are apart
 not-refused : {P : Type 0} (cycles : ℕ) (r : Numbered) → _≡_ {A = Answer ℕ} (done cycles) (refused r) → P
@@ -41,12 +44,12 @@ module _ (image : List ℕ) (m : Machine) (request : ℕ) where
       TakesNone m request → m .control .asleep ≡ false → (i : Instruction) (bytes cycles : ℕ) → AtPc image m i bytes cycles →
       (s : Stop) (n : ℕ) → ((more : Step) → stoppedOf m s more ≡ refusedOf m (located n (m .control .pc))) →
       executionAt image m i bytes .stop ≡ s → advancedOf image m request ≡ refusedOf m (located n (m .control .pc))
-  unfolding advancedOf respondOf unrequestedOf decodedOf executedOf completedOf
+  unfolding advancedOf respondOf uninterruptedOf decodedOf executedOf completedOf
   instruction-stops none awake i bytes cycles at s n is e =
       ap (respondOf image m) none ∙ sym (steps.awake image m awake) ∙ ap (decodedOf image m) at ∙ rw e (is _)
 
   stop-given : (r : Numbered) → StepStops image m request r → advancedOf image m request ≡ refusedOf m r
-  unfolding advancedOf respondOf takenOf takenBy unrequestedOf decodedOf executeOf advanceOf flowOf
+  unfolding advancedOf respondOf takenOf takenBy uninterruptedOf decodedOf executeOf advanceOf flowOf
   stop-given _ (why.request-full source e six) =
       let full : takeOf (m .stack) (m .control) source .stop ≡ stop.Full = take-stops (m .stack) (m .control) source .stop ∙ rw six in
       ap (respondOf image m) e ∙ rw full
@@ -114,11 +117,6 @@ misfit requests (suc n) e = by-byte (namesOnlySources (getD requests n 0)) refl 
     by-byte false named before = record { k = n; below = omega arith; named = named }
     by-byte true named before =
         let h = before (rw named at e) in record { k = h .k; below = omega (arith, h .below); named = h .named }
-
--- such a byte makes the test fail
-fits-not : (requests : List ℕ) (n k : ℕ) → k < n → namesOnlySources (getD requests k 0) ≡ false → (b : Bool) → requestsFit requests n ≡ b → b ≡ false
-fits-not requests n k h named false e = refl
-fits-not requests n k h named true e = let fits : namesOnlySources (getD requests k 0) ≡ true = fits-at requests n e k h in cc
 
 module _ (image : List ℕ) (m : Machine) (requests : List ℕ) (n : ℕ) where
   run-given : (r : Numbered) → RunRefused image m requests n r → runOf image m requests n ≡ refusedRun m r

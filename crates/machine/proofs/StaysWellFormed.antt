@@ -17,10 +17,12 @@ use Rattle.control.specs.Requests.{takeOf}
 use Rattle.control.proofs.StaysWellFormed.{formed-exactly, stays-formed}
 use Rattle.machine.specs.declared.Machine.{Machine}
 use Rattle.machine.specs.Execute.{jumpsOf, executeOf}
-use Rattle.machine.specs.State.{viewOf, isWellFormed, inWindow, withByte, hostStored, hostStoreOf, resetControl, resetOf}
-use Rattle.machine.specs.Step.{Step, advancedOf, stepOf}
-use Rattle.machine.specs.Step as step
-use Rattle.machine.specs.Run.{Run, joinedBy, continuedBy, stepsOf, requestsFit, refusedRun, runOf}
+use Rattle.data.specs.Space.{inWindow}
+use Rattle.machine.specs.State.{viewOf, isWellFormed, withByte, hostStored, hostStoreOf, resetControl, resetOf}
+use Rattle.machine.specs.Advance.{Step, advancedOf}
+use Rattle.machine.specs.Step.{stepOf}
+use Rattle.machine.specs.Steps.{Run, joinedBy, continuedBy, stepsOf, requestsFit}
+use Rattle.machine.specs.Run.{refusedRun, runOf}
 use Rattle.machine.specs.Laws.{Does, stops, takes, idles, executes, StaysWellFormed}
 use Rattle.machine.proofs.StepDoes.{step-does, Tested, refuses, passes, step-tested}
 

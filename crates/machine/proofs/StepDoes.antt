@@ -31,7 +31,8 @@ use Rattle.control.proofs.Stopped.{take-stops, call-stops, pop-stops, return-st
 use Rattle.machine.specs.declared.Machine.{Machine}
 use Rattle.machine.specs.Execute.{executeOf}
 use Rattle.machine.specs.State.{viewOf, isWellFormed}
-use Rattle.machine.specs.Step.{Step, doneOf, refusedOf, stoppedOf, takenBy, takenOf, completedOf, executedOf, decodedOf, unrequestedOf, respondOf, enabledOf, advancedOf, stepOf}
+use Rattle.machine.specs.Advance.{Step, doneOf, refusedOf, stoppedOf, takenBy, takenOf, completedOf, executedOf, decodedOf, uninterruptedOf, respondOf, enabledOf, advancedOf}
+use Rattle.machine.specs.Step.{stepOf}
 use Rattle.machine.specs.Refusals.{Takes, TakesNone, AtPc, StepStops, request-full, undecoded, call-full, ret-empty, reti-empty, StepRefused, image-length, ill-formed, unknown-source}
 use Rattle.machine.specs.Laws.{IsStop, Does, stops, takes, idles, executes, StepDoes}
 use Rattle.machine.proofs.Stops.{MayStop, is-call, is-ret, is-reti, goes-on, may-stop}
@@ -98,7 +99,7 @@ module _ (image : List ℕ) (m : Machine) (request : ℕ) (formed : isWellFormed
 
   responded :
       (r : Requested) → requestedOf (m .control .mode) (enabledOf (m .bytes)) request ≡ r → Does image m request (respondOf image m r)
-  unfolding respondOf unrequestedOf
+  unfolding respondOf uninterruptedOf
   responded (Taken source) e = taken source e
   responded Nothing e = unrequested e (m .control .asleep) refl
 

@@ -21,9 +21,9 @@ use Rattle.control.proofs.Stopped as control
 use Rattle.machine.specs.declared.Machine.{Machine}
 use Rattle.machine.specs.declared.Executed.{Executed}
 use Rattle.machine.specs.Pairs.{withPairOf}
-use Rattle.machine.specs.Execute.{Execution, executionOf, together, executeOf}
+use Rattle.machine.specs.Execute.{Execution, executionOf, executionBy, executeOf}
 use Rattle.machine.specs.State.{machineOf, viewOf}
-use Rattle.machine.specs.Step.{Step, doneOf, refusedOf, takenBy, completedOf}
+use Rattle.machine.specs.Advance.{Step, doneOf, refusedOf, takenBy, completedOf}
 
 -- it goes on, or data and stack are as they were
 abbrev pub Kept : Data → List ℕ → Execution → Type 0
@@ -72,7 +72,7 @@ may-stop I.Stop = goes-on (λ image d stack c next. refl)
 may-stop I.Wait = goes-on (λ image d stack c next. refl)
 
 module _ (image : List ℕ) (d : Data) (stack : List ℕ) (c : Control) where
-  by-transfer : (t : Transferred) → control.Kept stack t → Kept d stack (together d t)
+  by-transfer : (t : Transferred) → control.Kept stack t → Kept d stack (executionBy d t)
   by-transfer t (inl e) = inl e
   by-transfer t (inr e) = inr (refl, e)
 

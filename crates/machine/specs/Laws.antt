@@ -14,13 +14,15 @@ use Rattle.isa.specs.declared.Instruction.{Instruction}
 use Rattle.isa.specs.declared.Flow.the-variants as flow
 use Rattle.isa.specs.declared.Source.{Source}
 use Rattle.control.specs.declared.Stop.the-variants as stop
-use Rattle.control.specs.Transfers.{atOf}
+use Rattle.control.specs.Update.{withPc}
 use Rattle.control.specs.Requests.{takeOf}
 use Rattle.machine.specs.declared.Machine.{Machine}
 use Rattle.machine.specs.Execute.{Execution, executeOf}
 use Rattle.machine.specs.State.{viewOf, isWellFormed, hostStoreOf, resetOf}
-use Rattle.machine.specs.Step.{Step, doneOf, refusedOf, servedOf, afterOf, executedOf, advancedOf, stepOf}
-use Rattle.machine.specs.Run.{Run, runAt, stepsOf, requestsFit, runOf}
+use Rattle.machine.specs.Advance.{Step, doneOf, refusedOf, servedOf, afterOf, executedOf, advancedOf}
+use Rattle.machine.specs.Step.{stepOf}
+use Rattle.machine.specs.Steps.{Run, runAt, stepsOf, requestsFit}
+use Rattle.machine.specs.Run.{runOf}
 use Rattle.machine.specs.Refusals.{Takes, TakesNone, AtPc, StepStops}
 
 -- what executing an instruction at PC does
@@ -56,7 +58,7 @@ StepDoes =
 
 -- a data instruction, whose flow is the next address, moves PC there, and leaves stack, mode, levels and sleep
 pub record GoesOn (image : List ℕ) (m : Machine) (i : Instruction) (bytes cycles : ℕ) : Type 0 where
-  pub control : executedOf image m i bytes cycles .machine .control ≡ atOf (m .control) (forwardOf (m .control .pc) bytes)
+  pub control : executedOf image m i bytes cycles .machine .control ≡ withPc (m .control) (forwardOf (m .control .pc) bytes)
   pub stack : executedOf image m i bytes cycles .machine .stack ≡ m .stack
   pub answer : executedOf image m i bytes cycles .answer ≡ done cycles
 

@@ -1,7 +1,9 @@
 pub mod Pairs
 pub mod Execute
 pub mod State
+pub mod Advance
 pub mod Step
+pub mod Steps
 pub mod Run
 pub mod Refusals
 pub mod Laws

@@ -13,7 +13,8 @@ use Rattle.machine.specs.declared.FlagPairs.{FlagPairs}
 use Rattle.machine.specs.declared.Machine.{Machine}
 use Rattle.machine.specs.Pairs.{pairOf}
 use Rattle.machine.specs.State.{machineOf}
-use Rattle.machine.specs.Step.{Step, doneOf, stepOf}
+use Rattle.machine.specs.Advance.{Step, doneOf}
+use Rattle.machine.specs.Step.{stepOf}
 use Rattle.machine.specs.Refusals.{TakesNone, AtPc}
 
 -- the three pairs, and which one a mode has in use

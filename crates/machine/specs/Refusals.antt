@@ -18,8 +18,10 @@ use Rattle.control.specs.Modes.{isReset}
 use Rattle.control.specs.Requests.{requestedOf}
 use Rattle.machine.specs.declared.Machine.{Machine}
 use Rattle.machine.specs.State.{isWellFormed, withByte, hostStored, hostStoreOf}
-use Rattle.machine.specs.Step.{Step, refusedOf, enabledOf, stepOf}
-use Rattle.machine.specs.Run.{refusedRun, stepsOf, runOf}
+use Rattle.machine.specs.Advance.{Step, refusedOf, enabledOf}
+use Rattle.machine.specs.Step.{stepOf}
+use Rattle.machine.specs.Steps.{stepsOf}
+use Rattle.machine.specs.Run.{refusedRun, runOf}
 
 -- the request that a step takes
 abbrev pub Takes : Machine → (request : ℕ) → Source → Type 0

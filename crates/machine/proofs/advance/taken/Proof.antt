@@ -1,7 +1,7 @@
 -- `advance::taken` meets its contract.
 use borrow.Author.Needs.{needs}
 use Rattle.control.proofs.Stopped.{take-stops}
-use Rattle.machine.specs.Step.{takenOf}
+use Rattle.machine.specs.Advance.{takenOf}
 use Rattle.machine.proofs.Stops.{taken-done, taken-full, taken-empty}
 use Rattle.machine.proofs.advance.taken.Statement.{statement}
 use Rattle.machine.proofs.advance.taken.Tie as tie

@@ -4,7 +4,7 @@ use mathlib.Core.Path.{sym, _∙_}
 use native.Mathlib.Omega.{arith}
 use borrow.Author.Tests.{not-true, not-false}
 use Rattle.machine.specs.Step.{stepOf}
-use Rattle.machine.proofs.Steps.{fit-one, one-step}
+use Rattle.machine.proofs.StepByStep.{fit-one, one-step}
 use Rattle.machine.proofs.step.step.Statement.{statement}
 use Rattle.machine.proofs.step.step.Tie as tie
 

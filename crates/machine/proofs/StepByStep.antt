@@ -14,9 +14,9 @@ use Rattle.isa.specs.Rom.{isImage}
 use Rattle.isa.specs.Decode.{decodeAt}
 use Rattle.machine.specs.declared.Machine.{Machine}
 use Rattle.machine.specs.State.{isWellFormed}
-use Rattle.machine.specs.Step.{Step, doneOf, refusedOf, decodedOf, unrequestedOf, advancedOf, stepOf}
-use Rattle.machine.specs.Step as step
-use Rattle.machine.specs.Run.{Run, runAt, asAnswer, joinedBy, continuedOf, stepsOf, requestsFit}
+use Rattle.machine.specs.Advance.{Step, doneOf, refusedOf, decodedOf, uninterruptedOf, advancedOf}
+use Rattle.machine.specs.Step.{stepOf}
+use Rattle.machine.specs.Steps.{Run, runAt, asAnswer, joinedBy, continuedOf, stepsOf, requestsFit}
 
 -- a step that is not refused
 pub step-advances : (image : List ℕ) (m : Machine) (request : ℕ) → isImage (length image) ≡ true → isWellFormed m ≡ true → namesOnlySources request ≡ true → stepOf image m request ≡ advancedOf image m request
@@ -34,6 +34,13 @@ fits-at requests zero e k h = absurd (omega arith)
 fits-at requests (suc n) e k h =
     let p : (namesOnlySources (getD requests n 0) ≡ true) × (requestsFit requests n ≡ true) = both (namesOnlySources (getD requests n 0)) (requestsFit requests n) e in
     below-more (λ j. namesOnlySources (getD requests j 0) ≡ true) n (fits-at requests n (p .1)) (p .0) k (omega arith)
+
+-- a byte that does not makes the test fail
+pub fits-not :
+    (requests : List ℕ) (n k : ℕ) → k < n → namesOnlySources (getD requests k 0) ≡ false →
+    (b : Bool) → requestsFit requests n ≡ b → b ≡ false
+fits-not requests n k h named false e = refl
+fits-not requests n k h named true e = let fits : namesOnlySources (getD requests k 0) ≡ true = fits-at requests n e k h in cc
 
 -- past the list's end there is nothing that does not fit
 past-end : (requests : List ℕ) (d : ℕ) → requestsFit requests (d + length requests) ≡ requestsFit requests (length requests)
@@ -54,12 +61,12 @@ stepped image requests m n i request s v w f h e a =
     a ∙ ap (advancedOf image m) e ∙ sym (step-advances image m (getD requests i 0) v w (fits-at requests n f i h))
 
 -- asleep with nothing to take, and awake
-pub idle : (image : List ℕ) (m : Machine) → m .control .asleep ≡ true → doneOf m 0 ≡ unrequestedOf image m
-unfolding unrequestedOf
+pub idle : (image : List ℕ) (m : Machine) → m .control .asleep ≡ true → doneOf m 0 ≡ uninterruptedOf image m
+unfolding uninterruptedOf
 idle image m e = rw e
 
-pub awake : (image : List ℕ) (m : Machine) → m .control .asleep ≡ false → decodedOf image m (decodeAt image (m .control .pc)) ≡ unrequestedOf image m
-unfolding unrequestedOf
+pub awake : (image : List ℕ) (m : Machine) → m .control .asleep ≡ false → decodedOf image m (decodeAt image (m .control .pc)) ≡ uninterruptedOf image m
+unfolding uninterruptedOf
 awake image m e = rw e
 
 -- a run that has ended stays as it is
