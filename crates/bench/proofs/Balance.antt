@@ -11,7 +11,8 @@ use Rattle.isa.specs.Sources.{namesOnlySources}
 use Rattle.control.specs.declared.Mode.{Mode}
 use Rattle.machine.specs.declared.Machine.{Machine}
 use Rattle.machine.specs.State as state
-use Rattle.machine.specs.State.{HostStore, withByte, inWindow, hostStoreOf, resetOf}
+use Rattle.data.specs.Space.{inWindow}
+use Rattle.machine.specs.State.{HostStore, withByte, hostStoreOf, resetOf}
 use Rattle.machine.specs.Step as stepping
 use Rattle.machine.specs.Step.{stepOf}
 use Rattle.machine.specs.Run.{Run, refusedRun, joinedBy, continuedBy, stepsOf, requestsFit, runOf}

@@ -12,7 +12,8 @@ use Rattle.isa.specs.Sources.{namesOnlySources}
 use Rattle.isa.specs.declared.Source.the-variants.{Nmi, First, Second, Third, Fourth}
 use Rattle.machine.specs.declared.Machine.{Machine}
 use Rattle.machine.specs.State as state
-use Rattle.machine.specs.State.{HostStore, withByte, inWindow, hostStoreOf, resetOf}
+use Rattle.data.specs.Space.{inWindow}
+use Rattle.machine.specs.State.{HostStore, withByte, hostStoreOf, resetOf}
 use Rattle.machine.specs.Step.{Step, stepOf}
 use Rattle.machine.specs.Run.{Run, refusedRun, stepsOf, requestsFit, runOf}
 use Rattle.machine.proofs.StepByStep.{fits-at}

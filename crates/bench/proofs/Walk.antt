@@ -22,13 +22,13 @@ use Rattle.control.specs.declared.Requested.{Requested}
 use Rattle.control.specs.declared.Requested.the-variants.{Nothing, Taken}
 use Rattle.control.specs.declared.Stop.the-variants as stop
 use Rattle.control.specs.Stack.{Transferred, inUse, isFull, pushOf, popOf}
-use Rattle.control.specs.Transfers.{atOf, inModeOf, sleptOf, callOf, returnFromInterruptOf, advanceOf}
+use Rattle.control.specs.Transfers.{sleptOf, callOf, returnFromInterruptOf, advanceOf}
 use Rattle.control.specs.Requests.{requestedOf, servingOf, takeOf}
 use Rattle.data.specs.Effect.{Data, effectOf}
 use Rattle.machine.specs.declared.Machine.{Machine}
-use Rattle.machine.specs.Execute.{together, jumpsOf, executeOf}
+use Rattle.machine.specs.Execute.{executionBy, jumpsOf, executeOf}
 use Rattle.machine.specs.State.{viewOf}
-use Rattle.machine.specs.Step.{Step, doneOf, takenBy, takenOf, completedOf, executedOf, decodedOf, unrequestedOf, respondOf, enabledOf, advancedOf}
+use Rattle.machine.specs.Step.{Step, doneOf, takenBy, takenOf, completedOf, executedOf, decodedOf, uninterruptedOf, respondOf, enabledOf, advancedOf}
 use Rattle.certificate.specs.Marks.{kindAt}
 use Rattle.certificate.specs.Rules.{Continues, EndsStartUp, FlowRule, Runs, Rules}
 use Rattle.bench.specs.Calls.{AsksOnly}
@@ -84,7 +84,7 @@ module _ (image certificate : List ℕ) (wired number : ℕ) (ok : Rules image c
   call : (slots : List ℕ) (c : Control) (to next : ℕ) → Framed certificate wired slots c
       → Moves certificate wired called (c .mode) (c .pc) (inUse (c .levels) slots) (c .mode) to (next ∷ inUse (c .levels) slots)
       → Goes certificate wired called slots c (callOf slots c to next)
-  unfolding callOf pushOf atOf
+  unfolding callOf pushOf
   call slots c to next g move =
       let r = room slots c next g move in
       rw (r .not-full) (record { no-stop = refl; six = r .six; moves = rw (r .on-top) move })
@@ -112,7 +112,7 @@ module _ (image certificate : List ℕ) (wired number : ℕ) (ok : Rules image c
     -- of a service
     leave : (n : ℕ) (mode : Mode) (next : ℕ) → kindAt certificate pc ≡ 3 → Framed certificate wired slots (controlAt pc n mode asleep)
         → AfterReti (controlAt pc n mode asleep) next
-    unfolding returnFromInterruptOf inModeOf flowDeed
+    unfolding returnFromInterruptOf flowDeed
     leave zero mode next k g = absurd (reti-empty (g .frames) k)
     leave (suc n) mode next k g =
         rw (eqb·suc-zero n, pop-is slots pc n mode asleep) (record { no-stop = refl; six = g .six; moves = moves.leaves k })
@@ -120,7 +120,7 @@ module _ (image certificate : List ℕ) (wired number : ℕ) (ok : Rules image c
     -- of start-up code
     begin : (n : ℕ) (mode : Mode) (next : ℕ) → EndsStartUp certificate pc next → Framed certificate wired slots (controlAt pc n mode asleep)
         → AfterReti (controlAt pc n mode asleep) next
-    unfolding returnFromInterruptOf inModeOf atOf flowDeed
+    unfolding returnFromInterruptOf flowDeed
     begin zero Reset next e g = record { no-stop = refl; six = g .six; moves = moves.begins e }
     begin (suc n) Reset next e g = absurd (at-start (g .frames) (e .kind))
     begin n Normal next e g = absurd (at-start (g .frames) (e .kind))
@@ -135,7 +135,7 @@ module _ (image certificate : List ℕ) (wired number : ℕ) (ok : Rules image c
   -- an instruction that obeys its rule
   obey : (slots : List ℕ) (c : Control) (f : Flow) (jumps : Bool) (next : ℕ) → FlowRule certificate (c .pc) f next → Framed certificate wired slots c
       → Goes certificate wired (flowDeed c f) slots c (advanceOf slots c f jumps next)
-  unfolding advanceOf atOf sleptOf flowDeed
+  unfolding advanceOf sleptOf flowDeed
   obey slots c flow.Next jumps next r g = record { no-stop = refl; six = g .six; moves = moves.continues r }
   obey slots c (flow.Jump to) jumps next r g = record { no-stop = refl; six = g .six; moves = moves.continues r }
   obey slots c (flow.Branch condition to) jumps next r g =
@@ -149,7 +149,7 @@ module _ (image certificate : List ℕ) (wired number : ℕ) (ok : Rules image c
   module _ (m : Machine) where
     -- the step of an instruction or of a request, whatever happens to data
     completed : (cycles : ℕ) (d : Deed) (e : Data) (t : Transferred) → Goes certificate wired d (m .stack) (m .control) t
-        → Advances certificate wired d m (completedOf m cycles (together e t))
+        → Advances certificate wired d m (completedOf m cycles (executionBy e t))
     unfolding completedOf
     completed cycles d e t g = rw (g .no-stop) (record { done = record { cycles = cycles; answer = refl }; six = g .six; moves = g .moves })
 
@@ -178,7 +178,7 @@ module _ (image certificate : List ℕ) (wired number : ℕ) (ok : Rules image c
 
     respond : (r : Requested) → IfTaken (Allowed certificate wired (m .control .mode)) r
         → Advances certificate wired (respondDeed image (m .control) r) m (respondOf image m r)
-    unfolding respondOf respondDeed unrequestedOf unrequestedDeed takenOf
+    unfolding respondOf respondDeed uninterruptedOf unrequestedDeed takenOf
     respond (Taken source) a = served m (took source) (takeOf (m .stack) (m .control) source) (take (m .stack) (m .control) source a g)
     respond Nothing a = unrequested (m .control .asleep)
 
