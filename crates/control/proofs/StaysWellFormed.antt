@@ -20,7 +20,15 @@ use Rattle.control.specs.declared.Stop.the-variants as stop
 use Rattle.control.specs.Update.{withPc, withLevels, withMode}
 use Rattle.control.specs.Modes.{modeBeneath}
 use Rattle.control.specs.Stack.{Transferred, goesOn, stops, isFull, pushOf, popOf}
-use Rattle.control.specs.Transfers.{sleptOf, branchOf, thenIn, callOf, endsStartUp, returnFromInterruptOf, advanceOf}
+use Rattle.control.specs.Transfers.{
+  sleptOf,
+  branchOf,
+  thenIn,
+  callOf,
+  endsStartUp,
+  returnFromInterruptOf,
+  advanceOf,
+}
 use Rattle.control.specs.Requests.{servingOf, takeOf}
 use Rattle.control.specs.WellFormed.{addressesFit, wellFormed, Formed, FormedExactly, FormedAfter, StaysFormed}
 
@@ -43,7 +51,8 @@ below-addresses stack (suc n) all =
     rw (lt-ltb (getD stack n 0) 0x1000 (all n (omega arith))) (below-addresses stack n (λ k h. all k (omega arith)))
 
 -- an address in use that does not fit makes the test fail
-pub unfit : (stack : List ℕ) (n k : ℕ) → k < n → 0x1000 ≤ getD stack k 0 → (b : Bool) → addressesFit stack n ≡ b → b ≡ false
+pub unfit :
+    (stack : List ℕ) (n k : ℕ) → k < n → 0x1000 ≤ getD stack k 0 → (b : Bool) → addressesFit stack n ≡ b → b ≡ false
 unfit stack n k h high false e = refl
 unfit stack n k h high true e = absurd (omega (arith, addresses-below stack n e k h))
 
@@ -73,7 +82,9 @@ elsewhere : (stack : List ℕ) (c d : Control) → Formed stack c → d .pc < 0x
 elsewhere stack c d f h e = record { pc = h; levels = rw e (f .levels); addresses = rw e (f .addresses) }
 
 module _ (stack : List ℕ) (c : Control) (formed : Formed stack c) where
-  pushed : (address : ℕ) → address < 0x1000 → (b : Bool) → isFull c ≡ b → FormedAfter (cond b (stops stack c stop.Full) (goesOn (set stack (c .levels) address) (withLevels c (c .levels + 1))))
+  pushed :
+      (address : ℕ) → address < 0x1000 → (b : Bool) → isFull c ≡ b →
+      FormedAfter (cond b (stops stack c stop.Full) (goesOn (set stack (c .levels) address) (withLevels c (c .levels + 1))))
   pushed address h true e = formed
   pushed address h false e =
       let room : c .levels < 6 = leb-false 6 (c .levels) e in
@@ -85,7 +96,9 @@ module _ (stack : List ℕ) (c : Control) (formed : Formed stack c) where
             (stored-below stack (c .levels) address h);
       }
 
-  popped : (b : Bool) → eqb (c .levels) 0 ≡ b → FormedAfter (cond b (stops stack c stop.Empty) (goesOn stack (withLevels (withPc c (getD stack (c .levels - 1) 0)) (c .levels - 1))))
+  popped :
+      (b : Bool) → eqb (c .levels) 0 ≡ b →
+      FormedAfter (cond b (stops stack c stop.Empty) (goesOn stack (withLevels (withPc c (getD stack (c .levels - 1) 0)) (c .levels - 1))))
   popped true e = formed
   popped false e =
       let some : c .levels ≡ 0 → ⊥ = eqb-false (c .levels) 0 e in
@@ -95,7 +108,9 @@ module _ (stack : List ℕ) (c : Control) (formed : Formed stack c) where
         addresses = λ k h. formed .addresses k (omega arith);
       }
 
-  returned : (next : ℕ) → next < 0x1000 → (b : Bool) → FormedAfter (cond b (goesOn stack (withMode (withPc c next) (modeBeneath (c .mode)))) (thenIn (popOf stack c) (modeBeneath (c .mode))))
+  returned :
+      (next : ℕ) → next < 0x1000 → (b : Bool) →
+      FormedAfter (cond b (goesOn stack (withMode (withPc c next) (modeBeneath (c .mode)))) (thenIn (popOf stack c) (modeBeneath (c .mode))))
   unfolding popOf
   returned next h true = elsewhere stack c _ formed h refl
   returned next h false =
@@ -106,7 +121,9 @@ module _ (stack : List ℕ) (c : Control) (formed : Formed stack c) where
   branched to next ht hn true = elsewhere stack c _ formed ht refl
   branched to next ht hn false = elsewhere stack c _ formed hn refl
 
-  by-flow : (f : Flow) → InRange f → (jumps : Bool) (next : ℕ) → next < 0x1000 → FormedAfter (advanceOf stack c f jumps next)
+  by-flow :
+      (f : Flow) → InRange f → (jumps : Bool) (next : ℕ) → next < 0x1000 →
+      FormedAfter (advanceOf stack c f jumps next)
   unfolding advanceOf callOf pushOf popOf returnFromInterruptOf sleptOf
   by-flow flow.Next r jumps next h = elsewhere stack c _ formed h refl
   by-flow (flow.Jump to) r jumps next h = elsewhere stack c _ formed r refl

@@ -25,7 +25,9 @@ pub record StopsWhere (test : Bool) (s : Stop) (stack : List ℕ) (t : Transferr
   pub kept : Kept stack t
 
 module _ (stack : List ℕ) (c : Control) where
-  by-test : (test : Bool) (s : Stop) (more : Transferred) → more .stop ≡ stop.None → StopsWhere test s stack (cond test (stops stack c s) more)
+  by-test :
+      (test : Bool) (s : Stop) (more : Transferred) → more .stop ≡ stop.None →
+      StopsWhere test s stack (cond test (stops stack c s) more)
   by-test true s more e = record { stop = refl; kept = inr refl }
   by-test false s more e = record { stop = e; kept = inl e }
 
@@ -45,7 +47,9 @@ module _ (stack : List ℕ) (c : Control) where
   unfolding popOf
   pop-stops = by-test (eqb (c .levels) 0) stop.Empty _ refl
 
-  pub return-stops : (next : ℕ) → StopsWhere (not (endsStartUp c) && eqb (c .levels) 0) stop.Empty stack (returnFromInterruptOf stack c next)
+  pub return-stops :
+      (next : ℕ) →
+      StopsWhere (not (endsStartUp c) && eqb (c .levels) 0) stop.Empty stack (returnFromInterruptOf stack c next)
   unfolding returnFromInterruptOf
   return-stops next = by-start-up (endsStartUp c)
     where

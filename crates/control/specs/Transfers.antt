@@ -34,15 +34,15 @@ callOf stack c to next = thenAt (pushOf stack c next) to
 abbrev pub endsStartUp : Control → Bool
 endsStartUp c = eqb (c .levels) 0 && isReset (c .mode)
 
--- "RETI pops PC and returns to the mode beneath [..]; in reset mode with an empty stack it pops nothing and goes on at the next
--- address."
+-- "RETI pops PC and returns to the mode beneath [..]; in reset mode with an empty stack it pops nothing and goes on
+-- at the next address."
 unfoldable pub returnFromInterruptOf : List ℕ → Control → (next : ℕ) → Transferred
 returnFromInterruptOf stack c next =
     cond (endsStartUp c) (goesOn stack (withMode (withPc c next) (modeBeneath (c .mode))))
     (thenIn (popOf stack c) (modeBeneath (c .mode)))
 
--- control and stack after an instruction of this flow; `jumps` says whether a branch's condition holds, `next` is the next
--- address
+-- control and stack after an instruction of this flow; `jumps` says whether a branch's condition holds, `next` is the
+-- next address
 unfoldable pub advanceOf : List ℕ → Control → Flow → (jumps : Bool) → (next : ℕ) → Transferred
 advanceOf stack c flow.Next jumps next = goesOn stack (withPc c next)
 advanceOf stack c (flow.Jump to) jumps next = goesOn stack (withPc c to)

@@ -40,7 +40,8 @@ FormedAfter t = Formed (t .stack) (t .control)
 -- proved by stays-formed, proofs/StaysWellFormed
 pub record StaysFormed : Type 0 where
   pub by-flow :
-      (stack : List ℕ) (c : Control) → Formed stack c → (f : Flow) → InRange f → (jumps : Bool) (next : ℕ) → next < 0x1000 →
+      (stack : List ℕ) (c : Control) → Formed stack c → (f : Flow) → InRange f → (jumps : Bool) (next : ℕ) →
+      next < 0x1000 →
       FormedAfter (advanceOf stack c f jumps next)
   pub by-request :
       (stack : List ℕ) (c : Control) → Formed stack c → (s : Source) → FormedAfter (takeOf stack c s)

@@ -1,13 +1,57 @@
--- What each instruction does to data space and to the flag pair in use (the manual's instruction pages; document 01, "Flags by the manual").
+-- What each instruction does to data space and to the flag pair in use (the manual's instruction pages; document 01,
+-- "Flags by the manual").
 use Prim.Native.Nat.{ℕ}
 use mathlib.Core.Bool.{Bool, true, false}
 use mathlib.Core.List.{List}
 use lib.ListN.{getD}
 use Rattle.alu.specs.declared.Flags.{Flags}
 use Rattle.alu.specs.declared.Outcome.{Outcome}
-use Rattle.alu.specs.Alu.{resultOf, addedOf, subtractedOf, andedOf, complementedOf, rotatedOf, incrementedOf, decrementedOf, bitOf, withBitOf, withoutBitOf}
+use Rattle.alu.specs.Alu.{
+  resultOf,
+  addedOf,
+  subtractedOf,
+  andedOf,
+  complementedOf,
+  rotatedOf,
+  incrementedOf,
+  decrementedOf,
+  bitOf,
+  withBitOf,
+  withoutBitOf,
+}
 use Rattle.isa.specs.declared.Instruction.{Instruction}
-use Rattle.isa.specs.declared.Instruction.the-variants.{Jrnz, Jrnc, Jrz, Jrc, Call, Jp, Jrr, Jrs, Res, Set, LoadA, StoreA, LoadAImmediate, LoadImmediate, Inc, Dec, Add, AddImmediate, Sub, SubImmediate, And, AndImmediate, Cp, CpImmediate, Com, Rlc, Ret, Reti, Stop, Wait}
+use Rattle.isa.specs.declared.Instruction.the-variants.{
+  Jrnz,
+  Jrnc,
+  Jrz,
+  Jrc,
+  Call,
+  Jp,
+  Jrr,
+  Jrs,
+  Res,
+  Set,
+  LoadA,
+  StoreA,
+  LoadAImmediate,
+  LoadImmediate,
+  Inc,
+  Dec,
+  Add,
+  AddImmediate,
+  Sub,
+  SubImmediate,
+  And,
+  AndImmediate,
+  Cp,
+  CpImmediate,
+  Com,
+  Rlc,
+  Ret,
+  Reti,
+  Stop,
+  Wait,
+}
 use Rattle.data.specs.Space.{readOf, storeOf, addressOf, operandOf}
 
 -- what an instruction sees of the machine: the data bytes, and the flag pair in use

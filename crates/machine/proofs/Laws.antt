@@ -23,7 +23,20 @@ use Rattle.machine.specs.State.{isWellFormed}
 use Rattle.machine.specs.Advance.{Step, doneOf, refusedOf, completedOf, executedOf, advancedOf}
 use Rattle.machine.specs.Step.{stepOf}
 use Rattle.machine.specs.Steps.{Run, runAt, joinedBy, joinedOf, continuedBy, continuedOf, stepsOf, requestsFit}
-use Rattle.machine.specs.Laws.{IsStop, Does, stops, takes, idles, executes, GoesOn, DataGoesOn, StopsOnly, RunEndsByStop, followedBy, RunIsSteps}
+use Rattle.machine.specs.Laws.{
+  IsStop,
+  Does,
+  stops,
+  takes,
+  idles,
+  executes,
+  GoesOn,
+  DataGoesOn,
+  StopsOnly,
+  RunEndsByStop,
+  followedBy,
+  RunIsSteps,
+}
 use Rattle.machine.proofs.StepDoes.{step-does, numbered-stop}
 use Rattle.machine.proofs.StepByStep.{step-advances, fits-at, next-step}
 use Rattle.machine.proofs.StaysWellFormed.{stays-well-formed}
@@ -34,18 +47,24 @@ data-goes-on image m i bytes cycles e = record { control = rw e; stack = rw e; a
 
 -- a run that has not ended is at a step that is not refused
 module _ (image : List ℕ) (all : Bytes image) (size : isImage (length image) ≡ true) (requests : List ℕ) (m : Machine) (formed : isWellFormed m ≡ true) where
-  stopped : (n : Machine) (request : ℕ) → isWellFormed n ≡ true → (s : Step) → Does image n request s → (r : Run) → StopsOnly (joinedOf r s .report .ending)
+  stopped :
+      (n : Machine) (request : ℕ) → isWellFormed n ≡ true → (s : Step) → Does image n request s → (r : Run) →
+      StopsOnly (joinedOf r s .report .ending)
   stopped n request w _ (stops reason why) r = numbered-stop image n request size w reason why
   stopped n request w _ (takes source e none) r = tt
   stopped n request w _ (idles none asleep) r = tt
   stopped n request w _ (executes i bytes cycles none awake at goes) r = tt
 
-  continued : (r : Run) (request : ℕ) → isWellFormed (r .machine) ≡ true → namesOnlySources request ≡ true → (e : Ended) → r .report .ending ≡ e → StopsOnly e → StopsOnly (continuedBy image r request e .report .ending)
+  continued :
+      (r : Run) (request : ℕ) → isWellFormed (r .machine) ≡ true → namesOnlySources request ≡ true → (e : Ended) →
+      r .report .ending ≡ e → StopsOnly e → StopsOnly (continuedBy image r request e .report .ending)
   continued r request w fits (done tt) is f =
       rw (step-advances image (r .machine) request size w fits) (stopped (r .machine) request w _ (step-does image (r .machine) request size w) r)
   continued r request w fits (refused reason) is f = rw is f
 
-  ends : (n : ℕ) → requestsFit requests n ≡ true → (k : ℕ) → k ≤ n → StopsOnly (stepsOf image requests m k .report .ending)
+  ends :
+      (n : ℕ) → requestsFit requests n ≡ true → (k : ℕ) → k ≤ n →
+      StopsOnly (stepsOf image requests m k .report .ending)
   unfolding stepsOf
   ends n fit zero h = tt
   ends n fit (suc k) h =
@@ -60,7 +79,9 @@ run-is : (r : Run) → r .report .ending ≡ done tt → followedBy r (runAt (r 
 run-is r e = rw (add-zero (r .report .steps), add-zero (r .report .cycles), e)
 
 -- going on after the second of two runs
-followed-on : (image : List ℕ) (r s : Run) (request : ℕ) (e : Ended) → s .report .ending ≡ e → continuedBy image (followedBy r s) request e ≡ followedBy r (continuedBy image s request e)
+followed-on :
+    (image : List ℕ) (r s : Run) (request : ℕ) (e : Ended) → s .report .ending ≡ e →
+    continuedBy image (followedBy r s) request e ≡ followedBy r (continuedBy image s request e)
 followed-on image r s request (done tt) e = by-answer (stepOf image (s .machine) request .machine) (stepOf image (s .machine) request .answer)
   where
     by-answer : (n : Machine) (a : Answer ℕ) → joinedBy (followedBy r s) n a ≡ followedBy r (joinedBy s n a)
@@ -70,7 +91,9 @@ followed-on image r s request (done tt) e = by-answer (stepOf image (s .machine)
 followed-on image r s request (refused reason) e = refl
 
 module _ (image requests : List ℕ) (m : Machine) (n : ℕ) (completes : stepsOf image requests m n .report .ending ≡ done tt) where
-  more : (k : ℕ) → stepsOf image requests m (n + k) ≡ followedBy (stepsOf image requests m n) (stepsOf image (drop n requests) (stepsOf image requests m n .machine) k)
+  more :
+      (k : ℕ) →
+      stepsOf image requests m (n + k) ≡ followedBy (stepsOf image requests m n) (stepsOf image (drop n requests) (stepsOf image requests m n .machine) k)
   unfolding stepsOf
   more zero = rw (add-zero n) (sym (run-is (stepsOf image requests m n) completes))
   more (suc k) =

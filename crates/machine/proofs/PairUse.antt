@@ -34,11 +34,34 @@ use Rattle.machine.specs.declared.Machine.{Machine}
 use Rattle.machine.specs.Pairs.{pairOf, withNmi, withPairOf}
 use Rattle.machine.specs.Execute.{Execution, executeOf}
 use Rattle.machine.specs.State.{viewOf, isWellFormed}
-use Rattle.machine.specs.Advance.{Step, doneOf, refusedOf, stoppedOf, afterOf, takenBy, takenOf, completedOf, executedOf, decodedOf, uninterruptedOf, respondOf, enabledOf, advancedOf}
+use Rattle.machine.specs.Advance.{
+  Step,
+  doneOf,
+  refusedOf,
+  stoppedOf,
+  afterOf,
+  takenBy,
+  takenOf,
+  completedOf,
+  executedOf,
+  decodedOf,
+  uninterruptedOf,
+  respondOf,
+  enabledOf,
+  advancedOf,
+}
 use Rattle.machine.specs.Step.{stepOf}
 use Rattle.machine.specs.Refusals.{TakesNone, AtPc}
 use Rattle.machine.specs.Laws.{executionAt, Does, stops, takes, idles, executes}
-use Rattle.machine.specs.PairUse.{pairNumber, OtherPairsKept, withFlags, Alike, OwnPairRead, FlagsAfterReti, NmiNotNested}
+use Rattle.machine.specs.PairUse.{
+  pairNumber,
+  OtherPairsKept,
+  withFlags,
+  Alike,
+  OwnPairRead,
+  FlagsAfterReti,
+  NmiNotNested,
+}
 use Rattle.machine.proofs.StepDoes.{step-does, Tested, refuses, passes, step-tested}
 
 -- a pair that was stored is that of the mode alone
@@ -49,7 +72,8 @@ other-than-nmi p f Reset n = absurd (n refl)
 other-than-nmi p f NmiOverNormal n = absurd (n refl)
 other-than-nmi p f NmiOverInterrupt n = absurd (n refl)
 
-other-pair : (p : FlagPairs) (f : Flags) (a b : Mode) → pairNumber a ≢ pairNumber b → pairOf (withPairOf p a f) b ≡ pairOf p b
+other-pair :
+    (p : FlagPairs) (f : Flags) (a b : Mode) → pairNumber a ≢ pairNumber b → pairOf (withPairOf p a f) b ≡ pairOf p b
 other-pair p f Normal Normal n = absurd (n refl)
 other-pair p f Normal Interrupt n = refl
 other-pair p f Normal Reset n = refl
@@ -79,7 +103,9 @@ pub other-pairs-kept : OtherPairsKept
 other-pairs-kept image m request mode apart = by-test image m request mode apart _ (step-tested image m request)
 
 -- the pair of the mode is the one that was stored
-own-pair : (p q : FlagPairs) (f : Flags) (mode : Mode) → pairOf (withPairOf p mode f) mode ≡ pairOf (withPairOf q mode f) mode
+own-pair :
+    (p q : FlagPairs) (f : Flags) (mode : Mode) →
+    pairOf (withPairOf p mode f) mode ≡ pairOf (withPairOf q mode f) mode
 own-pair p q f Normal = refl
 own-pair p q f Interrupt = refl
 own-pair p q f Reset = refl
@@ -87,7 +113,9 @@ own-pair p q f NmiOverNormal = refl
 own-pair p q f NmiOverInterrupt = refl
 
 module _ (image : List ℕ) (m : Machine) (flags : FlagPairs) (same : pairOf flags (m .control .mode) ≡ pairOf (m .flags) (m .control .mode)) where
-  unmoved : (a : Answer ℕ) → Alike (m .control .mode) (record { machine = m; answer = a }) (record { machine = withFlags m flags; answer = a })
+  unmoved :
+      (a : Answer ℕ) →
+      Alike (m .control .mode) (record { machine = m; answer = a }) (record { machine = withFlags m flags; answer = a })
   unmoved a = record { answer = refl; control = refl; stack = refl; bytes = refl; pair = sym same }
 
   unless-stopped :
@@ -98,7 +126,9 @@ module _ (image : List ℕ) (m : Machine) (flags : FlagPairs) (same : pairOf fla
   unless-stopped stop.Empty a b h = unmoved _
 
   -- an instruction sees the same of data in both machines
-  decoded : (a : Answer decode.Decoding) → Alike (m .control .mode) (decodedOf image m a) (decodedOf image (withFlags m flags) a)
+  decoded :
+      (a : Answer decode.Decoding) →
+      Alike (m .control .mode) (decodedOf image m a) (decodedOf image (withFlags m flags) a)
   unfolding decodedOf executedOf completedOf
   decoded (done (decode.instruction i bytes cycles)) =
       let next : ℕ = forwardOf (m .control .pc) bytes in
@@ -149,7 +179,9 @@ own-pair-read image m request flags same =
     tested image m flags same (isImage (length image)) (isWellFormed m) (namesOnlySources request) request
 
 -- RETI goes to the mode beneath, and puts back the pair that it was handed
-beneath : (stack : List ℕ) (c : Control) (next : ℕ) → returnFromInterruptOf stack c next .control .mode ≡ modeBeneath (c .mode)
+beneath :
+    (stack : List ℕ) (c : Control) (next : ℕ) →
+    returnFromInterruptOf stack c next .control .mode ≡ modeBeneath (c .mode)
 unfolding returnFromInterruptOf
 beneath stack c next = by-test (endsStartUp c)
   where
@@ -200,7 +232,9 @@ and-false : (b : Bool) → (b && false) ≡ false
 and-false true = refl
 and-false false = refl
 
-nothing-taken : (mode : Mode) → (mode ≡ NmiOverNormal) ⊎ (mode ≡ NmiOverInterrupt) → (enabled : Bool) (request : ℕ) → requestedOf mode enabled request ≡ Nothing
+nothing-taken :
+    (mode : Mode) → (mode ≡ NmiOverNormal) ⊎ (mode ≡ NmiOverInterrupt) → (enabled : Bool) (request : ℕ) →
+    requestedOf mode enabled request ≡ Nothing
 unfolding requestedOf
 nothing-taken mode (inl e) enabled request = rw e (simp and-false)
 nothing-taken mode (inr e) enabled request = rw e (simp and-false)

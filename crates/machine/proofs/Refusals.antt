@@ -23,12 +23,35 @@ use Rattle.machine.specs.declared.Machine.{Machine}
 use Rattle.machine.specs.Execute.{executeOf}
 use Rattle.data.specs.Space.{inWindow}
 use Rattle.machine.specs.State.{isWellFormed, withByte, HostStore, hostStored, hostStoreOf}
-use Rattle.machine.specs.Advance.{Step, refusedOf, stoppedOf, takenBy, takenOf, completedOf, executedOf, decodedOf, uninterruptedOf, respondOf, advancedOf}
+use Rattle.machine.specs.Advance.{
+  Step,
+  refusedOf,
+  stoppedOf,
+  takenBy,
+  takenOf,
+  completedOf,
+  executedOf,
+  decodedOf,
+  uninterruptedOf,
+  respondOf,
+  advancedOf,
+}
 use Rattle.machine.specs.Step.{stepOf}
 use Rattle.machine.specs.Steps.{Run, requestsFit, stepsOf}
 use Rattle.machine.specs.Run.{refusedRun, runOf}
 use Rattle.machine.specs.Refusals as why
-use Rattle.machine.specs.Refusals.{TakesNone, AtPc, StepStops, StepRefused, DoneIn, StepRefusals, RunRefused, RunRefusals, StoreRefused, StoreRefusals}
+use Rattle.machine.specs.Refusals.{
+  TakesNone,
+  AtPc,
+  StepStops,
+  StepRefused,
+  DoneIn,
+  StepRefusals,
+  RunRefused,
+  RunRefusals,
+  StoreRefused,
+  StoreRefusals,
+}
 use Rattle.machine.specs.Laws.{executionAt, Does, stops, takes, idles, executes}
 use Rattle.machine.proofs.StepDoes.{step-does, Tested, refuses, passes, step-tested}
 use Rattle.machine.proofs.StepByStep.{fits-not}
@@ -41,7 +64,8 @@ not-refused cycles r e = let z : _≡_ {A = ℕ} 0 1 = cc in absurd (omega arith
 module _ (image : List ℕ) (m : Machine) (request : ℕ) where
   -- an instruction that stops, where nothing is taken
   instruction-stops :
-      TakesNone m request → m .control .asleep ≡ false → (i : Instruction) (bytes cycles : ℕ) → AtPc image m i bytes cycles →
+      TakesNone m request → m .control .asleep ≡ false → (i : Instruction) (bytes cycles : ℕ) →
+      AtPc image m i bytes cycles →
       (s : Stop) (n : ℕ) → ((more : Step) → stoppedOf m s more ≡ refusedOf m (located n (m .control .pc))) →
       executionAt image m i bytes .stop ≡ s → advancedOf image m request ≡ refusedOf m (located n (m .control .pc))
   unfolding advancedOf respondOf uninterruptedOf decodedOf executedOf completedOf
@@ -73,7 +97,9 @@ module _ (image : List ℕ) (m : Machine) (request : ℕ) where
   given r (why.stops _ i w n s) = rw (i, w, n) (stop-given r s)
 
   -- the same number
-  same-number : (q r : Numbered) → _≡_ {A = Answer ℕ} (refused q) (refused r) → StepRefused image m request q → StepRefused image m request r
+  same-number :
+      (q r : Numbered) → _≡_ {A = Answer ℕ} (refused q) (refused r) → StepRefused image m request q →
+      StepRefused image m request r
   same-number q r e s = let same : q ≡ r = cc in rw same at s
 
   only-stops :
@@ -113,7 +139,8 @@ misfit requests zero e = let z : _≡_ {A = ℕ} 0 1 = cc in absurd (omega arith
 misfit requests (suc n) e = by-byte (namesOnlySources (getD requests n 0)) refl (misfit requests n)
   where
     by-byte :
-        (b : Bool) → namesOnlySources (getD requests n 0) ≡ b → (requestsFit requests n ≡ false → Misfit requests n) → Misfit requests (suc n)
+        (b : Bool) → namesOnlySources (getD requests n 0) ≡ b → (requestsFit requests n ≡ false →
+        Misfit requests n) → Misfit requests (suc n)
     by-byte false named before = record { k = n; below = omega arith; named = named }
     by-byte true named before =
         let h = before (rw named at e) in record { k = h .k; below = omega (arith, h .below); named = h .named }

@@ -62,11 +62,14 @@ module _ (image : List ℕ) (all : Bytes image) (m : Machine) (formed : isWellFo
 
 -- a run, step by step
 module _ (image : List ℕ) (all : Bytes image) (requests : List ℕ) (m : Machine) (formed : isWellFormed m ≡ true) where
-  joined : (r : Run) (n : Machine) (a : Answer ℕ) → isWellFormed n ≡ true → isWellFormed (joinedBy r n a .machine) ≡ true
+  joined :
+      (r : Run) (n : Machine) (a : Answer ℕ) → isWellFormed n ≡ true → isWellFormed (joinedBy r n a .machine) ≡ true
   joined r n (done cycles) f = f
   joined r n (refused reason) f = f
 
-  continued : (r : Run) (request : ℕ) (ending : Ended) → isWellFormed (r .machine) ≡ true → isWellFormed (continuedBy image r request ending .machine) ≡ true
+  continued :
+      (r : Run) (request : ℕ) (ending : Ended) → isWellFormed (r .machine) ≡ true →
+      isWellFormed (continuedBy image r request ending .machine) ≡ true
   continued r request (done tt) f = joined r (stepOf image (r .machine) request .machine) (stepOf image (r .machine) request .answer) (by-step image all (r .machine) f request)
   continued r request (refused reason) f = f
 
@@ -79,7 +82,9 @@ module _ (image : List ℕ) (all : Bytes image) (requests : List ℕ) (m : Machi
   unfolding runOf
   by-run n = by-tests (isImage (length image)) (isWellFormed m) (leb n 65535) (requestsFit requests n)
     where
-      by-tests : (a b c d : Bool) → isWellFormed (unless a (refusedRun m (plain 1)) (unless b (refusedRun m (plain 2)) (unless c (refusedRun m (plain 12)) (unless d (refusedRun m (plain 11)) (stepsOf image requests m n)))) .machine) ≡ true
+      by-tests :
+          (a b c d : Bool) →
+          isWellFormed (unless a (refusedRun m (plain 1)) (unless b (refusedRun m (plain 2)) (unless c (refusedRun m (plain 12)) (unless d (refusedRun m (plain 11)) (stepsOf image requests m n)))) .machine) ≡ true
       by-tests false b c d = formed
       by-tests true false c d = formed
       by-tests true true false d = formed
@@ -90,7 +95,9 @@ by-store : (m : Machine) → isWellFormed m ≡ true → (a value : ℕ) → isW
 unfolding hostStoreOf
 by-store m formed a value = by-tests (isWellFormed m) (not (inWindow a))
   where
-    by-tests : (b c : Bool) → isWellFormed (unless b (hostStored m (refused (plain 2))) (unless c (hostStored m (refused (plain 10))) (hostStored (withByte m a value) (done tt))) .machine) ≡ true
+    by-tests :
+        (b c : Bool) →
+        isWellFormed (unless b (hostStored m (refused (plain 2))) (unless c (hostStored m (refused (plain 10))) (hostStored (withByte m a value) (done tt))) .machine) ≡ true
     by-tests false c = formed
     by-tests true false = formed
     by-tests true true = formed

@@ -31,9 +31,37 @@ use Rattle.control.proofs.Stopped.{take-stops, call-stops, pop-stops, return-st
 use Rattle.machine.specs.declared.Machine.{Machine}
 use Rattle.machine.specs.Execute.{executeOf}
 use Rattle.machine.specs.State.{viewOf, isWellFormed}
-use Rattle.machine.specs.Advance.{Step, doneOf, refusedOf, stoppedOf, takenBy, takenOf, completedOf, executedOf, decodedOf, uninterruptedOf, respondOf, enabledOf, advancedOf}
+use Rattle.machine.specs.Advance.{
+  Step,
+  doneOf,
+  refusedOf,
+  stoppedOf,
+  takenBy,
+  takenOf,
+  completedOf,
+  executedOf,
+  decodedOf,
+  uninterruptedOf,
+  respondOf,
+  enabledOf,
+  advancedOf,
+}
 use Rattle.machine.specs.Step.{stepOf}
-use Rattle.machine.specs.Refusals.{Takes, TakesNone, AtPc, StepStops, request-full, undecoded, call-full, ret-empty, reti-empty, StepRefused, image-length, ill-formed, unknown-source}
+use Rattle.machine.specs.Refusals.{
+  Takes,
+  TakesNone,
+  AtPc,
+  StepStops,
+  request-full,
+  undecoded,
+  call-full,
+  ret-empty,
+  reti-empty,
+  StepRefused,
+  image-length,
+  ill-formed,
+  unknown-source,
+}
 use Rattle.machine.specs.Laws.{IsStop, Does, stops, takes, idles, executes, StepDoes}
 use Rattle.machine.proofs.Stops.{MayStop, is-call, is-ret, is-reti, goes-on, may-stop}
 
@@ -49,7 +77,8 @@ not-start-up false reset e = never e
 module _ (image : List ℕ) (m : Machine) (request : ℕ) (formed : isWellFormed m ≡ true) where
   -- by the test that makes it stop
   by-test :
-      (x : Stop) (more : Step) (s : Stop) (test : Bool) → x ≡ cond test s stop.None → (x ≡ stop.None → Does image m request more) →
+      (x : Stop) (more : Step) (s : Stop) (test : Bool) → x ≡ cond test s stop.None → (x ≡ stop.None →
+      Does image m request more) →
       (test ≡ true → Does image m request (stoppedOf m s more)) → Does image m request (stoppedOf m x more)
   by-test x more s true e goes stopping = rw e (stopping refl)
   by-test x more s false e goes stopping = rw e (goes e)
@@ -65,7 +94,8 @@ module _ (image : List ℕ) (m : Machine) (request : ℕ) (formed : isWellFormed
       (λ f. stops _ (request-full source e (six f)))
 
   executed :
-      TakesNone m request → m .control .asleep ≡ false → (i : Instruction) (bytes cycles : ℕ) → AtPc image m i bytes cycles → MayStop i →
+      TakesNone m request → m .control .asleep ≡ false → (i : Instruction) (bytes cycles : ℕ) →
+      AtPc image m i bytes cycles → MayStop i →
       Does image m request (executedOf image m i bytes cycles)
   unfolding executedOf completedOf executeOf advanceOf flowOf
   executed none awake i bytes cycles at (is-call to) =
@@ -85,7 +115,8 @@ module _ (image : List ℕ) (m : Machine) (request : ℕ) (formed : isWellFormed
       (executes i bytes cycles none awake at) (λ f. never f)
 
   decoded :
-      TakesNone m request → m .control .asleep ≡ false → (a : Answer decode.Decoding) → decodeAt image (m .control .pc) ≡ a →
+      TakesNone m request → m .control .asleep ≡ false → (a : Answer decode.Decoding) →
+      decodeAt image (m .control .pc) ≡ a →
       Does image m request (decodedOf image m a)
   unfolding decodedOf
   decoded none awake (done (decode.instruction i bytes cycles)) e = executed none awake i bytes cycles e (may-stop i)
@@ -98,7 +129,8 @@ module _ (image : List ℕ) (m : Machine) (request : ℕ) (formed : isWellFormed
   unrequested none false e = decoded none e (decodeAt image (m .control .pc)) refl
 
   responded :
-      (r : Requested) → requestedOf (m .control .mode) (enabledOf (m .bytes)) request ≡ r → Does image m request (respondOf image m r)
+      (r : Requested) → requestedOf (m .control .mode) (enabledOf (m .bytes)) request ≡ r →
+      Does image m request (respondOf image m r)
   unfolding respondOf uninterruptedOf
   responded (Taken source) e = taken source e
   responded Nothing e = unrequested e (m .control .asleep) refl
@@ -141,7 +173,8 @@ unfolding stepOf
 step-tested image m request = by-tests (isImage (length image)) refl (isWellFormed m) refl (namesOnlySources request) refl
   where
     by-tests :
-        (i : Bool) → isImage (length image) ≡ i → (w : Bool) → isWellFormed m ≡ w → (n : Bool) → namesOnlySources request ≡ n →
+        (i : Bool) → isImage (length image) ≡ i → (w : Bool) → isWellFormed m ≡ w → (n : Bool) →
+        namesOnlySources request ≡ n →
         Tested image m request
         (unless i (refusedOf m (plain 1)) (unless w (refusedOf m (plain 2)) (unless n (refusedOf m (plain 11)) (advancedOf image m request))))
     by-tests false e w f n g = refuses (plain 1) (image-length e)

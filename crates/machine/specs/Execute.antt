@@ -1,5 +1,5 @@
--- One instruction: its effect on data and flags, and where its flow takes control. The two do not look at each other, but for
--- the condition of a branch.
+-- One instruction: its effect on data and flags, and where its flow takes control. The two do not look at each other,
+-- but for the condition of a branch.
 use Prim.Native.Nat.{ℕ}
 use mathlib.Core.Bool.{Bool, true, false, not}
 use mathlib.Core.List.{List}

@@ -1,5 +1,5 @@
--- What callers may rely on of step, run, host store and reset: claims about the definitions (document 01, "Modes, stack, sleep" and
--- "What each operation turns down").
+-- What callers may rely on of step, run, host store and reset: claims about the definitions (document 01, "Modes,
+-- stack, sleep" and "What each operation turns down").
 use Prim.Native.Nat.{ℕ, _+_, _≤_}
 use mathlib.Core.Path.{_≡_}
 use mathlib.Core.Bool.{true, false}
@@ -37,8 +37,8 @@ pub record IsStop (r : Numbered) : Type 0 where
   pub least : 4 ≤ number
   pub most : number ≤ 7
 
--- What a step that is not refused does: it stops and leaves the machine as it was, or takes a request in one cycle, or is idle in none,
--- or executes the instruction at PC in the cycles of the table
+-- What a step that is not refused does: it stops and leaves the machine as it was, or takes a request in one cycle,
+-- or is idle in none, or executes the instruction at PC in the cycles of the table
 pub data Does (image : List ℕ) (m : Machine) (request : ℕ) : Step → Type 0 where
   stops : (r : Numbered) → StepStops image m request r → Does image m request (refusedOf m r)
   takes :
@@ -46,7 +46,8 @@ pub data Does (image : List ℕ) (m : Machine) (request : ℕ) : Step → Type 0
       Does image m request (doneOf (servedOf m (takeOf (m .stack) (m .control) source)) 1)
   idles : TakesNone m request → m .control .asleep ≡ true → Does image m request (doneOf m 0)
   executes :
-      (i : Instruction) (bytes cycles : ℕ) → TakesNone m request → m .control .asleep ≡ false → AtPc image m i bytes cycles →
+      (i : Instruction) (bytes cycles : ℕ) → TakesNone m request → m .control .asleep ≡ false →
+      AtPc image m i bytes cycles →
       executionAt image m i bytes .stop ≡ stop.None →
       Does image m request (doneOf (afterOf m (executionAt image m i bytes)) cycles)
 
@@ -58,16 +59,19 @@ StepDoes =
 
 -- a data instruction, whose flow is the next address, moves PC there, and leaves stack, mode, levels and sleep
 pub record GoesOn (image : List ℕ) (m : Machine) (i : Instruction) (bytes cycles : ℕ) : Type 0 where
-  pub control : executedOf image m i bytes cycles .machine .control ≡ withPc (m .control) (forwardOf (m .control .pc) bytes)
+  pub control :
+      executedOf image m i bytes cycles .machine .control ≡ withPc (m .control) (forwardOf (m .control .pc) bytes)
   pub stack : executedOf image m i bytes cycles .machine .stack ≡ m .stack
   pub answer : executedOf image m i bytes cycles .answer ≡ done cycles
 
+-- proved by data-goes-on, proofs/Laws
 abbrev pub DataGoesOn : Type 0
 DataGoesOn =
     (image : List ℕ) (m : Machine) (i : Instruction) (bytes cycles : ℕ) → flowOf i (m .control .pc) ≡ flow.Next →
     GoesOn image m i bytes cycles
 
 -- a machine that is well formed stays so under every operation; reset makes one of any machine
+-- proved by stays-well-formed, proofs/StaysWellFormed
 pub record StaysWellFormed : Type 0 where
   pub by-step :
       (image : List ℕ) → Bytes image → (m : Machine) → isWellFormed m ≡ true → (request : ℕ) →
@@ -78,7 +82,8 @@ pub record StaysWellFormed : Type 0 where
   pub by-run :
       (image : List ℕ) → Bytes image → (m : Machine) → isWellFormed m ≡ true → (requests : List ℕ) (n : ℕ) →
       isWellFormed (runOf image m requests n .machine) ≡ true
-  pub by-store : (m : Machine) → isWellFormed m ≡ true → (a value : ℕ) → isWellFormed (hostStoreOf m a value .machine) ≡ true
+  pub by-store :
+      (m : Machine) → isWellFormed m ≡ true → (a value : ℕ) → isWellFormed (hostStoreOf m a value .machine) ≡ true
   pub by-reset : (m : Machine) → isWellFormed (resetOf m) ≡ true
 
 -- so a run ends early only where a step stops, never with 1, 2 or 11 midway
@@ -86,9 +91,11 @@ abbrev pub StopsOnly : Ended → Type 0
 StopsOnly (done tt) = Unit {0}
 StopsOnly (refused r) = IsStop r
 
+-- proved by run-ends-by-stop, proofs/Laws
 abbrev pub RunEndsByStop : Type 0
 RunEndsByStop =
-    (image : List ℕ) → Bytes image → isImage (length image) ≡ true → (requests : List ℕ) (n : ℕ) → requestsFit requests n ≡ true →
+    (image : List ℕ) → Bytes image → isImage (length image) ≡ true → (requests : List ℕ) (n : ℕ) →
+    requestsFit requests n ≡ true →
     (m : Machine) → isWellFormed m ≡ true → StopsOnly (stepsOf image requests m n .report .ending)
 
 -- a run, and another on the machine that it leaves
@@ -96,7 +103,9 @@ abbrev pub followedBy : Run → Run → Run
 followedBy r s =
     runAt (s .machine) (r .report .steps + s .report .steps) (r .report .cycles + s .report .cycles) (s .report .ending)
 
--- "A run of n steps is n single steps": a run of one is the step, and a run of n + k is a run of n, then, where that completes, of k
+-- "A run of n steps is n single steps": a run of one is the step, and a run of n + k is a run of n, then, where that
+-- completes, of k
+-- proved by run-is-steps, proofs/Laws
 pub record RunIsSteps : Type 0 where
   pub one :
       (image : List ℕ) (m : Machine) (q : ℕ) (n : Machine) (cycles : ℕ) → stepOf image m q ≡ doneOf n cycles →
@@ -107,4 +116,5 @@ pub record RunIsSteps : Type 0 where
   pub more :
       (image requests : List ℕ) (m : Machine) (n k : ℕ) → stepsOf image requests m n .report .ending ≡ done tt →
       stepsOf image requests m (n + k)
-      ≡ followedBy (stepsOf image requests m n) (stepsOf image (drop n requests) (stepsOf image requests m n .machine) k)
+      ≡ followedBy (stepsOf image requests m n)
+      (stepsOf image (drop n requests) (stepsOf image requests m n .machine) k)

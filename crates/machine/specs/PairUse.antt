@@ -56,7 +56,8 @@ OwnPairRead =
 -- proved by flags-after-reti, proofs/PairUse
 abbrev pub FlagsAfterReti : Type 0
 FlagsAfterReti =
-    (image : List ℕ) (m n : Machine) (request bytes cycles used : ℕ) → TakesNone m request → m .control .asleep ≡ false →
+    (image : List ℕ) (m n : Machine) (request bytes cycles used : ℕ) → TakesNone m request →
+    m .control .asleep ≡ false →
     AtPc image m I.Reti bytes cycles → stepOf image m request ≡ doneOf n used →
     pairOf (n .flags) (n .control .mode) ≡ pairOf (m .flags) (modeBeneath (m .control .mode))
 

@@ -1,5 +1,5 @@
--- When a step, a run and a host store are refused or stop, and with which number (document 01, "What each operation turns down"). "The first
--- that applies is given, and never where it doesn't apply."
+-- When a step, a run and a host store are refused or stop, and with which number (document 01, "What each operation
+-- turns down"). "The first that applies is given, and never where it doesn't apply."
 use Prim.Native.Nat.{ℕ, _≤_, _<_}
 use mathlib.Core.Path.{_≡_}
 use mathlib.Core.Bool.{Bool, true, false}
@@ -34,11 +34,12 @@ TakesNone m request = requestedOf (m .control .mode) (enabledOf (m .bytes)) requ
 abbrev pub AtPc : (image : List ℕ) → Machine → Instruction → (bytes cycles : ℕ) → Type 0
 AtPc image m i bytes cycles = decodeAt image (m .control .pc) ≡ done (decode.instruction i bytes cycles)
 
--- "then the stops: 6 request taken on six levels; 4 and 5 as in decoding; 6 CALL on six levels; 7 pop on an empty stack, save as said for
--- RETI", each with PC
+-- "then the stops: 6 request taken on six levels; 4 and 5 as in decoding; 6 CALL on six levels; 7 pop on an empty
+-- stack, save as said for RETI", each with PC
 pub data StepStops (image : List ℕ) (m : Machine) (request : ℕ) : Numbered → Type 0 where
   request-full :
-      (source : Source) → Takes m request source → m .control .levels ≡ 6 → StepStops image m request (located 6 (m .control .pc))
+      (source : Source) → Takes m request source → m .control .levels ≡ 6 →
+      StepStops image m request (located 6 (m .control .pc))
   undecoded :
       (r : Numbered) → TakesNone m request → m .control .asleep ≡ false → decodeAt image (m .control .pc) ≡ refused r →
       StepStops image m request r
@@ -50,14 +51,16 @@ pub data StepStops (image : List ℕ) (m : Machine) (request : ℕ) : Numbered �
       m .control .levels ≡ 0 → StepStops image m request (located 7 (m .control .pc))
   reti-empty :
       (bytes cycles : ℕ) → TakesNone m request → m .control .asleep ≡ false → AtPc image m I.Reti bytes cycles →
-      m .control .levels ≡ 0 → isReset (m .control .mode) ≡ false → StepStops image m request (located 7 (m .control .pc))
+      m .control .levels ≡ 0 → isReset (m .control .mode) ≡ false →
+      StepStops image m request (located 7 (m .control .pc))
 
 -- "Step: 1, 2, 11 (bit 5, 6 or 7 set in a request byte), then the stops"
 pub data StepRefused (image : List ℕ) (m : Machine) (request : ℕ) : Numbered → Type 0 where
   image-length : isImage (length image) ≡ false → StepRefused image m request (plain 1)
   ill-formed : isImage (length image) ≡ true → isWellFormed m ≡ false → StepRefused image m request (plain 2)
   unknown-source :
-      isImage (length image) ≡ true → isWellFormed m ≡ true → namesOnlySources request ≡ false → StepRefused image m request (plain 11)
+      isImage (length image) ≡ true → isWellFormed m ≡ true → namesOnlySources request ≡ false →
+      StepRefused image m request (plain 11)
   stops :
       (r : Numbered) → isImage (length image) ≡ true → isWellFormed m ≡ true → namesOnlySources request ≡ true →
       StepStops image m request r → StepRefused image m request r
@@ -90,14 +93,16 @@ pub data RunRefused (image : List ℕ) (m : Machine) (requests : List ℕ) (n : 
       (k : ℕ) → isImage (length image) ≡ true → isWellFormed m ≡ true → n ≤ 65535 → k < n →
       namesOnlySources (getD requests k 0) ≡ false → RunRefused image m requests n (plain 11)
 
--- a run is refused in these cases: "these report 0 steps, 0 cycles", and leave the machine as it was; else it is n single steps
+-- a run is refused in these cases: "these report 0 steps, 0 cycles", and leave the machine as it was; else it is n
+-- single steps
 -- proved by run-refusals, proofs/Refusals
 pub record RunRefusals : Type 0 where
   pub given :
       (image : List ℕ) (m : Machine) (requests : List ℕ) (n : ℕ) (r : Numbered) → RunRefused image m requests n r →
       runOf image m requests n ≡ refusedRun m r
   pub steps-else :
-      (image : List ℕ) (m : Machine) (requests : List ℕ) (n : ℕ) → ((r : Numbered) → RunRefused image m requests n r → ⊥) →
+      (image : List ℕ) (m : Machine) (requests : List ℕ) (n : ℕ) →
+      ((r : Numbered) → RunRefused image m requests n r → ⊥) →
       runOf image m requests n ≡ stepsOf image requests m n
 
 -- "Host store: 2 ill-formed machine [..]; 10 address in 40h–7Fh"

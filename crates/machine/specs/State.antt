@@ -1,5 +1,5 @@
--- The machine as a whole: reset, a fresh machine, host store (document 01, "Modes, stack, sleep" and "What each operation turns
--- down").
+-- The machine as a whole: reset, a fresh machine, host store (document 01, "Modes, stack, sleep" and "What each
+-- operation turns down").
 use Prim.Native.Nat.{ℕ}
 use mathlib.Core.Bool.{Bool, false, not}
 use mathlib.Core.List.{List}

@@ -9,7 +9,16 @@ use Rattle.machine.specs.declared.Machine.{Machine}
 use Rattle.machine.specs.declared.Stepped.{Stepped}
 use Rattle.machine.specs.State.{isWellFormed}
 pub use Rattle.machine.specs.Advance.{answerOf, Step, doneOf, refusedOf, enabledOf}
-unfoldable pub use Rattle.machine.specs.Advance.{takenBy, takenOf, completedOf, executedOf, decodedOf, uninterruptedOf, respondOf, advancedOf}
+unfoldable pub use Rattle.machine.specs.Advance.{
+  takenBy,
+  takenOf,
+  completedOf,
+  executedOf,
+  decodedOf,
+  uninterruptedOf,
+  respondOf,
+  advancedOf,
+}
 
 abbrev pub steppedOf : Stepped → Step
 steppedOf r = record { machine = r .machine; answer = answerOf (r .answer) }
