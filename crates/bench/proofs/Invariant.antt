@@ -6,7 +6,7 @@ use mathlib.Core.Path.{_≡_, refl}
 use mathlib.Core.Bool.{true}
 use mathlib.Core.List.{List, [], _∷_}
 use lib.ListN.{length, getD}
-use borrow.Author.Tests.{lt-leb, le-ltb}
+use borrow.Author.Tests.{lt-ltb, le-leb}
 use Rattle.control.specs.declared.Mode.{Mode}
 use Rattle.control.specs.declared.Control.{Control}
 use Rattle.control.specs.Stack.{inUse}
@@ -44,7 +44,7 @@ all-below {certificate} (service {q = q} o f k h) = (below certificate q (has-ki
 addresses-fit : (n : ℕ) (slots : List ℕ) → Below (inUse n slots) → addressesFit slots n ≡ true
 unfolding addressesFit
 addresses-fit zero slots b = refl
-addresses-fit (suc n) slots b = rw (lt-leb 0x1000 (getD slots n 0) (b .0)) (addresses-fit n slots (b .1))
+addresses-fit (suc n) slots b = rw (lt-ltb (getD slots n 0) 0x1000 (b .0)) (addresses-fit n slots (b .1))
 
 module _ (image certificate : List ℕ) (wired number : ℕ) (ok : Rules image certificate wired number) where
   pub reset-invariant : (m : Machine) → MachineInvariant certificate wired (resetOf m)
@@ -62,7 +62,7 @@ module _ (image certificate : List ℕ) (wired number : ℕ) (ok : Rules image c
       let six : m .control .levels ≤ 6 =
       omega (arith, levels-within m g, length-inUse (m .control .levels) (m .stack), ok .at-most-six) in
       rw (
-        lt-leb 0x1000 (m .control .pc) (below certificate (m .control .pc) (has-kind (g .frames))),
-        le-ltb 6 (m .control .levels) six,
+        lt-ltb (m .control .pc) 0x1000 (below certificate (m .control .pc) (has-kind (g .frames))),
+        le-leb (m .control .levels) 6 six,
       )
       (addresses-fit (m .control .levels) (m .stack) (all-below (g .frames)))

@@ -11,10 +11,11 @@ use Rattle.isa.specs.Refusals.{plain, done, refused, unless}
 use Rattle.isa.specs.Sources.{namesOnlySources}
 use Rattle.machine.specs.declared.Machine.{Machine}
 use Rattle.machine.specs.State as state
-use Rattle.machine.specs.State.{HostStore, withByte, inWindow, hostStoreOf, resetOf}
+use Rattle.data.specs.Space.{inWindow}
+use Rattle.machine.specs.State.{HostStore, withByte, hostStoreOf, resetOf}
 use Rattle.machine.specs.Step.{Step, stepOf}
 use Rattle.machine.specs.Run.{Run, refusedRun, stepsOf, requestsFit, runOf}
-use Rattle.machine.proofs.Steps.{fits-at}
+use Rattle.machine.proofs.StepByStep.{fits-at}
 use Rattle.certificate.specs.Rules.{Rules}
 use Rattle.certificate.proofs.Agreement.{agreement}
 use Rattle.bench.specs.Calls.{Call, step, run, store, reset, leaves, AsksOnly, FirstAskOnly, CallAsksOnly}

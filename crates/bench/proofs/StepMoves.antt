@@ -22,13 +22,13 @@ use Rattle.control.specs.declared.Requested.{Requested}
 use Rattle.control.specs.declared.Requested.the-variants.{Nothing, Taken}
 use Rattle.control.specs.declared.Stop.the-variants as stop
 use Rattle.control.specs.Stack.{Transferred, inUse, isFull, pushOf, popOf}
-use Rattle.control.specs.Transfers.{atOf, inModeOf, sleptOf, callOf, returnFromInterruptOf, advanceOf}
+use Rattle.control.specs.Transfers.{sleptOf, callOf, returnFromInterruptOf, advanceOf}
 use Rattle.control.specs.Requests.{requestedOf, servingOf, takeOf}
 use Rattle.data.specs.Effect.{Data, effectOf}
 use Rattle.machine.specs.declared.Machine.{Machine}
-use Rattle.machine.specs.Execute.{together, jumpsOf, executeOf}
+use Rattle.machine.specs.Execute.{executionBy, jumpsOf, executeOf}
 use Rattle.machine.specs.State.{viewOf}
-use Rattle.machine.specs.Step.{Step, doneOf, takenBy, takenOf, completedOf, executedOf, decodedOf, unrequestedOf}
+use Rattle.machine.specs.Step.{Step, doneOf, takenBy, takenOf, completedOf, executedOf, decodedOf, uninterruptedOf}
 use Rattle.machine.specs.Step.{respondOf, enabledOf, advancedOf}
 use Rattle.certificate.specs.Marks.{kindAt}
 use Rattle.certificate.specs.Rules.{Continues, EndsStartUp, FlowRule, Runs, Rules}
@@ -93,7 +93,7 @@ module _ (image certificate : List ℕ) (wired number : ℕ) (ok : Rules image c
       → Moves certificate wired by-call (c .mode) (c .pc) (inUse (c .levels) slots) (c .mode) to
       (next ∷ inUse (c .levels) slots)
       → Goes certificate wired by-call slots c (callOf slots c to next)
-  unfolding callOf pushOf atOf
+  unfolding callOf pushOf
   call slots c to next g move =
       let r = room slots c next g move in
       rw (r .not-full) (record { no-stop = refl; six = r .six; moves = rw (r .on-top) move })
@@ -126,7 +126,7 @@ module _ (image certificate : List ℕ) (wired number : ℕ) (ok : Rules image c
     leave : (n : ℕ) (mode : Mode) (next : ℕ) → kindAt certificate pc ≡ 3
         → Invariant certificate wired slots (controlAt pc n mode asleep)
         → AfterReti (controlAt pc n mode asleep) next
-    unfolding returnFromInterruptOf inModeOf flowEffect
+    unfolding returnFromInterruptOf flowEffect
     leave zero mode next k g = absurd (reti-empty (g .frames) k)
     leave (suc n) mode next k g =
         rw (eqb·suc-zero n, pop-is slots pc n mode asleep)
@@ -136,7 +136,7 @@ module _ (image certificate : List ℕ) (wired number : ℕ) (ok : Rules image c
     begin : (n : ℕ) (mode : Mode) (next : ℕ) → EndsStartUp certificate pc next
         → Invariant certificate wired slots (controlAt pc n mode asleep)
         → AfterReti (controlAt pc n mode asleep) next
-    unfolding returnFromInterruptOf inModeOf atOf flowEffect
+    unfolding returnFromInterruptOf flowEffect
     begin zero Reset next e g = record { no-stop = refl; six = g .six; moves = moves.begins e }
     begin (suc n) Reset next e g = absurd (at-start (g .frames) (e .kind))
     begin n Normal next e g = absurd (at-start (g .frames) (e .kind))
@@ -153,7 +153,7 @@ module _ (image certificate : List ℕ) (wired number : ℕ) (ok : Rules image c
   obey : (slots : List ℕ) (c : Control) (f : Flow) (jumps : Bool) (next : ℕ) → FlowRule certificate (c .pc) f next
       → Invariant certificate wired slots c
       → Goes certificate wired (flowEffect c f) slots c (advanceOf slots c f jumps next)
-  unfolding advanceOf atOf sleptOf flowEffect
+  unfolding advanceOf sleptOf flowEffect
   obey slots c flow.Next jumps next r g = record { no-stop = refl; six = g .six; moves = moves.continues r }
   obey slots c (flow.Jump to) jumps next r g = record { no-stop = refl; six = g .six; moves = moves.continues r }
   obey slots c (flow.Branch condition to) jumps next r g =
@@ -170,7 +170,7 @@ module _ (image certificate : List ℕ) (wired number : ℕ) (ok : Rules image c
     -- the step of an instruction or of a request, whatever happens to data
     completed : (cycles : ℕ) (d : StackEffect) (e : Data) (t : Transferred)
         → Goes certificate wired d (m .stack) (m .control) t
-        → Advances certificate wired d m (completedOf m cycles (together e t))
+        → Advances certificate wired d m (completedOf m cycles (executionBy e t))
     unfolding completedOf
     completed cycles d e t g =
         rw (g .no-stop) (record { done = record { cycles = cycles; answer = refl }; six = g .six; moves = g .moves })
@@ -204,7 +204,7 @@ module _ (image certificate : List ℕ) (wired number : ℕ) (ok : Rules image c
 
     respond : (r : Requested) → IfTaken (Allowed certificate wired (m .control .mode)) r
         → Advances certificate wired (respondEffect image (m .control) r) m (respondOf image m r)
-    unfolding respondOf respondEffect unrequestedOf unrequestedEffect takenOf
+    unfolding respondOf respondEffect uninterruptedOf unrequestedEffect takenOf
     respond (Taken source) a =
         served m (by-request source) (takeOf (m .stack) (m .control) source) (take (m .stack) (m .control) source a g)
     respond Nothing a = unrequested (m .control .asleep)

@@ -15,7 +15,7 @@ use Rattle.machine.specs.declared.Machine.{Machine}
 use Rattle.machine.specs.State as state
 use Rattle.machine.specs.Step.{refusedOf, stepOf}
 use Rattle.machine.specs.Run.{Run, refusedRun, continuedOf, stepsOf, requestsFit, runOf}
-use Rattle.machine.proofs.Steps.{step-advances}
+use Rattle.machine.proofs.StepByStep.{step-advances}
 use Rattle.certificate.specs.Rules.{Rules}
 use Rattle.bench.specs.Calls.{AsksOnly, FirstAskOnly}
 use Rattle.bench.specs.StackEffect.{StackEffect, stackEffectOf}

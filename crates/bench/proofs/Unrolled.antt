@@ -12,7 +12,7 @@ use Rattle.machine.specs.declared.Machine.{Machine}
 use Rattle.machine.specs.State.{resetOf}
 use Rattle.machine.specs.Step.{stepOf}
 use Rattle.machine.specs.Run.{Run, refusedRun, joinedBy, continuedBy, stepsOf, requestsFit, runOf}
-use Rattle.machine.proofs.Steps.{fits-at}
+use Rattle.machine.proofs.StepByStep.{fits-at}
 use Rattle.certificate.specs.Rules.{Rules}
 use Rattle.certificate.proofs.Agreement.{agreement}
 use Rattle.bench.specs.Calls.{

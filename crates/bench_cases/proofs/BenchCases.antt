@@ -6,18 +6,18 @@ use Rattle.isa.specs.Table.{bytesOf, cyclesOf}
 use Rattle.isa.specs.Map.{entryOf, formAs, formOf}
 use Rattle.isa.specs.ControlFlow.{flowOf}
 use Rattle.data.specs.Space.{readOf, storeOf, addressOf, operandOf}
-use Rattle.data.specs.Effect.{putOf, effectOf}
+use Rattle.data.specs.Effect.{storeResultOf, effectOf}
 use Rattle.control.specs.Stack.{pushOf}
-use Rattle.control.specs.Transfers.{atOf, callOf, advanceOf}
+use Rattle.control.specs.Transfers.{callOf, advanceOf}
 use Rattle.control.specs.Requests.{requestedOf}
 use Rattle.control.specs.WellFormed.{addressesFit, wellFormed}
 use Rattle.machine.specs.Execute.{executeOf}
-use Rattle.machine.specs.Step.{completedOf, executedOf, decodedOf, unrequestedOf, respondOf, advancedOf, stepOf}
+use Rattle.machine.specs.Step.{completedOf, executedOf, decodedOf, uninterruptedOf, respondOf, advancedOf, stepOf}
 use Rattle.certificate.proofs.Cases.{check-cases}
 use Rattle.bench_cases.specs.BenchCases.{BenchCases}
 
 pub bench-cases : BenchCases
-unfolding stepOf advancedOf respondOf unrequestedOf decodedOf executedOf completedOf executeOf wellFormed addressesFit requestedOf advanceOf callOf atOf pushOf effectOf putOf operandOf addressOf storeOf readOf flowOf formOf formAs cyclesOf bytesOf entryOf decodeAt operandAt romAt
+unfolding stepOf advancedOf respondOf uninterruptedOf decodedOf executedOf completedOf executeOf wellFormed addressesFit requestedOf advanceOf callOf pushOf effectOf storeResultOf operandOf addressOf storeOf readOf flowOf formOf formAs cyclesOf bytesOf entryOf decodeAt operandAt romAt
 bench-cases = record {
   p1 = record { byte = refl; flags = refl; answer = refl };
   p2 = record { byte = refl; flags = refl; answer = refl };

@@ -1,7 +1,6 @@
 -- Control and stack stay well formed.
 use Prim.Native.Nat.{ℕ, zero, suc, _+_, _-_, _<_, _≤_}
 use mathlib.Core.Path.{_≡_, refl, sym}
-use mathlib.Core.Logic.{_⊎_, inl, inr, ⊎-elim}
 use mathlib.Core.Bool.{Bool, true, false, cond, _&&_}
 use mathlib.Core.List.{List, [], _∷_}
 use native.Mathlib.Omega.{arith}
@@ -9,52 +8,67 @@ use lib.ListN.{getD, set}
 use lib.Dec.{ltb, leb, eqb}
 use lib.Seq.{getD-set-other}
 use borrow.Author.Count.{below-more}
-use borrow.Author.Tests.{leb-false, ltb-false, leb-true, eqb-false, lt-leb, le-ltb}
+use borrow.Author.Tests.{leb-false, ltb-true, leb-true, eqb-false, le-leb, lt-ltb}
 use Rattle.isa.specs.Targets.{InRange}
 use Rattle.isa.specs.Sources.{vectorOf}
 use Rattle.isa.specs.declared.Source.{Source}
 use Rattle.isa.specs.declared.Source.the-variants.{Nmi, First, Second, Third, Fourth}
 use Rattle.isa.specs.declared.Flow.{Flow}
 use Rattle.isa.specs.declared.Flow.the-variants as flow
-use Rattle.control.specs.declared.Mode.{Mode}
 use Rattle.control.specs.declared.Control.{Control}
 use Rattle.control.specs.declared.Stop.the-variants as stop
+use Rattle.control.specs.Update.{withPc, withLevels, withMode}
 use Rattle.control.specs.Modes.{modeBeneath}
 use Rattle.control.specs.Stack.{Transferred, goesOn, stops, isFull, pushOf, popOf}
-use Rattle.control.specs.Transfers.{atOf, inModeOf, sleptOf, branchOf, thenAt, thenIn, callOf, endsStartUp, returnFromInterruptOf, advanceOf}
-use Rattle.control.specs.Requests.{servingOf, thenServe, takeOf}
+use Rattle.control.specs.Transfers.{
+  sleptOf,
+  branchOf,
+  thenIn,
+  callOf,
+  endsStartUp,
+  returnFromInterruptOf,
+  advanceOf,
+}
+use Rattle.control.specs.Requests.{servingOf, takeOf}
 use Rattle.control.specs.WellFormed.{addressesFit, wellFormed, Formed, FormedExactly, FormedAfter, StaysFormed}
 
--- a test that refuses, and then the rest
-passed : (b x : Bool) → cond b false x ≡ true → (b ≡ false) × (x ≡ true)
-passed true x e = let z : _≡_ {A = ℕ} 0 1 = cc in absurd (omega arith)
-passed false x e = (refl, e)
+both : (a b : Bool) → (a && b) ≡ true → (a ≡ true) × (b ≡ true)
+both true b e = (refl, e)
+both false b e = let z : _≡_ {A = ℕ} 0 1 = cc in absurd (omega arith)
 
 addresses-below : (stack : List ℕ) (n : ℕ) → addressesFit stack n ≡ true → (k : ℕ) → k < n → getD stack k 0 < 0x1000
 unfolding addressesFit
 addresses-below stack zero e k h = absurd (omega arith)
 addresses-below stack (suc n) e k h =
-    let p : (leb 0x1000 (getD stack n 0) ≡ false) × (addressesFit stack n ≡ true) = passed (leb 0x1000 (getD stack n 0)) (addressesFit stack n) e in
-    below-more (λ j. getD stack j 0 < 0x1000) n (addresses-below stack n (p .1)) (leb-false 0x1000 (getD stack n 0) (p .0)) k (omega arith)
+    let p = both (ltb (getD stack n 0) 0x1000) (addressesFit stack n) e in
+    below-more (λ j. getD stack j 0 < 0x1000) n (addresses-below stack n (p .1)) (ltb-true (getD stack n 0) 0x1000 (p .0)) k
+    (omega arith)
 
 below-addresses : (stack : List ℕ) (n : ℕ) → ((k : ℕ) → k < n → getD stack k 0 < 0x1000) → addressesFit stack n ≡ true
 unfolding addressesFit
 below-addresses stack zero all = refl
 below-addresses stack (suc n) all =
-    rw (lt-leb 0x1000 (getD stack n 0) (all n (omega arith))) (below-addresses stack n (λ k h. all k (omega arith)))
+    rw (lt-ltb (getD stack n 0) 0x1000 (all n (omega arith))) (below-addresses stack n (λ k h. all k (omega arith)))
+
+-- an address in use that does not fit makes the test fail
+pub unfit :
+    (stack : List ℕ) (n k : ℕ) → k < n → 0x1000 ≤ getD stack k 0 → (b : Bool) → addressesFit stack n ≡ b → b ≡ false
+unfit stack n k h high false e = refl
+unfit stack n k h high true e = absurd (omega (arith, addresses-below stack n e k h))
 
 pub formed-exactly : FormedExactly
 unfolding wellFormed
 formed-exactly = record {
   facts = λ stack c e.
-      let p : (leb 0x1000 (c .pc) ≡ false) × (cond (ltb 6 (c .levels)) false (addressesFit stack (c .levels)) ≡ true) = passed (leb 0x1000 (c .pc)) _ e in
-      let q : (ltb 6 (c .levels) ≡ false) × (addressesFit stack (c .levels) ≡ true) = passed (ltb 6 (c .levels)) _ (p .1) in
+      let p = both (ltb (c .pc) 0x1000) _ e in
+      let q = both (leb (c .levels) 6) _ (p .1) in
       record {
-        pc = leb-false 0x1000 (c .pc) (p .0);
-        levels = ltb-false 6 (c .levels) (q .0);
+        pc = ltb-true (c .pc) 0x1000 (p .0);
+        levels = leb-true (c .levels) 6 (q .0);
         addresses = addresses-below stack (c .levels) (q .1);
       };
-  test = λ stack c f. rw (lt-leb 0x1000 (c .pc) (f .pc), le-ltb 6 (c .levels) (f .levels)) (below-addresses stack (c .levels) (f .addresses));
+  test = λ stack c f.
+      rw (lt-ltb (c .pc) 0x1000 (f .pc), le-leb (c .levels) 6 (f .levels)) (below-addresses stack (c .levels) (f .addresses));
 }
 
 -- the slot that was stored to, whatever the list's length
@@ -63,29 +77,28 @@ stored-below [] n a h = omega arith
 stored-below (x ∷ l) zero a h = h
 stored-below (x ∷ l) (suc n) a h = stored-below l n a h
 
--- the mode does not matter
-in-mode : (t : Transferred) (mode : Mode) → FormedAfter t → FormedAfter (thenIn t mode)
-unfolding inModeOf
-in-mode t mode f = record { pc = f .pc; levels = f .levels; addresses = f .addresses }
+-- only PC and levels matter
+elsewhere : (stack : List ℕ) (c d : Control) → Formed stack c → d .pc < 0x1000 → d .levels ≡ c .levels → Formed stack d
+elsewhere stack c d f h e = record { pc = h; levels = rw e (f .levels); addresses = rw e (f .addresses) }
 
 module _ (stack : List ℕ) (c : Control) (formed : Formed stack c) where
-  -- control that is somewhere else, or in another mode, or asleep
-  elsewhere : (pc : ℕ) (mode : Mode) (asleep : Bool) → pc < 0x1000 → Formed stack (record { pc = pc; levels = c .levels; mode = mode; asleep = asleep })
-  elsewhere pc mode asleep h = record { pc = h; levels = formed .levels; addresses = formed .addresses }
-
-  -- after a push of an address, wherever control goes
-  pushed : (address pc : ℕ) (mode : Mode) (asleep : Bool) → address < 0x1000 → pc < 0x1000 → isFull c ≡ false → Formed (set stack (c .levels) address) (record { pc = pc; levels = c .levels + 1; mode = mode; asleep = asleep })
-  pushed address pc mode asleep ha hp e =
+  pushed :
+      (address : ℕ) → address < 0x1000 → (b : Bool) → isFull c ≡ b →
+      FormedAfter (cond b (stops stack c stop.Full) (goesOn (set stack (c .levels) address) (withLevels c (c .levels + 1))))
+  pushed address h true e = formed
+  pushed address h false e =
       let room : c .levels < 6 = leb-false 6 (c .levels) e in
       record {
-        pc = hp;
+        pc = formed .pc;
         levels = omega arith;
         addresses = below-more (λ j. getD (set stack (c .levels) address) j 0 < 0x1000) (c .levels)
             (λ k h. rw (getD-set-other stack (c .levels) k address 0 (λ (q : k ≡ c .levels). omega arith)) (formed .addresses k h))
-            (stored-below stack (c .levels) address ha);
+            (stored-below stack (c .levels) address h);
       }
 
-  popped : (b : Bool) → eqb (c .levels) 0 ≡ b → FormedAfter (cond b (stops stack c stop.Empty) (goesOn stack (record { pc = getD stack (c .levels - 1) 0; levels = c .levels - 1; mode = c .mode; asleep = c .asleep })))
+  popped :
+      (b : Bool) → eqb (c .levels) 0 ≡ b →
+      FormedAfter (cond b (stops stack c stop.Empty) (goesOn stack (withLevels (withPc c (getD stack (c .levels - 1) 0)) (c .levels - 1))))
   popped true e = formed
   popped false e =
       let some : c .levels ≡ 0 → ⊥ = eqb-false (c .levels) 0 e in
@@ -95,45 +108,42 @@ module _ (stack : List ℕ) (c : Control) (formed : Formed stack c) where
         addresses = λ k h. formed .addresses k (omega arith);
       }
 
-  called : (to next : ℕ) → to < 0x1000 → next < 0x1000 → (b : Bool) → isFull c ≡ b → FormedAfter (cond b (stops stack c stop.Full) (thenAt (pushOf stack c next) to))
-  unfolding pushOf atOf
-  called to next ht hn true e = formed
-  called to next ht hn false e = pushed next to (c .mode) (c .asleep) hn ht e
-
-  returned : (next : ℕ) → next < 0x1000 → (b : Bool) → FormedAfter (cond b (goesOn stack (inModeOf (atOf c next) (modeBeneath (c .mode)))) (thenIn (popOf stack c) (modeBeneath (c .mode))))
-  unfolding atOf inModeOf popOf
-  returned next h true = elsewhere next (modeBeneath (c .mode)) (c .asleep) h
-  returned next h false = in-mode (popOf stack c) (modeBeneath (c .mode)) (popped (eqb (c .levels) 0) refl)
+  returned :
+      (next : ℕ) → next < 0x1000 → (b : Bool) →
+      FormedAfter (cond b (goesOn stack (withMode (withPc c next) (modeBeneath (c .mode)))) (thenIn (popOf stack c) (modeBeneath (c .mode))))
+  unfolding popOf
+  returned next h true = elsewhere stack c _ formed h refl
+  returned next h false =
+      let p : FormedAfter (popOf stack c) = popped (eqb (c .levels) 0) refl in
+      elsewhere _ (popOf stack c .control) _ p (p .pc) refl
 
   branched : (to next : ℕ) → to < 0x1000 → next < 0x1000 → (b : Bool) → Formed stack (branchOf c b to next)
-  unfolding atOf
-  branched to next ht hn true = elsewhere to (c .mode) (c .asleep) ht
-  branched to next ht hn false = elsewhere next (c .mode) (c .asleep) hn
+  branched to next ht hn true = elsewhere stack c _ formed ht refl
+  branched to next ht hn false = elsewhere stack c _ formed hn refl
 
-  by-flow : (f : Flow) → InRange f → (jumps : Bool) (next : ℕ) → next < 0x1000 → FormedAfter (advanceOf stack c f jumps next)
-  unfolding advanceOf atOf callOf popOf inModeOf returnFromInterruptOf sleptOf
-  by-flow flow.Next r jumps next h = elsewhere next (c .mode) (c .asleep) h
-  by-flow (flow.Jump to) r jumps next h = elsewhere to (c .mode) (c .asleep) r
+  by-flow :
+      (f : Flow) → InRange f → (jumps : Bool) (next : ℕ) → next < 0x1000 →
+      FormedAfter (advanceOf stack c f jumps next)
+  unfolding advanceOf callOf pushOf popOf returnFromInterruptOf sleptOf
+  by-flow flow.Next r jumps next h = elsewhere stack c _ formed h refl
+  by-flow (flow.Jump to) r jumps next h = elsewhere stack c _ formed r refl
   by-flow (flow.Branch condition to) r jumps next h = branched to next r h jumps
-  by-flow (flow.Call to) r jumps next h = called to next r h (isFull c) refl
+  by-flow (flow.Call to) r jumps next h = elsewhere _ (pushOf stack c next .control) _ (pushed next h (isFull c) refl) r refl
   by-flow flow.Return r jumps next h = popped (eqb (c .levels) 0) refl
   by-flow flow.ReturnFromInterrupt r jumps next h = returned next h (endsStartUp c)
-  by-flow flow.Sleep r jumps next h = elsewhere next (c .mode) true h
+  by-flow flow.Sleep r jumps next h = elsewhere stack c _ formed h refl
+
+  below : (s : Source) → vectorOf s < 0x1000
+  below Nmi = omega arith
+  below First = omega arith
+  below Second = omega arith
+  below Third = omega arith
+  below Fourth = omega arith
 
   by-request : (s : Source) → FormedAfter (takeOf stack c s)
   unfolding takeOf servingOf pushOf
-  by-request s = by-test (isFull c) refl
-    where
-      below : (s : Source) → vectorOf s < 0x1000
-      below Nmi = omega arith
-      below First = omega arith
-      below Second = omega arith
-      below Third = omega arith
-      below Fourth = omega arith
-
-      by-test : (b : Bool) → isFull c ≡ b → FormedAfter (cond b (stops stack c stop.Full) (thenServe (pushOf stack c (c .pc)) s))
-      by-test true e = formed
-      by-test false e = pushed (c .pc) (vectorOf s) _ false (formed .pc) (below s) e
+  by-request s =
+      elsewhere _ (pushOf stack c (c .pc) .control) _ (pushed (c .pc) (formed .pc) (isFull c) refl) (below s) refl
 
 pub stays-formed : StaysFormed
-stays-formed = record { by-flow = λ stack c f. by-flow stack c f; by-request = λ stack c f. by-request stack c f }
+stays-formed = record { by-flow = by-flow; by-request = by-request }

@@ -1,56 +1,60 @@
--- Where control stops, the stack is as it was.
-use Prim.Native.Nat.{ℕ, _-_}
+-- Where control stops, and that the stack is then as it was.
+use Prim.Native.Nat.{ℕ}
 use mathlib.Core.Path.{_≡_, refl}
 use mathlib.Core.Logic.{_⊎_, inl, inr}
-use mathlib.Core.Bool.{Bool, true, false, cond}
+use mathlib.Core.Bool.{Bool, true, false, cond, not, _&&_}
 use mathlib.Core.List.{List}
-use lib.ListN.{getD}
 use lib.Dec.{eqb}
 use Rattle.isa.specs.declared.Source.{Source}
 use Rattle.control.specs.declared.Control.{Control}
+use Rattle.control.specs.declared.Stop.{Stop}
 use Rattle.control.specs.declared.Stop.the-variants as stop
+use Rattle.control.specs.Update.{withPc, withMode}
 use Rattle.control.specs.Modes.{modeBeneath}
 use Rattle.control.specs.Stack.{Transferred, goesOn, stops, isFull, pushOf, popOf}
-use Rattle.control.specs.Transfers.{atOf, inModeOf, thenAt, thenIn, callOf, endsStartUp, returnFromInterruptOf}
-use Rattle.control.specs.Requests.{thenServe, takeOf}
+use Rattle.control.specs.Transfers.{thenIn, callOf, endsStartUp, returnFromInterruptOf}
+use Rattle.control.specs.Requests.{takeOf}
 
 -- it goes on, or the stack is as it was
 abbrev pub Kept : List ℕ → Transferred → Type 0
 Kept stack t = (t .stop ≡ stop.None) ⊎ (t .stack ≡ stack)
 
+-- it stops exactly where a test holds, and then the stack is as it was
+pub record StopsWhere (test : Bool) (s : Stop) (stack : List ℕ) (t : Transferred) : Type 0 where
+  pub stop : t .stop ≡ cond test s stop.None
+  pub kept : Kept stack t
+
 module _ (stack : List ℕ) (c : Control) where
-  goes-on : (address : ℕ) → pushOf stack c address .stop ≡ stop.None
+  by-test :
+      (test : Bool) (s : Stop) (more : Transferred) → more .stop ≡ stop.None →
+      StopsWhere test s stack (cond test (stops stack c s) more)
+  by-test true s more e = record { stop = refl; kept = inr refl }
+  by-test false s more e = record { stop = e; kept = inl e }
+
+  push-stops : (address : ℕ) → StopsWhere (isFull c) stop.Full stack (pushOf stack c address)
   unfolding pushOf
-  goes-on address = refl
+  push-stops address = by-test (isFull c) stop.Full _ refl
 
-  pub call-keeps : (to next : ℕ) → Kept stack (callOf stack c to next)
+  pub call-stops : (to next : ℕ) → StopsWhere (isFull c) stop.Full stack (callOf stack c to next)
   unfolding callOf
-  call-keeps to next = by-test (isFull c)
-    where
-      by-test : (b : Bool) → Kept stack (cond b (stops stack c stop.Full) (thenAt (pushOf stack c next) to))
-      by-test true = inr refl
-      by-test false = inl (goes-on next)
+  call-stops to next = record { stop = push-stops next .stop; kept = push-stops next .kept }
 
-  pub pop-keeps : Kept stack (popOf stack c)
-  unfolding popOf
-  pop-keeps = by-test (eqb (c .levels) 0)
-    where
-      by-test : (b : Bool) → Kept stack (cond b (stops stack c stop.Empty) (goesOn stack (record { pc = getD stack (c .levels - 1) 0; levels = c .levels - 1; mode = c .mode; asleep = c .asleep })))
-      by-test true = inr refl
-      by-test false = inl refl
-
-  pub return-keeps : (next : ℕ) → Kept stack (returnFromInterruptOf stack c next)
-  unfolding returnFromInterruptOf
-  return-keeps next = by-test (endsStartUp c)
-    where
-      by-test : (b : Bool) → Kept stack (cond b (goesOn stack (inModeOf (atOf c next) (modeBeneath (c .mode)))) (thenIn (popOf stack c) (modeBeneath (c .mode))))
-      by-test true = inl refl
-      by-test false = pop-keeps
-
-  pub take-keeps : (s : Source) → Kept stack (takeOf stack c s)
+  pub take-stops : (s : Source) → StopsWhere (isFull c) stop.Full stack (takeOf stack c s)
   unfolding takeOf
-  take-keeps s = by-test (isFull c)
+  take-stops s = record { stop = push-stops (c .pc) .stop; kept = push-stops (c .pc) .kept }
+
+  pub pop-stops : StopsWhere (eqb (c .levels) 0) stop.Empty stack (popOf stack c)
+  unfolding popOf
+  pop-stops = by-test (eqb (c .levels) 0) stop.Empty _ refl
+
+  pub return-stops :
+      (next : ℕ) →
+      StopsWhere (not (endsStartUp c) && eqb (c .levels) 0) stop.Empty stack (returnFromInterruptOf stack c next)
+  unfolding returnFromInterruptOf
+  return-stops next = by-start-up (endsStartUp c)
     where
-      by-test : (b : Bool) → Kept stack (cond b (stops stack c stop.Full) (thenServe (pushOf stack c (c .pc)) s))
-      by-test true = inr refl
-      by-test false = inl (goes-on (c .pc))
+      by-start-up :
+          (b : Bool) → StopsWhere (not b && eqb (c .levels) 0) stop.Empty stack
+          (cond b (goesOn stack (withMode (withPc c next) (modeBeneath (c .mode)))) (thenIn (popOf stack c) (modeBeneath (c .mode))))
+      by-start-up true = record { stop = refl; kept = inl refl }
+      by-start-up false = record { stop = pop-stops .stop; kept = pop-stops .kept }

@@ -1,3 +1,4 @@
+pub mod Update
 pub mod Modes
 pub mod Stack
 pub mod Transfers

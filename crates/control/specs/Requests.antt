@@ -10,8 +10,8 @@ use Rattle.control.specs.declared.Mode.the-variants.{Reset, Normal, Inte
 use Rattle.control.specs.declared.Control.{Control}
 use Rattle.control.specs.declared.Requested.{Requested}
 use Rattle.control.specs.declared.Requested.the-variants.{Nothing, Taken}
-use Rattle.control.specs.declared.Stop.the-variants as stop
-use Rattle.control.specs.Stack.{Transferred, stops, isFull, pushOf}
+use Rattle.control.specs.Update.{withPc, withMode, withSleep}
+use Rattle.control.specs.Stack.{Transferred, pushOf}
 
 -- "NMI is taken in normal and interrupt mode, the others in normal mode with their enable bit set"
 abbrev pub canTake : Mode → (enabled : Bool) → Source → Bool
@@ -59,11 +59,11 @@ serviceMode Fourth mode = Interrupt
 
 -- control at the start of a source's service: "wakes the machine"
 unfoldable pub servingOf : Control → Source → Control
-servingOf c source = record { pc = vectorOf source; levels = c .levels; mode = serviceMode source (c .mode); asleep = false }
+servingOf c source = withSleep (withMode (withPc c (vectorOf source)) (serviceMode source (c .mode))) false
 
 abbrev pub thenServe : Transferred → Source → Transferred
 thenServe t source = record { control = servingOf (t .control) source; stack = t .stack; stop = t .stop }
 
 -- "Taking one pushes PC"; "6 request taken on six levels"
 unfoldable pub takeOf : List ℕ → Control → Source → Transferred
-takeOf stack c source = cond (isFull c) (stops stack c stop.Full) (thenServe (pushOf stack c (c .pc)) source)
+takeOf stack c source = thenServe (pushOf stack c (c .pc)) source

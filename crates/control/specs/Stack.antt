@@ -8,6 +8,7 @@ use Rattle.control.specs.declared.Control.{Control}
 use Rattle.control.specs.declared.Stop.{Stop}
 use Rattle.control.specs.declared.Stop.the-variants as stop
 use Rattle.control.specs.declared.Transfer.{Transfer}
+use Rattle.control.specs.Update.{withPc, withLevels}
 
 -- where control and the stack go, and whether that stops
 pub record Transferred : Type 0 where
@@ -34,15 +35,14 @@ inUse (suc n) slots = getD slots n 0 ∷ inUse n slots
 abbrev pub isFull : Control → Bool
 isFull c = leb 6 (c .levels)
 
--- the push of a return address on less than six levels
+-- a push: a stop on six levels; else the address is on top
 unfoldable pub pushOf : List ℕ → Control → ℕ → Transferred
 pushOf stack c address =
-    goesOn (set stack (c .levels) address)
-    (record { pc = c .pc; levels = c .levels + 1; mode = c .mode; asleep = c .asleep })
+    cond (isFull c) (stops stack c stop.Full)
+    (goesOn (set stack (c .levels) address) (withLevels c (c .levels + 1)))
 
 -- "7 pop on an empty stack"; else PC is the top return address
 unfoldable pub popOf : List ℕ → Control → Transferred
 popOf stack c =
     cond (eqb (c .levels) 0) (stops stack c stop.Empty)
-    (goesOn stack
-    (record { pc = getD stack (c .levels - 1) 0; levels = c .levels - 1; mode = c .mode; asleep = c .asleep }))
+    (goesOn stack (withLevels (withPc c (getD stack (c .levels - 1) 0)) (c .levels - 1)))

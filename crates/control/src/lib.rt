@@ -1,6 +1,9 @@
 // Control: the program counter, the stack of return addresses, the mode, sleep, and requests. Nothing here knows data bytes or flags.
+pub mod modes;
 pub mod requests;
+pub mod stack;
 pub mod transfers;
+mod update;
 pub mod well_formed;
 
 use isa::Source;

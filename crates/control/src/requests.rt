@@ -2,10 +2,8 @@
 use crate::Control;
 use crate::Mode;
 use crate::Requested;
-use crate::Stop;
 use crate::Transfer;
-use crate::transfers::is_full;
-use crate::transfers::push;
+use crate::stack::push;
 use isa::Source;
 use isa::sources::names;
 use isa::sources::vector_of;
@@ -42,11 +40,7 @@ fn takes(mode: Mode, enabled: bool, source: Source) -> bool
 fn is_taken(mode: Mode, enabled: bool, request: u8, source: Source) -> bool
     ensures { λ r. ⌜ r ≡ isTaken mode enabled request source ⌝ }
 {
-    if names(request, source) {
-        takes(mode, enabled, source)
-    } else {
-        false
-    }
+    names(request, source) && takes(mode, enabled, source)
 }
 
 // The request that a step takes: the lowest number wins among those that can be taken now.
@@ -106,27 +100,20 @@ fn serving(c: Control, source: Source) -> Control
     ensures { λ r. ⌜ r ≡ servingOf c source ⌝ }
 {
     let mode = c.mode;
-    Control {
-        pc: vector_of(source),
-        levels: c.levels,
-        mode: service_mode(source, mode),
-        asleep: false,
-    }
+    let served = c.with_pc(vector_of(source))
+        .with_mode(service_mode(source, mode));
+    served.with_sleep(false)
 }
 
 // Taking a request pushes PC: a stop on six levels.
 pub fn take(stack: &mut [u16; 6], c: Control, source: Source) -> Transfer
     ensures { λ r. ⌜ transferOf (now (stack .exit)) r ≡ takeOf (now (stack .entry)) c source ⌝ }
 {
-    if is_full(c) {
-        return Transfer {
-            control: c,
-            stop: Stop::Full,
-        };
-    }
     let pushed = push(stack, c, c.pc);
+    let control = pushed.control;
+    let stop = pushed.stop;
     Transfer {
-        control: serving(pushed, source),
-        stop: Stop::None,
+        control: serving(control, source),
+        stop,
     }
 }

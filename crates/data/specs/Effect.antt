@@ -1,13 +1,57 @@
--- What each instruction does to data space and to the flag pair in use (the manual's instruction pages; document 01, "Flags by the manual").
+-- What each instruction does to data space and to the flag pair in use (the manual's instruction pages; document 01,
+-- "Flags by the manual").
 use Prim.Native.Nat.{ℕ}
 use mathlib.Core.Bool.{Bool, true, false}
 use mathlib.Core.List.{List}
 use lib.ListN.{getD}
 use Rattle.alu.specs.declared.Flags.{Flags}
 use Rattle.alu.specs.declared.Outcome.{Outcome}
-use Rattle.alu.specs.Alu.{resultOf, addedOf, subtractedOf, andedOf, complementedOf, rotatedOf, incrementedOf, decrementedOf, bitOf, withBitOf, withoutBitOf}
+use Rattle.alu.specs.Alu.{
+  resultOf,
+  addedOf,
+  subtractedOf,
+  andedOf,
+  complementedOf,
+  rotatedOf,
+  incrementedOf,
+  decrementedOf,
+  bitOf,
+  withBitOf,
+  withoutBitOf,
+}
 use Rattle.isa.specs.declared.Instruction.{Instruction}
-use Rattle.isa.specs.declared.Instruction.the-variants.{Jrnz, Jrnc, Jrz, Jrc, Call, Jp, Jrr, Jrs, Res, Set, LoadA, StoreA, LoadAImmediate, LoadImmediate, Inc, Dec, Add, AddImmediate, Sub, SubImmediate, And, AndImmediate, Cp, CpImmediate, Com, Rlc, Ret, Reti, Stop, Wait}
+use Rattle.isa.specs.declared.Instruction.the-variants.{
+  Jrnz,
+  Jrnc,
+  Jrz,
+  Jrc,
+  Call,
+  Jp,
+  Jrr,
+  Jrs,
+  Res,
+  Set,
+  LoadA,
+  StoreA,
+  LoadAImmediate,
+  LoadImmediate,
+  Inc,
+  Dec,
+  Add,
+  AddImmediate,
+  Sub,
+  SubImmediate,
+  And,
+  AndImmediate,
+  Cp,
+  CpImmediate,
+  Com,
+  Rlc,
+  Ret,
+  Reti,
+  Stop,
+  Wait,
+}
 use Rattle.data.specs.Space.{readOf, storeOf, addressOf, operandOf}
 
 -- what an instruction sees of the machine: the data bytes, and the flag pair in use
@@ -23,33 +67,33 @@ abbrev pub accumulatorOf : List ℕ → ℕ
 accumulatorOf bytes = getD bytes 0xFF 0
 
 -- a result is stored, and its flags with it: "Where a store does nothing, flags still follow the result."
-unfoldable pub putOf : List ℕ → ℕ → Outcome → Data
-putOf bytes a r = dataOf (storeOf bytes a (r .value)) (r .flags)
+unfoldable pub storeResultOf : List ℕ → ℕ → Outcome → Data
+storeResultOf bytes a r = dataOf (storeOf bytes a (r .value)) (r .flags)
 
 -- LD A and LDI A: "LD in either direction sets Z by the byte moved"
 abbrev pub loadOf : List ℕ → Bool → ℕ → Data
-loadOf bytes carry v = putOf bytes 0xFF (resultOf v carry)
+loadOf bytes carry v = storeResultOf bytes 0xFF (resultOf v carry)
 
 -- LD of A to an operand
 abbrev pub storeAOf : List ℕ → Bool → ℕ → Data
-storeAOf bytes carry a = putOf bytes a (resultOf (accumulatorOf bytes) carry)
+storeAOf bytes carry a = storeResultOf bytes a (resultOf (accumulatorOf bytes) carry)
 
 -- INC and DEC
 abbrev pub incrementOf : List ℕ → List ℕ → Bool → ℕ → Data
-incrementOf image bytes carry a = putOf bytes a (incrementedOf (readOf image bytes a) carry)
+incrementOf image bytes carry a = storeResultOf bytes a (incrementedOf (readOf image bytes a) carry)
 
 abbrev pub decrementOf : List ℕ → List ℕ → Bool → ℕ → Data
-decrementOf image bytes carry a = putOf bytes a (decrementedOf (readOf image bytes a) carry)
+decrementOf image bytes carry a = storeResultOf bytes a (decrementedOf (readOf image bytes a) carry)
 
 -- ADD, SUB, AND with a source byte, their immediates too
 abbrev pub addOf : List ℕ → ℕ → Data
-addOf bytes v = putOf bytes 0xFF (addedOf (accumulatorOf bytes) v)
+addOf bytes v = storeResultOf bytes 0xFF (addedOf (accumulatorOf bytes) v)
 
 abbrev pub subtractOf : List ℕ → ℕ → Data
-subtractOf bytes v = putOf bytes 0xFF (subtractedOf (accumulatorOf bytes) v)
+subtractOf bytes v = storeResultOf bytes 0xFF (subtractedOf (accumulatorOf bytes) v)
 
 abbrev pub andOf : List ℕ → Bool → ℕ → Data
-andOf bytes carry v = putOf bytes 0xFF (andedOf (accumulatorOf bytes) v carry)
+andOf bytes carry v = storeResultOf bytes 0xFF (andedOf (accumulatorOf bytes) v carry)
 
 -- CP and CPI: flags only
 abbrev pub compareOf : List ℕ → ℕ → Flags
@@ -57,10 +101,10 @@ compareOf bytes v = subtractedOf (accumulatorOf bytes) v .flags
 
 -- COM and RLC, on A
 abbrev pub complementOf : List ℕ → Data
-complementOf bytes = putOf bytes 0xFF (complementedOf (accumulatorOf bytes))
+complementOf bytes = storeResultOf bytes 0xFF (complementedOf (accumulatorOf bytes))
 
 abbrev pub rotateOf : List ℕ → Bool → Data
-rotateOf bytes carry = putOf bytes 0xFF (rotatedOf (accumulatorOf bytes) carry)
+rotateOf bytes carry = storeResultOf bytes 0xFF (rotatedOf (accumulatorOf bytes) carry)
 
 -- "LDI to a data address sets nothing."
 abbrev pub storeImmediateOf : List ℕ → Flags → ℕ → ℕ → Data

@@ -1,6 +1,6 @@
 -- Data space and the ROM window (document 01, "Program space and data space").
 use Prim.Native.Nat.{ℕ, _+_, _-_, _*_, _%_}
-use mathlib.Core.Bool.{Bool, cond}
+use mathlib.Core.Bool.{Bool, cond, _&&_}
 use mathlib.Core.List.{List}
 use lib.ListN.{getD, set}
 use lib.Dec.{ltb, leb}
@@ -9,6 +9,10 @@ use Rattle.isa.specs.declared.rom.RomByte.{RomByte}
 use Rattle.isa.specs.declared.rom.RomByte.the-variants.{Byte, Outside}
 use Rattle.isa.specs.declared.Operand.{Operand}
 use Rattle.isa.specs.declared.Operand.the-variants.{Direct, Short, ThroughX, ThroughY}
+
+-- "40h–7Fh show ROM"
+abbrev pub inWindow : ℕ → Bool
+inWindow a = leb 0x40 a && ltb a 0x80
 
 -- "ROM that the image lacks reads 0"
 abbrev pub shownOf : RomByte → ℕ
@@ -22,13 +26,11 @@ windowAddress bytes a = 64 * (getD bytes 0xC9 0 % 64) + (a - 0x40)
 -- the one read of a data byte: "00h–3Fh are 64 RAM bytes. 40h–7Fh show ROM [..]. 80h–FFh are plain bytes."
 unfoldable pub readOf : (image bytes : List ℕ) → (a : ℕ) → ℕ
 readOf image bytes a =
-    cond (ltb a 0x40) (getD bytes a 0)
-    (cond (leb 0x80 a) (getD bytes a 0)
-    (shownOf (romAt image (windowAddress bytes a))))
+    cond (inWindow a) (shownOf (romAt image (windowAddress bytes a))) (getD bytes a 0)
 
 -- the one store of a data byte: in the window "a store there does nothing"
 unfoldable pub storeOf : (bytes : List ℕ) → (a value : ℕ) → List ℕ
-storeOf bytes a value = cond (ltb a 0x40) (set bytes a value) (cond (leb 0x80 a) (set bytes a value) bytes)
+storeOf bytes a value = cond (inWindow a) bytes (set bytes a value)
 
 -- the data address of an operand: "X, Y, V, W are 80h–83h"
 unfoldable pub addressOf : (bytes : List ℕ) → Operand → ℕ

@@ -1,4 +1,5 @@
 // What each instruction does to the lent data bytes, and the flags after it. Values come before the bytes, since they are read from them.
+use crate::space::A;
 use crate::space::address;
 use crate::space::operand;
 use crate::space::read;
@@ -9,7 +10,7 @@ use isa::Instruction;
 ghost use mathlib.Core.Path.{_≡_};
 ghost use Rattle.data.specs.Effect.{
   dataOf,
-  putOf,
+  storeResultOf,
   accumulatorOf,
   loadOf,
   storeAOf,
@@ -28,19 +29,16 @@ ghost use Rattle.data.specs.Effect.{
   effectOf,
 };
 
-// The accumulator's data address.
-const A: u8 = 0xFF;
-
-// A.
+// The byte of the accumulator.
 fn accumulator(bytes: &[u8; 256]) -> u8
     ensures { λ r. ⌜ r ≡ accumulatorOf (now (bytes .entry)) ⌝ }
 {
-    bytes[0xFF]
+    bytes[A as usize]
 }
 
 // Stores a result, and hands over its flags.
-fn put(bytes: &mut [u8; 256], address: u8, result: Outcome) -> Flags
-    ensures { λ r. ⌜ dataOf (now (bytes .exit)) r ≡ putOf (now (bytes .entry)) address result ⌝ }
+fn store_result(bytes: &mut [u8; 256], address: u8, result: Outcome) -> Flags
+    ensures { λ r. ⌜ dataOf (now (bytes .exit)) r ≡ storeResultOf (now (bytes .entry)) address result ⌝ }
 {
     store(bytes, address, result.value);
     result.flags
@@ -50,7 +48,7 @@ fn put(bytes: &mut [u8; 256], address: u8, result: Outcome) -> Flags
 fn load(value: u8, bytes: &mut [u8; 256], carry: bool) -> Flags
     ensures { λ r. ⌜ dataOf (now (bytes .exit)) r ≡ loadOf (now (bytes .entry)) carry value ⌝ }
 {
-    put(bytes, A, alu::result(value, carry))
+    store_result(bytes, A, alu::result(value, carry))
 }
 
 // LD of A to a data address.
@@ -58,7 +56,7 @@ fn store_a(address: u8, bytes: &mut [u8; 256], carry: bool) -> Flags
     ensures { λ r. ⌜ dataOf (now (bytes .exit)) r ≡ storeAOf (now (bytes .entry)) carry address ⌝ }
 {
     let result = alu::result(accumulator(bytes), carry);
-    put(bytes, address, result)
+    store_result(bytes, address, result)
 }
 
 // INC.
@@ -66,7 +64,7 @@ fn increment(image: &[u8], address: u8, bytes: &mut [u8; 256], carry: bool) -> F
     ensures { λ r. ⌜ dataOf (now (bytes .exit)) r ≡ incrementOf (now (image .entry)) (now (bytes .entry)) carry address ⌝ }
 {
     let result = alu::incremented(read(image, bytes, address), carry);
-    put(bytes, address, result)
+    store_result(bytes, address, result)
 }
 
 // DEC.
@@ -74,7 +72,7 @@ fn decrement(image: &[u8], address: u8, bytes: &mut [u8; 256], carry: bool) -> F
     ensures { λ r. ⌜ dataOf (now (bytes .exit)) r ≡ decrementOf (now (image .entry)) (now (bytes .entry)) carry address ⌝ }
 {
     let result = alu::decremented(read(image, bytes, address), carry);
-    put(bytes, address, result)
+    store_result(bytes, address, result)
 }
 
 // ADD and ADDI.
@@ -82,7 +80,7 @@ fn add(value: u8, bytes: &mut [u8; 256]) -> Flags
     ensures { λ r. ⌜ dataOf (now (bytes .exit)) r ≡ addOf (now (bytes .entry)) value ⌝ }
 {
     let result = alu::added(accumulator(bytes), value);
-    put(bytes, A, result)
+    store_result(bytes, A, result)
 }
 
 // SUB and SUBI.
@@ -90,7 +88,7 @@ fn subtract(value: u8, bytes: &mut [u8; 256]) -> Flags
     ensures { λ r. ⌜ dataOf (now (bytes .exit)) r ≡ subtractOf (now (bytes .entry)) value ⌝ }
 {
     let result = alu::subtracted(accumulator(bytes), value);
-    put(bytes, A, result)
+    store_result(bytes, A, result)
 }
 
 // AND and ANDI.
@@ -98,7 +96,7 @@ fn and(value: u8, bytes: &mut [u8; 256], carry: bool) -> Flags
     ensures { λ r. ⌜ dataOf (now (bytes .exit)) r ≡ andOf (now (bytes .entry)) carry value ⌝ }
 {
     let result = alu::anded(accumulator(bytes), value, carry);
-    put(bytes, A, result)
+    store_result(bytes, A, result)
 }
 
 // CP and CPI: flags only.
@@ -114,7 +112,7 @@ fn complement(bytes: &mut [u8; 256]) -> Flags
     ensures { λ r. ⌜ dataOf (now (bytes .exit)) r ≡ complementOf (now (bytes .entry)) ⌝ }
 {
     let result = alu::complemented(accumulator(bytes));
-    put(bytes, A, result)
+    store_result(bytes, A, result)
 }
 
 // RLC.
@@ -122,7 +120,7 @@ fn rotate(bytes: &mut [u8; 256], carry: bool) -> Flags
     ensures { λ r. ⌜ dataOf (now (bytes .exit)) r ≡ rotateOf (now (bytes .entry)) carry ⌝ }
 {
     let result = alu::rotated(accumulator(bytes), carry);
-    put(bytes, A, result)
+    store_result(bytes, A, result)
 }
 
 // LDI of a data address: no flag changes.

@@ -5,7 +5,25 @@ use isa::rom::RomByte;
 use isa::rom::rom_byte;
 ghost use mathlib.Core.Path.{_≡_};
 ghost use Rattle.isa.specs.Rom.{romAt};
-ghost use Rattle.data.specs.Space.{shownOf, readOf, storeOf, addressOf, operandOf};
+ghost use Rattle.data.specs.Space.{inWindow, shownOf, readOf, storeOf, addressOf, operandOf};
+
+// Data addresses that the paper names: X, Y, A, the interrupt option register and the ROM window register.
+pub const X: usize = 0x80;
+
+pub const Y: usize = 0x81;
+
+pub const A: u8 = 0xFF;
+
+pub const INTERRUPT_OPTION: usize = 0xC8;
+
+pub const ROM_WINDOW: usize = 0xC9;
+
+// Whether an address lies in the ROM window.
+pub fn is_window(address: u8) -> bool
+    ensures { λ r. ⌜ r ≡ inWindow address ⌝ }
+{
+    0x40 <= address && address < 0x80
+}
 
 // The byte of program space that the ROM window shows at an address, 0 where the image has none.
 fn shown(image: &[u8], address: u16) -> u8
@@ -22,13 +40,10 @@ pub fn read(image: &[u8], bytes: &[u8; 256], address: u8) -> u8
     ensures { λ r. ⌜ r ≡ readOf (now (image .entry)) (now (bytes .entry)) address ⌝ }
 {
     let at = address as usize;
-    if address < 0x40 {
+    if !is_window(address) {
         return bytes[at];
     }
-    if 0x80 <= address {
-        return bytes[at];
-    }
-    let window = bytes[0xC9];
+    let window = bytes[ROM_WINDOW];
     shown(
         image,
         64 * ((window % 64) as u16) + ((address - 0x40) as u16),
@@ -40,11 +55,7 @@ pub fn store(bytes: &mut [u8; 256], address: u8, value: u8)
     ensures { λ _. ⌜ now (bytes .exit) ≡ storeOf (now (bytes .entry)) address value ⌝ }
 {
     let at = address as usize;
-    if address < 0x40 {
-        bytes[at] = value;
-        return;
-    }
-    if 0x80 <= address {
+    if !is_window(address) {
         bytes[at] = value;
     }
 }
@@ -56,8 +67,8 @@ pub fn address(bytes: &[u8; 256], operand: Operand) -> u8
     match operand {
         Operand::Direct(a) => a,
         Operand::Short(n) => 0x80 + n % 4,
-        Operand::ThroughX => bytes[0x80],
-        Operand::ThroughY => bytes[0x81],
+        Operand::ThroughX => bytes[X],
+        Operand::ThroughY => bytes[Y],
     }
 }
 

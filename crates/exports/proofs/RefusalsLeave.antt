@@ -16,7 +16,8 @@ use Rattle.isa.specs.Encode as encode
 use Rattle.isa.specs.declared.Encoded.{Encoded}
 use Rattle.isa.proofs.WriteEffects.{write-effects}
 use Rattle.machine.specs.declared.Machine.{Machine}
-use Rattle.machine.specs.State.{isWellFormed, hostStored, inWindow, withByte, hostStoreOf}
+use Rattle.data.specs.Space.{inWindow}
+use Rattle.machine.specs.State.{isWellFormed, hostStored, withByte, hostStoreOf}
 use Rattle.machine.specs.Step.{stepOf}
 use Rattle.jobs.specs.CheckJob.{jobOf}
 use Rattle.jobs.specs.Line.{lineOf}

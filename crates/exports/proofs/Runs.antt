@@ -31,8 +31,8 @@ module _ (image : List ℕ) (m : Machine) (request : ℕ) where
   does-keep t (executes i bytes cycles none awake at room) r e = let z : _≡_ {A = ℕ} 0 1 = cc in absurd (omega arith)
 
   tested-keep : (t : Step) → Tested image m request t → (r : Numbered) → t .answer ≡ refused r → t .machine ≡ m
-  tested-keep t (refuses n) r e = refl
-  tested-keep t (passes size formed) r e = does-keep t (step-does image m request size formed) r e
+  tested-keep t (refuses n why) r e = refl
+  tested-keep t (passes size formed sources) r e = does-keep t (step-does image m request size formed) r e
 
   pub step-keeps : (r : Numbered) → stepOf image m request .answer ≡ refused r → stepOf image m request .machine ≡ m
   step-keeps = tested-keep (stepOf image m request) (step-tested image m request)

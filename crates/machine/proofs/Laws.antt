@@ -1,14 +1,12 @@
 -- Laws of steps and runs that callers use.
 use Prim.Native.Nat.{ℕ, zero, suc, _+_, _≤_, _<_}
 use mathlib.Core.Path.{_≡_, refl, sym, ap, _∙_}
-use mathlib.Core.Logic.{_≢_}
 use mathlib.Core.Bool.{Bool, true, false, _&&_}
 use mathlib.Core.List.{List, [], _∷_}
 use native.Mathlib.Omega.{arith}
 use native.Mathlib.Nat.{zero-add, add-zero, add-suc, add-assoc}
 use lib.ListN.{length, getD, drop}
 use lib.Seq.{getD-drop}
-use Rattle.alu.specs.declared.Flags.{Flags}
 use Rattle.data.specs.Effect.{effectOf}
 use Rattle.isa.specs.Refusals.{Numbered, Answer, Ended, done, refused}
 use Rattle.isa.specs.RoundTrip.{Bytes}
@@ -18,58 +16,30 @@ use Rattle.isa.specs.Sources.{namesOnlySources}
 use Rattle.isa.specs.Rom.{isImage}
 use Rattle.isa.specs.declared.Instruction.{Instruction}
 use Rattle.isa.specs.declared.Flow.the-variants as flow
-use Rattle.control.specs.declared.Mode.{Mode}
-use Rattle.control.specs.declared.Mode.the-variants.{Reset, Normal, Interrupt, NmiOverNormal, NmiOverInterrupt}
 use Rattle.control.specs.Transfers.{advanceOf}
 use Rattle.machine.specs.declared.Machine.{Machine}
-use Rattle.machine.specs.declared.FlagPairs.{FlagPairs}
-use Rattle.machine.specs.Pairs.{pairOf, withNmi, withPairOf}
 use Rattle.machine.specs.Execute.{executeOf}
 use Rattle.machine.specs.State.{isWellFormed}
-use Rattle.machine.specs.Step.{Step, doneOf, refusedOf, completedOf, executedOf, advancedOf, stepOf}
-use Rattle.machine.specs.Step as step
-use Rattle.machine.specs.Run.{Run, runAt, joinedBy, joinedOf, continuedBy, continuedOf, stepsOf, requestsFit}
-use Rattle.machine.specs.Laws.{IsStop, Does, stops, takes, idles, executes, pairNumber, OtherPairsKept, GoesOn, DataGoesOn, StopsOnly, RunEndsByStop, followedBy, RunIsSteps}
-use Rattle.machine.proofs.StepDoes.{step-does, Tested, refuses, passes, step-tested}
-use Rattle.machine.proofs.Steps.{step-advances, fits-at, next-step}
+use Rattle.machine.specs.Advance.{Step, doneOf, refusedOf, completedOf, executedOf, advancedOf}
+use Rattle.machine.specs.Step.{stepOf}
+use Rattle.machine.specs.Steps.{Run, runAt, joinedBy, joinedOf, continuedBy, continuedOf, stepsOf, requestsFit}
+use Rattle.machine.specs.Laws.{
+  IsStop,
+  Does,
+  stops,
+  takes,
+  idles,
+  executes,
+  GoesOn,
+  DataGoesOn,
+  StopsOnly,
+  RunEndsByStop,
+  followedBy,
+  RunIsSteps,
+}
+use Rattle.machine.proofs.StepDoes.{step-does, numbered-stop}
+use Rattle.machine.proofs.StepByStep.{step-advances, fits-at, next-step}
 use Rattle.machine.proofs.StaysWellFormed.{stays-well-formed}
-
--- a pair that was stored is that of the mode alone
-other-than-nmi : (p : FlagPairs) (f : Flags) (b : Mode) → 3 ≢ pairNumber b → pairOf (withNmi p f) b ≡ pairOf p b
-other-than-nmi p f Normal n = refl
-other-than-nmi p f Interrupt n = refl
-other-than-nmi p f Reset n = absurd (n refl)
-other-than-nmi p f NmiOverNormal n = absurd (n refl)
-other-than-nmi p f NmiOverInterrupt n = absurd (n refl)
-
-other-pair : (p : FlagPairs) (f : Flags) (a b : Mode) → pairNumber a ≢ pairNumber b → pairOf (withPairOf p a f) b ≡ pairOf p b
-other-pair p f Normal Normal n = absurd (n refl)
-other-pair p f Normal Interrupt n = refl
-other-pair p f Normal Reset n = refl
-other-pair p f Normal NmiOverNormal n = refl
-other-pair p f Normal NmiOverInterrupt n = refl
-other-pair p f Interrupt Normal n = refl
-other-pair p f Interrupt Interrupt n = absurd (n refl)
-other-pair p f Interrupt Reset n = refl
-other-pair p f Interrupt NmiOverNormal n = refl
-other-pair p f Interrupt NmiOverInterrupt n = refl
-other-pair p f Reset b n = other-than-nmi p f b n
-other-pair p f NmiOverNormal b n = other-than-nmi p f b n
-other-pair p f NmiOverInterrupt b n = other-than-nmi p f b n
-
-module _ (image : List ℕ) (m : Machine) (request : ℕ) (mode : Mode) (apart : pairNumber (m .control .mode) ≢ pairNumber mode) where
-  by-case : (s : Step) → Does image m request s → pairOf (s .machine .flags) mode ≡ pairOf (m .flags) mode
-  by-case _ (stops r is) = refl
-  by-case _ (takes source e none) = refl
-  by-case _ (idles none asleep) = refl
-  by-case _ (executes i bytes cycles none awake at goes) = other-pair (m .flags) _ (m .control .mode) mode apart
-
-  by-test : (s : Step) → Tested image m request s → pairOf (s .machine .flags) mode ≡ pairOf (m .flags) mode
-  by-test _ (refuses r) = refl
-  by-test _ (passes size formed) = by-case _ (step-does image m request size formed)
-
-pub other-pairs-kept : OtherPairsKept
-other-pairs-kept image m request mode apart = by-test image m request mode apart _ (step-tested image m request)
 
 pub data-goes-on : DataGoesOn
 unfolding executedOf completedOf executeOf advanceOf
@@ -77,18 +47,24 @@ data-goes-on image m i bytes cycles e = record { control = rw e; stack = rw e; a
 
 -- a run that has not ended is at a step that is not refused
 module _ (image : List ℕ) (all : Bytes image) (size : isImage (length image) ≡ true) (requests : List ℕ) (m : Machine) (formed : isWellFormed m ≡ true) where
-  stopped : (n : Machine) (request : ℕ) (s : Step) → Does image n request s → (r : Run) → StopsOnly (joinedOf r s .report .ending)
-  stopped n request _ (stops reason is) r = is
-  stopped n request _ (takes source e none) r = tt
-  stopped n request _ (idles none asleep) r = tt
-  stopped n request _ (executes i bytes cycles none awake at goes) r = tt
+  stopped :
+      (n : Machine) (request : ℕ) → isWellFormed n ≡ true → (s : Step) → Does image n request s → (r : Run) →
+      StopsOnly (joinedOf r s .report .ending)
+  stopped n request w _ (stops reason why) r = numbered-stop image n request size w reason why
+  stopped n request w _ (takes source e none) r = tt
+  stopped n request w _ (idles none asleep) r = tt
+  stopped n request w _ (executes i bytes cycles none awake at goes) r = tt
 
-  continued : (r : Run) (request : ℕ) → isWellFormed (r .machine) ≡ true → namesOnlySources request ≡ true → (e : Ended) → r .report .ending ≡ e → StopsOnly e → StopsOnly (continuedBy image r request e .report .ending)
+  continued :
+      (r : Run) (request : ℕ) → isWellFormed (r .machine) ≡ true → namesOnlySources request ≡ true → (e : Ended) →
+      r .report .ending ≡ e → StopsOnly e → StopsOnly (continuedBy image r request e .report .ending)
   continued r request w fits (done tt) is f =
-      rw (step-advances image (r .machine) request size w fits) (stopped (r .machine) request _ (step-does image (r .machine) request size w) r)
+      rw (step-advances image (r .machine) request size w fits) (stopped (r .machine) request w _ (step-does image (r .machine) request size w) r)
   continued r request w fits (refused reason) is f = rw is f
 
-  ends : (n : ℕ) → requestsFit requests n ≡ true → (k : ℕ) → k ≤ n → StopsOnly (stepsOf image requests m k .report .ending)
+  ends :
+      (n : ℕ) → requestsFit requests n ≡ true → (k : ℕ) → k ≤ n →
+      StopsOnly (stepsOf image requests m k .report .ending)
   unfolding stepsOf
   ends n fit zero h = tt
   ends n fit (suc k) h =
@@ -103,7 +79,9 @@ run-is : (r : Run) → r .report .ending ≡ done tt → followedBy r (runAt (r 
 run-is r e = rw (add-zero (r .report .steps), add-zero (r .report .cycles), e)
 
 -- going on after the second of two runs
-followed-on : (image : List ℕ) (r s : Run) (request : ℕ) (e : Ended) → s .report .ending ≡ e → continuedBy image (followedBy r s) request e ≡ followedBy r (continuedBy image s request e)
+followed-on :
+    (image : List ℕ) (r s : Run) (request : ℕ) (e : Ended) → s .report .ending ≡ e →
+    continuedBy image (followedBy r s) request e ≡ followedBy r (continuedBy image s request e)
 followed-on image r s request (done tt) e = by-answer (stepOf image (s .machine) request .machine) (stepOf image (s .machine) request .answer)
   where
     by-answer : (n : Machine) (a : Answer ℕ) → joinedBy (followedBy r s) n a ≡ followedBy r (joinedBy s n a)
@@ -113,7 +91,9 @@ followed-on image r s request (done tt) e = by-answer (stepOf image (s .machine)
 followed-on image r s request (refused reason) e = refl
 
 module _ (image requests : List ℕ) (m : Machine) (n : ℕ) (completes : stepsOf image requests m n .report .ending ≡ done tt) where
-  more : (k : ℕ) → stepsOf image requests m (n + k) ≡ followedBy (stepsOf image requests m n) (stepsOf image (drop n requests) (stepsOf image requests m n .machine) k)
+  more :
+      (k : ℕ) →
+      stepsOf image requests m (n + k) ≡ followedBy (stepsOf image requests m n) (stepsOf image (drop n requests) (stepsOf image requests m n .machine) k)
   unfolding stepsOf
   more zero = rw (add-zero n) (sym (run-is (stepsOf image requests m n) completes))
   more (suc k) =

@@ -2,5 +2,7 @@ pub mod PairTests
 pub mod Stops
 pub mod StepDoes
 pub mod StaysWellFormed
-pub mod Steps
+pub mod StepByStep
+pub mod Refusals
 pub mod Laws
+pub mod PairUse

@@ -38,7 +38,9 @@ nmi-pair p Reset e f = refl
 nmi-pair p NmiOverNormal e f = refl
 nmi-pair p NmiOverInterrupt e f = refl
 
-pub with-nmi-pair : (p : FlagPairs) (mode : Mode) (flags : Flags) → isNormal mode ≡ false → isInterrupt mode ≡ false → withNmi p flags ≡ withPairOf p mode flags
+pub with-nmi-pair :
+    (p : FlagPairs) (mode : Mode) (flags : Flags) → isNormal mode ≡ false → isInterrupt mode ≡ false →
+    withNmi p flags ≡ withPairOf p mode flags
 with-nmi-pair p Normal flags e f = never e
 with-nmi-pair p Interrupt flags e f = never f
 with-nmi-pair p Reset flags e f = refl

@@ -17,11 +17,13 @@ use Rattle.control.specs.Requests.{takeOf}
 use Rattle.control.proofs.StaysWellFormed.{formed-exactly, stays-formed}
 use Rattle.machine.specs.declared.Machine.{Machine}
 use Rattle.machine.specs.Execute.{jumpsOf, executeOf}
-use Rattle.machine.specs.State.{viewOf, isWellFormed, inWindow, withByte, hostStored, hostStoreOf, resetControl, resetOf}
-use Rattle.machine.specs.Step.{Step, advancedOf, stepOf}
-use Rattle.machine.specs.Step as step
-use Rattle.machine.specs.Run.{Run, joinedBy, continuedBy, stepsOf, requestsFit, refusedRun, runOf}
-use Rattle.machine.specs.Laws.{executionAt, Does, stops, takes, idles, executes, StaysWellFormed}
+use Rattle.data.specs.Space.{inWindow}
+use Rattle.machine.specs.State.{viewOf, isWellFormed, withByte, hostStored, hostStoreOf, resetControl, resetOf}
+use Rattle.machine.specs.Advance.{Step, advancedOf}
+use Rattle.machine.specs.Step.{stepOf}
+use Rattle.machine.specs.Steps.{Run, joinedBy, continuedBy, stepsOf, requestsFit}
+use Rattle.machine.specs.Run.{refusedRun, runOf}
+use Rattle.machine.specs.Laws.{Does, stops, takes, idles, executes, StaysWellFormed}
 use Rattle.machine.proofs.StepDoes.{step-does, Tested, refuses, passes, step-tested}
 
 -- the machine after a step is well formed
@@ -52,19 +54,22 @@ module _ (image : List ℕ) (all : Bytes image) (m : Machine) (formed : isWellFo
 
   -- a step, refused or not
   by-test : (s : Step) → Tested image m request s → FormedStep s
-  by-test _ (refuses r) = formed
-  by-test _ (passes size w) = advance-formed size
+  by-test _ (refuses r why) = formed
+  by-test _ (passes size w sources) = advance-formed size
 
   by-step : FormedStep (stepOf image m request)
   by-step = by-test _ (step-tested image m request)
 
 -- a run, step by step
 module _ (image : List ℕ) (all : Bytes image) (requests : List ℕ) (m : Machine) (formed : isWellFormed m ≡ true) where
-  joined : (r : Run) (n : Machine) (a : Answer ℕ) → isWellFormed n ≡ true → isWellFormed (joinedBy r n a .machine) ≡ true
+  joined :
+      (r : Run) (n : Machine) (a : Answer ℕ) → isWellFormed n ≡ true → isWellFormed (joinedBy r n a .machine) ≡ true
   joined r n (done cycles) f = f
   joined r n (refused reason) f = f
 
-  continued : (r : Run) (request : ℕ) (ending : Ended) → isWellFormed (r .machine) ≡ true → isWellFormed (continuedBy image r request ending .machine) ≡ true
+  continued :
+      (r : Run) (request : ℕ) (ending : Ended) → isWellFormed (r .machine) ≡ true →
+      isWellFormed (continuedBy image r request ending .machine) ≡ true
   continued r request (done tt) f = joined r (stepOf image (r .machine) request .machine) (stepOf image (r .machine) request .answer) (by-step image all (r .machine) f request)
   continued r request (refused reason) f = f
 
@@ -77,7 +82,9 @@ module _ (image : List ℕ) (all : Bytes image) (requests : List ℕ) (m : Machi
   unfolding runOf
   by-run n = by-tests (isImage (length image)) (isWellFormed m) (leb n 65535) (requestsFit requests n)
     where
-      by-tests : (a b c d : Bool) → isWellFormed (unless a (refusedRun m (plain 1)) (unless b (refusedRun m (plain 2)) (unless c (refusedRun m (plain 12)) (unless d (refusedRun m (plain 11)) (stepsOf image requests m n)))) .machine) ≡ true
+      by-tests :
+          (a b c d : Bool) →
+          isWellFormed (unless a (refusedRun m (plain 1)) (unless b (refusedRun m (plain 2)) (unless c (refusedRun m (plain 12)) (unless d (refusedRun m (plain 11)) (stepsOf image requests m n)))) .machine) ≡ true
       by-tests false b c d = formed
       by-tests true false c d = formed
       by-tests true true false d = formed
@@ -88,7 +95,9 @@ by-store : (m : Machine) → isWellFormed m ≡ true → (a value : ℕ) → isW
 unfolding hostStoreOf
 by-store m formed a value = by-tests (isWellFormed m) (not (inWindow a))
   where
-    by-tests : (b c : Bool) → isWellFormed (unless b (hostStored m (refused (plain 2))) (unless c (hostStored m (refused (plain 10))) (hostStored (withByte m a value) (done tt))) .machine) ≡ true
+    by-tests :
+        (b c : Bool) →
+        isWellFormed (unless b (hostStored m (refused (plain 2))) (unless c (hostStored m (refused (plain 10))) (hostStored (withByte m a value) (done tt))) .machine) ≡ true
     by-tests false c = formed
     by-tests true false = formed
     by-tests true true = formed

@@ -16,57 +16,76 @@ use Rattle.control.specs.declared.Stop.the-variants as stop
 use Rattle.control.specs.declared.Transfer.{Transfer}
 use Rattle.control.specs.Stack.{Transferred, transferOf, popOf}
 use Rattle.control.specs.Transfers.{callOf, returnFromInterruptOf, advanceOf}
-use Rattle.control.proofs.Stopped.{call-keeps, pop-keeps, return-keeps}
+use Rattle.control.proofs.Stopped.{call-stops, pop-stops, return-stops}
 use Rattle.control.proofs.Stopped as control
 use Rattle.machine.specs.declared.Machine.{Machine}
 use Rattle.machine.specs.declared.Executed.{Executed}
 use Rattle.machine.specs.Pairs.{withPairOf}
-use Rattle.machine.specs.Execute.{Execution, executionOf, together, executeOf}
+use Rattle.machine.specs.Execute.{Execution, executionOf, executionBy, executeOf}
 use Rattle.machine.specs.State.{machineOf, viewOf}
-use Rattle.machine.specs.Step.{Step, doneOf, refusedOf, takenBy, completedOf}
+use Rattle.machine.specs.Advance.{Step, doneOf, refusedOf, takenBy, completedOf}
 
 -- it goes on, or data and stack are as they were
 abbrev pub Kept : Data → List ℕ → Execution → Type 0
 Kept d stack x = (x .stop ≡ stop.None) ⊎ ((x .space ≡ d) × (x .stack ≡ stack))
 
+-- Only CALL, RET and RETI stop, and they have no effect on data.
+pub data MayStop : Instruction → Type 0 where
+  is-call : (to : ℕ) → MayStop (I.Call to)
+  is-ret : MayStop I.Ret
+  is-reti : MayStop I.Reti
+  goes-on :
+      {i : Instruction} →
+      ((image : List ℕ) (d : Data) (stack : List ℕ) (c : Control) (next : ℕ) → executeOf image d stack c i next .stop ≡ stop.None) →
+      MayStop i
+
+pub may-stop : (i : Instruction) → MayStop i
+unfolding executeOf advanceOf flowOf
+may-stop (I.Call to) = is-call to
+may-stop I.Ret = is-ret
+may-stop I.Reti = is-reti
+may-stop (I.Jrnz e) = goes-on (λ image d stack c next. refl)
+may-stop (I.Jrnc e) = goes-on (λ image d stack c next. refl)
+may-stop (I.Jrz e) = goes-on (λ image d stack c next. refl)
+may-stop (I.Jrc e) = goes-on (λ image d stack c next. refl)
+may-stop (I.Jp t) = goes-on (λ image d stack c next. refl)
+may-stop (I.Jrr n a e) = goes-on (λ image d stack c next. refl)
+may-stop (I.Jrs n a e) = goes-on (λ image d stack c next. refl)
+may-stop (I.Res n a) = goes-on (λ image d stack c next. refl)
+may-stop (I.Set n a) = goes-on (λ image d stack c next. refl)
+may-stop (I.LoadA o) = goes-on (λ image d stack c next. refl)
+may-stop (I.StoreA o) = goes-on (λ image d stack c next. refl)
+may-stop (I.LoadAImmediate v) = goes-on (λ image d stack c next. refl)
+may-stop (I.LoadImmediate a v) = goes-on (λ image d stack c next. refl)
+may-stop (I.Inc o) = goes-on (λ image d stack c next. refl)
+may-stop (I.Dec o) = goes-on (λ image d stack c next. refl)
+may-stop (I.Add o) = goes-on (λ image d stack c next. refl)
+may-stop (I.AddImmediate v) = goes-on (λ image d stack c next. refl)
+may-stop (I.Sub o) = goes-on (λ image d stack c next. refl)
+may-stop (I.SubImmediate v) = goes-on (λ image d stack c next. refl)
+may-stop (I.And o) = goes-on (λ image d stack c next. refl)
+may-stop (I.AndImmediate v) = goes-on (λ image d stack c next. refl)
+may-stop (I.Cp o) = goes-on (λ image d stack c next. refl)
+may-stop (I.CpImmediate v) = goes-on (λ image d stack c next. refl)
+may-stop I.Com = goes-on (λ image d stack c next. refl)
+may-stop I.Rlc = goes-on (λ image d stack c next. refl)
+may-stop I.Stop = goes-on (λ image d stack c next. refl)
+may-stop I.Wait = goes-on (λ image d stack c next. refl)
+
 module _ (image : List ℕ) (d : Data) (stack : List ℕ) (c : Control) where
-  by-transfer : (t : Transferred) → control.Kept stack t → Kept d stack (together d t)
+  by-transfer : (t : Transferred) → control.Kept stack t → Kept d stack (executionBy d t)
   by-transfer t (inl e) = inl e
   by-transfer t (inr e) = inr (refl, e)
 
-  -- only CALL, RET and RETI stop, and they have no effect on data
-  pub execution-keeps : (i : Instruction) (next : ℕ) → Kept d stack (executeOf image d stack c i next)
+  by-kind : (i : Instruction) (next : ℕ) → MayStop i → Kept d stack (executeOf image d stack c i next)
   unfolding executeOf advanceOf flowOf effectOf
-  execution-keeps (I.Jrnz e) next = inl refl
-  execution-keeps (I.Jrnc e) next = inl refl
-  execution-keeps (I.Jrz e) next = inl refl
-  execution-keeps (I.Jrc e) next = inl refl
-  execution-keeps (I.Call t) next = by-transfer (callOf stack c t next) (call-keeps stack c t next)
-  execution-keeps (I.Jp t) next = inl refl
-  execution-keeps (I.Jrr n a e) next = inl refl
-  execution-keeps (I.Jrs n a e) next = inl refl
-  execution-keeps (I.Res n a) next = inl refl
-  execution-keeps (I.Set n a) next = inl refl
-  execution-keeps (I.LoadA o) next = inl refl
-  execution-keeps (I.StoreA o) next = inl refl
-  execution-keeps (I.LoadAImmediate v) next = inl refl
-  execution-keeps (I.LoadImmediate a v) next = inl refl
-  execution-keeps (I.Inc o) next = inl refl
-  execution-keeps (I.Dec o) next = inl refl
-  execution-keeps (I.Add o) next = inl refl
-  execution-keeps (I.AddImmediate v) next = inl refl
-  execution-keeps (I.Sub o) next = inl refl
-  execution-keeps (I.SubImmediate v) next = inl refl
-  execution-keeps (I.And o) next = inl refl
-  execution-keeps (I.AndImmediate v) next = inl refl
-  execution-keeps (I.Cp o) next = inl refl
-  execution-keeps (I.CpImmediate v) next = inl refl
-  execution-keeps I.Com next = inl refl
-  execution-keeps I.Rlc next = inl refl
-  execution-keeps I.Ret next = by-transfer (popOf stack c) (pop-keeps stack c)
-  execution-keeps I.Reti next = by-transfer (returnFromInterruptOf stack c next) (return-keeps stack c next)
-  execution-keeps I.Stop next = inl refl
-  execution-keeps I.Wait next = inl refl
+  by-kind _ next (is-call to) = by-transfer (callOf stack c to next) (call-stops stack c to next .kept)
+  by-kind _ next is-ret = by-transfer (popOf stack c) (pop-stops stack c .kept)
+  by-kind _ next is-reti = by-transfer (returnFromInterruptOf stack c next) (return-stops stack c next .kept)
+  by-kind i next (goes-on e) = inl (e image d stack c next)
+
+  pub execution-keeps : (i : Instruction) (next : ℕ) → Kept d stack (executeOf image d stack c i next)
+  execution-keeps i next = by-kind i next (may-stop i)
 
 -- a stop that is none of the others
 not-none : {s : Stop} → (s ≡ stop.None) → (s ≡ stop.Full) → ⊥
@@ -77,7 +96,9 @@ not-none-empty p q = let z : _≡_ {A = ℕ} 0 1 = cc in omega arith
 
 -- an instruction's end, from what the program was handed
 module _ (m : Machine) (cycles : ℕ) (x : Execution) (bytes stack : List ℕ) (r : Executed) (e : executionOf bytes stack r ≡ x) where
-  pub completed : r .stop ≡ stop.None → doneOf (machineOf (r .control) stack (withPairOf (m .flags) (m .control .mode) (r .flags)) bytes) cycles ≡ completedOf m cycles x
+  pub completed :
+      r .stop ≡ stop.None →
+      doneOf (machineOf (r .control) stack (withPairOf (m .flags) (m .control .mode) (r .flags)) bytes) cycles ≡ completedOf m cycles x
   unfolding completedOf
   completed h = rw (← e, h)
 
@@ -88,11 +109,15 @@ module _ (m : Machine) (cycles : ℕ) (x : Execution) (bytes stack : List ℕ) (
       let s : stack ≡ m .stack = ap (λ (y : Execution). y .stack) e ∙ k .1 in
       rw (b, s)
 
-  pub completed-full : Kept (viewOf m) (m .stack) x → r .stop ≡ stop.Full → refusedOf (machineOf (m .control) stack (m .flags) bytes) (located 6 (m .control .pc)) ≡ completedOf m cycles x
+  pub completed-full :
+      Kept (viewOf m) (m .stack) x → r .stop ≡ stop.Full →
+      refusedOf (machineOf (m .control) stack (m .flags) bytes) (located 6 (m .control .pc)) ≡ completedOf m cycles x
   unfolding completedOf
   completed-full k h = ap (λ (n : Machine). refusedOf n (located 6 (m .control .pc))) (same k (λ n. not-none n h)) ∙ rw (← e, h)
 
-  pub completed-empty : Kept (viewOf m) (m .stack) x → r .stop ≡ stop.Empty → refusedOf (machineOf (m .control) stack (m .flags) bytes) (located 7 (m .control .pc)) ≡ completedOf m cycles x
+  pub completed-empty :
+      Kept (viewOf m) (m .stack) x → r .stop ≡ stop.Empty →
+      refusedOf (machineOf (m .control) stack (m .flags) bytes) (located 7 (m .control .pc)) ≡ completedOf m cycles x
   unfolding completedOf
   completed-empty k h = ap (λ (n : Machine). refusedOf n (located 7 (m .control .pc))) (same k (λ n. not-none-empty n h)) ∙ rw (← e, h)
 
@@ -102,16 +127,21 @@ module _ (m : Machine) (t : Transferred) (stack : List ℕ) (r : Transfer) (e : 
   unfolding takenBy
   taken-done h = rw (← e, h)
 
-  same-taken : control.Kept (m .stack) t → (r .stop ≡ stop.None → ⊥) → machineOf (m .control) stack (m .flags) (m .bytes) ≡ m
+  same-taken :
+      control.Kept (m .stack) t → (r .stop ≡ stop.None → ⊥) → machineOf (m .control) stack (m .flags) (m .bytes) ≡ m
   same-taken (inl k) n = absurd (n (ap (λ (y : Transferred). y .stop) e ∙ k))
   same-taken (inr k) n =
       let s : stack ≡ m .stack = ap (λ (y : Transferred). y .stack) e ∙ k in
       rw s
 
-  pub taken-full : control.Kept (m .stack) t → r .stop ≡ stop.Full → refusedOf (machineOf (m .control) stack (m .flags) (m .bytes)) (located 6 (m .control .pc)) ≡ takenBy m t
+  pub taken-full :
+      control.Kept (m .stack) t → r .stop ≡ stop.Full →
+      refusedOf (machineOf (m .control) stack (m .flags) (m .bytes)) (located 6 (m .control .pc)) ≡ takenBy m t
   unfolding takenBy
   taken-full k h = ap (λ (n : Machine). refusedOf n (located 6 (m .control .pc))) (same-taken k (λ n. not-none n h)) ∙ rw (← e, h)
 
-  pub taken-empty : control.Kept (m .stack) t → r .stop ≡ stop.Empty → refusedOf (machineOf (m .control) stack (m .flags) (m .bytes)) (located 7 (m .control .pc)) ≡ takenBy m t
+  pub taken-empty :
+      control.Kept (m .stack) t → r .stop ≡ stop.Empty →
+      refusedOf (machineOf (m .control) stack (m .flags) (m .bytes)) (located 7 (m .control .pc)) ≡ takenBy m t
   unfolding takenBy
   taken-empty k h = ap (λ (n : Machine). refusedOf n (located 7 (m .control .pc))) (same-taken k (λ n. not-none-empty n h)) ∙ rw (← e, h)

@@ -1,5 +1,5 @@
--- One instruction: its effect on data and flags, and where its flow takes control. The two do not look at each other, but for the
--- condition of a branch.
+-- One instruction: its effect on data and flags, and where its flow takes control. The two do not look at each other,
+-- but for the condition of a branch.
 use Prim.Native.Nat.{ℕ}
 use mathlib.Core.Bool.{Bool, true, false, not}
 use mathlib.Core.List.{List}
@@ -47,13 +47,16 @@ pub record Execution : Type 0 where
 
 -- the program's answer, with the bytes and the stack that it was lent
 abbrev pub executionOf : (bytes stack : List ℕ) → Executed → Execution
-executionOf bytes stack r = record { space = dataOf bytes (r .flags); control = r .control; stack = stack; stop = r .stop }
+executionOf bytes stack r =
+    record { space = dataOf bytes (r .flags); control = r .control; stack = stack; stop = r .stop }
 
-abbrev pub together : Data → Transferred → Execution
-together d t = record { space = d; control = t .control; stack = t .stack; stop = t .stop }
+-- data and flags as an effect leaves them, control and stack as a transfer does
+abbrev pub executionBy : Data → Transferred → Execution
+executionBy d t = record { space = d; control = t .control; stack = t .stack; stop = t .stop }
 
 -- an instruction at PC, with its next address
-unfoldable pub executeOf : (image : List ℕ) → Data → (stack : List ℕ) → Control → Instruction → (next : ℕ) → Execution
+unfoldable pub executeOf :
+    (image : List ℕ) → Data → (stack : List ℕ) → Control → Instruction → (next : ℕ) → Execution
 executeOf image d stack c i next =
-    together (effectOf image d i)
+    executionBy (effectOf image d i)
     (advanceOf stack c (flowOf i (c .pc)) (jumpsOf image d (flowOf i (c .pc))) next)

@@ -1,8 +1,7 @@
--- What callers may rely on of step, run, host store and reset: claims about the definitions (document 01, "Modes, stack, sleep" and
--- "What each operation turns down").
+-- What callers may rely on of step, run, host store and reset: claims about the definitions (document 01, "Modes,
+-- stack, sleep" and "What each operation turns down").
 use Prim.Native.Nat.{ℕ, _+_, _≤_}
 use mathlib.Core.Path.{_≡_}
-use mathlib.Core.Logic.{_⊎_, _≢_}
 use mathlib.Core.Bool.{true, false}
 use mathlib.Core.List.{List, [], _∷_}
 use lib.ListN.{length, drop}
@@ -11,37 +10,22 @@ use Rattle.isa.specs.RoundTrip.{Bytes}
 use Rattle.isa.specs.Displacement.{forwardOf}
 use Rattle.isa.specs.ControlFlow.{flowOf}
 use Rattle.isa.specs.Rom.{isImage}
-use Rattle.isa.specs.Decode.{decodeAt}
-use Rattle.isa.specs.Decode as decode
 use Rattle.isa.specs.declared.Instruction.{Instruction}
 use Rattle.isa.specs.declared.Flow.the-variants as flow
 use Rattle.isa.specs.declared.Source.{Source}
-use Rattle.control.specs.declared.Mode.{Mode}
-use Rattle.control.specs.declared.Mode.the-variants.{Reset, Normal, Interrupt, NmiOverNormal, NmiOverInterrupt}
-use Rattle.control.specs.declared.Requested.the-variants.{Nothing, Taken}
 use Rattle.control.specs.declared.Stop.the-variants as stop
-use Rattle.control.specs.Stack.{Transferred}
-use Rattle.control.specs.Transfers.{atOf}
-use Rattle.control.specs.Requests.{requestedOf, takeOf}
+use Rattle.control.specs.Update.{withPc}
+use Rattle.control.specs.Requests.{takeOf}
 use Rattle.machine.specs.declared.Machine.{Machine}
-use Rattle.machine.specs.Pairs.{pairOf, withPairOf}
 use Rattle.machine.specs.Execute.{Execution, executeOf}
-use Rattle.machine.specs.State.{machineOf, viewOf, isWellFormed, hostStoreOf, resetOf}
-use Rattle.machine.specs.Step.{Step, doneOf, refusedOf, enabledOf, executedOf, advancedOf, stepOf}
-use Rattle.machine.specs.Step as step
-use Rattle.machine.specs.Run.{Run, runAt, stepsOf, requestsFit, runOf}
+use Rattle.machine.specs.State.{viewOf, isWellFormed, hostStoreOf, resetOf}
+use Rattle.machine.specs.Advance.{Step, doneOf, refusedOf, servedOf, afterOf, executedOf, advancedOf}
+use Rattle.machine.specs.Step.{stepOf}
+use Rattle.machine.specs.Steps.{Run, runAt, stepsOf, requestsFit}
+use Rattle.machine.specs.Run.{runOf}
+use Rattle.machine.specs.Refusals.{Takes, TakesNone, AtPc, StepStops}
 
--- the request that a step takes
-abbrev pub Takes : Machine → (request : ℕ) → Source → Type 0
-Takes m request source = requestedOf (m .control .mode) (enabledOf (m .bytes)) request ≡ Taken source
-
-abbrev pub TakesNone : Machine → (request : ℕ) → Type 0
-TakesNone m request = requestedOf (m .control .mode) (enabledOf (m .bytes)) request ≡ Nothing
-
--- the instruction at PC, with its bytes and cycles, and what executing it does
-abbrev pub AtPc : (image : List ℕ) → Machine → Instruction → (bytes cycles : ℕ) → Type 0
-AtPc image m i bytes cycles = decodeAt image (m .control .pc) ≡ done (decode.instruction i bytes cycles)
-
+-- what executing an instruction at PC does
 abbrev pub executionAt : (image : List ℕ) → Machine → Instruction → (bytes : ℕ) → Execution
 executionAt image m i bytes = executeOf image (viewOf m) (m .stack) (m .control) i (forwardOf (m .control .pc) bytes)
 
@@ -53,54 +37,41 @@ pub record IsStop (r : Numbered) : Type 0 where
   pub least : 4 ≤ number
   pub most : number ≤ 7
 
--- What a step that is not refused does: it stops and leaves the machine as it was, or takes a request in one cycle, or is idle in none,
--- or executes the instruction at PC in the cycles of the table, with its flags in the pair of the mode before it.
+-- What a step that is not refused does: it stops and leaves the machine as it was, or takes a request in one cycle,
+-- or is idle in none, or executes the instruction at PC in the cycles of the table
 pub data Does (image : List ℕ) (m : Machine) (request : ℕ) : Step → Type 0 where
-  stops : (r : Numbered) → IsStop r → Does image m request (refusedOf m r)
+  stops : (r : Numbered) → StepStops image m request r → Does image m request (refusedOf m r)
   takes :
       (source : Source) → Takes m request source → takeOf (m .stack) (m .control) source .stop ≡ stop.None →
-      Does image m request
-      (doneOf (machineOf (takeOf (m .stack) (m .control) source .control) (takeOf (m .stack) (m .control) source .stack) (m .flags) (m .bytes)) 1)
+      Does image m request (doneOf (servedOf m (takeOf (m .stack) (m .control) source)) 1)
   idles : TakesNone m request → m .control .asleep ≡ true → Does image m request (doneOf m 0)
   executes :
-      (i : Instruction) (bytes cycles : ℕ) → TakesNone m request → m .control .asleep ≡ false → AtPc image m i bytes cycles →
+      (i : Instruction) (bytes cycles : ℕ) → TakesNone m request → m .control .asleep ≡ false →
+      AtPc image m i bytes cycles →
       executionAt image m i bytes .stop ≡ stop.None →
-      Does image m request
-      (doneOf
-      (machineOf (executionAt image m i bytes .control) (executionAt image m i bytes .stack)
-      (withPairOf (m .flags) (m .control .mode) (executionAt image m i bytes .space .flags)) (executionAt image m i bytes .space .bytes)) cycles)
+      Does image m request (doneOf (afterOf m (executionAt image m i bytes)) cycles)
 
+-- proved by step-does, proofs/StepDoes
 abbrev pub StepDoes : Type 0
 StepDoes =
     (image : List ℕ) (m : Machine) (request : ℕ) → isImage (length image) ≡ true → isWellFormed m ≡ true →
     Does image m request (advancedOf image m request)
 
--- the three pairs, and which one a mode has in use
-abbrev pub pairNumber : Mode → ℕ
-pairNumber Normal = 1
-pairNumber Interrupt = 2
-pairNumber Reset = 3
-pairNumber NmiOverNormal = 3
-pairNumber NmiOverInterrupt = 3
-
--- a step changes only the flag pair of its own mode
-abbrev pub OtherPairsKept : Type 0
-OtherPairsKept =
-    (image : List ℕ) (m : Machine) (request : ℕ) (mode : Mode) → pairNumber (m .control .mode) ≢ pairNumber mode →
-    pairOf (stepOf image m request .machine .flags) mode ≡ pairOf (m .flags) mode
-
 -- a data instruction, whose flow is the next address, moves PC there, and leaves stack, mode, levels and sleep
 pub record GoesOn (image : List ℕ) (m : Machine) (i : Instruction) (bytes cycles : ℕ) : Type 0 where
-  pub control : executedOf image m i bytes cycles .machine .control ≡ atOf (m .control) (forwardOf (m .control .pc) bytes)
+  pub control :
+      executedOf image m i bytes cycles .machine .control ≡ withPc (m .control) (forwardOf (m .control .pc) bytes)
   pub stack : executedOf image m i bytes cycles .machine .stack ≡ m .stack
   pub answer : executedOf image m i bytes cycles .answer ≡ done cycles
 
+-- proved by data-goes-on, proofs/Laws
 abbrev pub DataGoesOn : Type 0
 DataGoesOn =
     (image : List ℕ) (m : Machine) (i : Instruction) (bytes cycles : ℕ) → flowOf i (m .control .pc) ≡ flow.Next →
     GoesOn image m i bytes cycles
 
 -- a machine that is well formed stays so under every operation; reset makes one of any machine
+-- proved by stays-well-formed, proofs/StaysWellFormed
 pub record StaysWellFormed : Type 0 where
   pub by-step :
       (image : List ℕ) → Bytes image → (m : Machine) → isWellFormed m ≡ true → (request : ℕ) →
@@ -111,7 +82,8 @@ pub record StaysWellFormed : Type 0 where
   pub by-run :
       (image : List ℕ) → Bytes image → (m : Machine) → isWellFormed m ≡ true → (requests : List ℕ) (n : ℕ) →
       isWellFormed (runOf image m requests n .machine) ≡ true
-  pub by-store : (m : Machine) → isWellFormed m ≡ true → (a value : ℕ) → isWellFormed (hostStoreOf m a value .machine) ≡ true
+  pub by-store :
+      (m : Machine) → isWellFormed m ≡ true → (a value : ℕ) → isWellFormed (hostStoreOf m a value .machine) ≡ true
   pub by-reset : (m : Machine) → isWellFormed (resetOf m) ≡ true
 
 -- so a run ends early only where a step stops, never with 1, 2 or 11 midway
@@ -119,9 +91,11 @@ abbrev pub StopsOnly : Ended → Type 0
 StopsOnly (done tt) = Unit {0}
 StopsOnly (refused r) = IsStop r
 
+-- proved by run-ends-by-stop, proofs/Laws
 abbrev pub RunEndsByStop : Type 0
 RunEndsByStop =
-    (image : List ℕ) → Bytes image → isImage (length image) ≡ true → (requests : List ℕ) (n : ℕ) → requestsFit requests n ≡ true →
+    (image : List ℕ) → Bytes image → isImage (length image) ≡ true → (requests : List ℕ) (n : ℕ) →
+    requestsFit requests n ≡ true →
     (m : Machine) → isWellFormed m ≡ true → StopsOnly (stepsOf image requests m n .report .ending)
 
 -- a run, and another on the machine that it leaves
@@ -129,7 +103,9 @@ abbrev pub followedBy : Run → Run → Run
 followedBy r s =
     runAt (s .machine) (r .report .steps + s .report .steps) (r .report .cycles + s .report .cycles) (s .report .ending)
 
--- "A run of n steps is n single steps": a run of one is the step, and a run of n + k is a run of n, then, where that completes, of k
+-- "A run of n steps is n single steps": a run of one is the step, and a run of n + k is a run of n, then, where that
+-- completes, of k
+-- proved by run-is-steps, proofs/Laws
 pub record RunIsSteps : Type 0 where
   pub one :
       (image : List ℕ) (m : Machine) (q : ℕ) (n : Machine) (cycles : ℕ) → stepOf image m q ≡ doneOf n cycles →
@@ -140,4 +116,5 @@ pub record RunIsSteps : Type 0 where
   pub more :
       (image requests : List ℕ) (m : Machine) (n k : ℕ) → stepsOf image requests m n .report .ending ≡ done tt →
       stepsOf image requests m (n + k)
-      ≡ followedBy (stepsOf image requests m n) (stepsOf image (drop n requests) (stepsOf image requests m n .machine) k)
+      ≡ followedBy (stepsOf image requests m n)
+      (stepsOf image (drop n requests) (stepsOf image requests m n .machine) k)

@@ -1,6 +1,10 @@
 pub mod Pairs
 pub mod Execute
 pub mod State
+pub mod Advance
 pub mod Step
+pub mod Steps
 pub mod Run
+pub mod Refusals
 pub mod Laws
+pub mod PairUse

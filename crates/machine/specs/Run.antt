@@ -1,78 +1,15 @@
--- A run (document 01, "Modes, stack, sleep" and "Run").
-use Prim.Native.Nat.{ℕ, zero, suc, _+_}
-use mathlib.Core.Bool.{Bool, true, cond, _&&_}
+-- A run (document 01, "Run").
+use Prim.Native.Nat.{ℕ}
 use mathlib.Core.List.{List}
-use lib.ListN.{getD, length}
+use lib.ListN.{length}
 use lib.Dec.{leb}
-use Rattle.isa.specs.Refusals.{Numbered, plain, Answer, Ended, done, refused, unless}
-use Rattle.isa.specs.Sources.{namesOnlySources}
+use Rattle.isa.specs.Refusals.{Numbered, plain, refused, unless}
 use Rattle.isa.specs.Rom.{isImage}
 use Rattle.machine.specs.declared.Machine.{Machine}
-use Rattle.machine.specs.declared.Report.{Report}
-use Rattle.machine.specs.declared.Progress.{Progress}
-use Rattle.machine.specs.declared.Ran.{Ran}
-use Rattle.machine.specs.State.{machineOf, isWellFormed, endedOf}
-use Rattle.machine.specs.Step.{Step, stepOf}
-use Rattle.machine.specs.Step as step
-
--- "reports steps completed and cycles", and how the run ended
-pub record Reported : Type 0 where
-  pub steps : ℕ
-  pub cycles : ℕ
-  pub ending : Ended
-
-abbrev pub reportOf : Report → Reported
-reportOf r = record { steps = r .steps; cycles = r .cycles; ending = endedOf (r .ending) }
-
--- the report of a run of one step, as the step's answer
-abbrev pub answerBy : (cycles : ℕ) → Ended → Answer ℕ
-answerBy cycles (done tt) = done cycles
-answerBy cycles (refused n) = refused n
-
-abbrev pub asAnswer : Reported → Answer ℕ
-asAnswer r = answerBy (r .cycles) (r .ending)
-
--- a machine after a run, and the run's report
-pub record Run : Type 0 where
-  pub machine : Machine
-  pub report : Reported
-
-abbrev pub ranOf : Ran → Run
-ranOf r = record { machine = r .machine; report = reportOf (r .report) }
-
--- the program's answer, with the bytes and the stack that it was lent
-abbrev pub progressAs : (bytes stack : List ℕ) → Progress → Run
-progressAs bytes stack p = record { machine = machineOf (p .control) stack (p .flags) bytes; report = reportOf (p .report) }
-
--- a machine and how far a run is, and how it ended
-abbrev pub runAt : Machine → (steps cycles : ℕ) → Ended → Run
-runAt m steps cycles ending = record { machine = m; report = record { steps = steps; cycles = cycles; ending = ending } }
-
--- a run and the step after it: a completed step counts, with its cycles; "It ends early only where a step stops"
-abbrev pub joinedBy : Run → Machine → Answer ℕ → Run
-joinedBy r m (done cycles) = runAt m (r .report .steps + 1) (r .report .cycles + cycles) (done tt)
-joinedBy r m (refused n) = runAt m (r .report .steps) (r .report .cycles) (refused n)
-
-abbrev pub joinedOf : Run → Step → Run
-joinedOf r s = joinedBy r (s .machine) (s .answer)
-
--- a run that has ended stays
-abbrev pub continuedBy : (image : List ℕ) → Run → (request : ℕ) → Ended → Run
-continuedBy image r request (done tt) = joinedOf r (stepOf image (r .machine) request)
-continuedBy image r request (refused n) = r
-
-abbrev pub continuedOf : (image : List ℕ) → Run → (request : ℕ) → Run
-continuedOf image r request = continuedBy image r request (r .report .ending)
-
--- "n single steps, with request byte i at step i and none past the lent list's end"
-unfoldable pub stepsOf : (image requests : List ℕ) → Machine → (n : ℕ) → Run
-stepsOf image requests m zero = runAt m 0 0 (done tt)
-stepsOf image requests m (suc n) = continuedOf image (stepsOf image requests m n) (getD requests n 0)
-
--- not "11 among the list's first n bytes"; past its end the byte is 0
-unfoldable pub requestsFit : (requests : List ℕ) → (n : ℕ) → Bool
-requestsFit requests zero = true
-requestsFit requests (suc n) = namesOnlySources (getD requests n 0) && requestsFit requests n
+use Rattle.machine.specs.State.{isWellFormed}
+use Rattle.machine.specs.Steps.{runAt}
+pub use Rattle.machine.specs.Steps.{reportOf, Run, ranOf, joinedBy, continuedBy, continuedOf}
+unfoldable pub use Rattle.machine.specs.Steps.{stepsOf, requestsFit}
 
 -- "these report 0 steps, 0 cycles"
 abbrev pub refusedRun : Machine → Numbered → Run

@@ -1,13 +1,13 @@
--- The machine as a whole: reset, a fresh machine, host store (document 01, "Modes, stack, sleep" and "What each operation turns down").
+-- The machine as a whole: reset, a fresh machine, host store (document 01, "Modes, stack, sleep" and "What each
+-- operation turns down").
 use Prim.Native.Nat.{ℕ}
-use mathlib.Core.Bool.{Bool, true, false, _&&_, not}
+use mathlib.Core.Bool.{Bool, false, not}
 use mathlib.Core.List.{List}
 use lib.ListN.{set, replicate}
-use lib.Dec.{ltb, leb}
 use Rattle.alu.specs.declared.Flags.{Flags}
 use Rattle.isa.specs.Refusals.{Numbered, plain, numbered, Ended, done, refused, unless}
 use Rattle.isa.specs.Sources.{resetVector}
-use Rattle.data.specs.Space.{storeOf}
+use Rattle.data.specs.Space.{inWindow, storeOf}
 use Rattle.data.specs.Effect.{Data, dataOf}
 use Rattle.control.specs.declared.Mode.the-variants.{Reset}
 use Rattle.control.specs.declared.Control.{Control}
@@ -66,10 +66,6 @@ hostStored m ending = record { machine = m; ending = ending }
 
 abbrev pub withByte : Machine → (a value : ℕ) → Machine
 withByte m a value = machineOf (m .control) (m .stack) (m .flags) (storeOf (m .bytes) a value)
-
--- "address in 40h–7Fh"
-abbrev pub inWindow : ℕ → Bool
-inWindow a = leb 0x40 a && ltb a 0x80
 
 -- "Host store: 2 ill-formed machine [..]; 10 address in 40h–7Fh"
 unfoldable pub hostStoreOf : Machine → (a value : ℕ) → HostStore

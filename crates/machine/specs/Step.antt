@@ -1,100 +1,27 @@
--- One step (document 01, "Modes, stack, sleep" and "Step").
+-- One step (document 01, "Step").
 use Prim.Native.Nat.{ℕ}
-use mathlib.Core.Bool.{Bool, true, false, cond}
 use mathlib.Core.List.{List}
-use lib.ListN.{getD, length}
-use Rattle.alu.specs.Alu.{bitOf}
-use Rattle.isa.specs.Refusals.{Numbered, plain, located, numbered, Answer, done, refused, unless}
-use Rattle.isa.specs.Displacement.{forwardOf}
+use lib.ListN.{length}
+use Rattle.isa.specs.Refusals.{plain, unless}
 use Rattle.isa.specs.Sources.{namesOnlySources}
 use Rattle.isa.specs.Rom.{isImage}
-use Rattle.isa.specs.Decode.{decodeAt}
-use Rattle.isa.specs.Decode as decode
-use Rattle.isa.specs.declared.Instruction.{Instruction}
-use Rattle.isa.specs.declared.Source.{Source}
-use Rattle.control.specs.declared.Stop.{Stop}
-use Rattle.control.specs.declared.Stop.the-variants as stop
-use Rattle.control.specs.declared.Requested.{Requested}
-use Rattle.control.specs.declared.Requested.the-variants.{Nothing, Taken}
-use Rattle.control.specs.Stack.{Transferred}
-use Rattle.control.specs.Requests.{requestedOf, takeOf}
 use Rattle.machine.specs.declared.Machine.{Machine}
-use Rattle.machine.specs.declared.StepAnswer.{StepAnswer}
-use Rattle.machine.specs.declared.StepAnswer.the-variants as answer
-use Rattle.machine.specs.declared.Advanced.{Advanced}
 use Rattle.machine.specs.declared.Stepped.{Stepped}
-use Rattle.machine.specs.Pairs.{withPairOf}
-use Rattle.machine.specs.Execute.{Execution, executeOf}
-use Rattle.machine.specs.State.{machineOf, viewOf, isWellFormed}
-
--- a step's answer by document 01's numbers: done in so many cycles, or refused or stopped
-abbrev pub answerOf : StepAnswer → Answer ℕ
-answerOf (answer.Done cycles) = done cycles
-answerOf (answer.Refused r) = refused (numbered r)
-
--- a machine after a step, and the step's answer
-pub record Step : Type 0 where
-  pub machine : Machine
-  pub answer : Answer ℕ
+use Rattle.machine.specs.State.{isWellFormed}
+pub use Rattle.machine.specs.Advance.{answerOf, Step, doneOf, refusedOf, enabledOf}
+unfoldable pub use Rattle.machine.specs.Advance.{
+  takenBy,
+  takenOf,
+  completedOf,
+  executedOf,
+  decodedOf,
+  uninterruptedOf,
+  respondOf,
+  advancedOf,
+}
 
 abbrev pub steppedOf : Stepped → Step
 steppedOf r = record { machine = r .machine; answer = answerOf (r .answer) }
-
--- the program's answer, with the bytes and the stack that it was lent
-abbrev pub advancedAs : (bytes stack : List ℕ) → Advanced → Step
-advancedAs bytes stack r = record { machine = machineOf (r .control) stack (r .flags) bytes; answer = answerOf (r .answer) }
-
-abbrev pub doneOf : Machine → (cycles : ℕ) → Step
-doneOf m cycles = record { machine = m; answer = done cycles }
-
--- "A refusal is a number, and leaves [..] machine untouched."
-abbrev pub refusedOf : Machine → Numbered → Step
-refusedOf m r = record { machine = m; answer = refused r }
-
--- by whether a stop is met: 6 and 7 give the address at PC
-abbrev pub stoppedOf : Machine → Stop → Step → Step
-stoppedOf m stop.None more = more
-stoppedOf m stop.Full more = refusedOf m (located 6 (m .control .pc))
-stoppedOf m stop.Empty more = refusedOf m (located 7 (m .control .pc))
-
--- "Taking one [..] costs one cycle, and is a step by itself."
-unfoldable pub takenBy : Machine → Transferred → Step
-takenBy m t = stoppedOf m (t .stop) (doneOf (machineOf (t .control) (t .stack) (m .flags) (m .bytes)) 1)
-
-unfoldable pub takenOf : Machine → Source → Step
-takenOf m source = takenBy m (takeOf (m .stack) (m .control) source)
-
--- an instruction's flags go to the pair of the mode before it
-unfoldable pub completedOf : Machine → (cycles : ℕ) → Execution → Step
-completedOf m cycles x =
-    stoppedOf m (x .stop)
-    (doneOf (machineOf (x .control) (x .stack) (withPairOf (m .flags) (m .control .mode) (x .space .flags)) (x .space .bytes)) cycles)
-
--- an instruction of so many bytes and cycles
-unfoldable pub executedOf : (image : List ℕ) → Machine → Instruction → (bytes cycles : ℕ) → Step
-executedOf image m i bytes cycles =
-    completedOf m cycles (executeOf image (viewOf m) (m .stack) (m .control) i (forwardOf (m .control .pc) bytes))
-
--- "4 and 5 as in decoding"
-unfoldable pub decodedOf : (image : List ℕ) → Machine → Answer decode.Decoding → Step
-decodedOf image m (done (decode.instruction i bytes cycles)) = executedOf image m i bytes cycles
-decodedOf image m (refused r) = refusedOf m r
-
--- "a sleeping step with nothing to take is idle, 0 cycles"; else the instruction at PC
-unfoldable pub unrequestedOf : (image : List ℕ) → Machine → Step
-unrequestedOf image m = cond (m .control .asleep) (doneOf m 0) (decodedOf image m (decodeAt image (m .control .pc)))
-
-unfoldable pub respondOf : (image : List ℕ) → Machine → Requested → Step
-respondOf image m (Taken source) = takenOf m source
-respondOf image m Nothing = unrequestedOf image m
-
--- "Bit 4 of 0C8h enables sources 1 to 4."
-abbrev pub enabledOf : (bytes : List ℕ) → Bool
-enabledOf bytes = bitOf (getD bytes 0xC8 0) 4
-
--- a step that is not refused
-unfoldable pub advancedOf : (image : List ℕ) → Machine → (request : ℕ) → Step
-advancedOf image m request = respondOf image m (requestedOf (m .control .mode) (enabledOf (m .bytes)) request)
 
 -- "Step: 1, 2, 11 (bit 5, 6 or 7 set in a request byte), then the stops"
 unfoldable pub stepOf : (image : List ℕ) → Machine → (request : ℕ) → Step

@@ -10,10 +10,13 @@ use control::Requested;
 use control::Stop;
 use control::requests::requested;
 use control::requests::take;
+use data::space::INTERRUPT_OPTION;
 use isa::Decoded;
 use isa::Instruction;
 use isa::Refusal;
 use isa::Source;
+use isa::decode::decode_in_range;
+use isa::displacement::forward;
 ghost use mathlib.Core.Path.{_≡_};
 ghost use mathlib.Core.List.{List};
 ghost use mathlib.Core.Bool.{true};
@@ -21,11 +24,18 @@ ghost use Prim.Native.Nat.{ℕ, _<_};
 ghost use lib.ListN.{length};
 ghost use Rattle.isa.specs.Refusals.{numbered};
 ghost use Rattle.isa.specs.Table.{Timings};
-ghost use Rattle.isa.specs.Lengths.{lengthOf};
 ghost use Rattle.isa.specs.Rom.{isImage};
-ghost use Rattle.isa.specs.Decode.{decodeAt};
 ghost use Rattle.machine.specs.State.{machineOf};
-ghost use Rattle.machine.specs.Step.{advancedAs, doneOf, refusedOf, takenOf, executedOf, decodedOf, unrequestedOf, enabledOf, advancedOf};
+ghost use Rattle.machine.specs.Advance.{
+  advancedAs,
+  doneOf,
+  refusedOf,
+  takenOf,
+  executedOf,
+  uninterruptedOf,
+  enabledOf,
+  advancedOf,
+};
 
 // A completed step.
 fn done(control: Control, flags: FlagPairs, cycles: u8) -> Advanced
@@ -71,12 +81,14 @@ fn executed(
     c: Control,
     flags: FlagPairs,
     instruction: Instruction,
+    length: u8,
     cycles: u8,
 ) -> Advanced
-    ensures { λ r. ⌜ advancedAs (now (bytes .exit)) (now (stack .exit)) r ≡ executedOf (now (image .entry)) (machineOf c (now (stack .entry)) flags (now (bytes .entry))) instruction (lengthOf instruction) cycles ⌝ }
+    ensures { λ r. ⌜ advancedAs (now (bytes .exit)) (now (stack .exit)) r ≡ executedOf (now (image .entry)) (machineOf c (now (stack .entry)) flags (now (bytes .entry))) instruction length cycles ⌝ }
 {
     let mode = c.mode;
-    let after = execute(image, bytes, stack, c, pair(flags, mode), instruction);
+    let next = forward(c.pc, length);
+    let after = execute(image, bytes, stack, c, pair(flags, mode), instruction, next);
     let stop = after.stop;
     let control = after.control;
     let pair_after = after.flags;
@@ -87,37 +99,16 @@ fn executed(
     }
 }
 
-// The instruction at PC; decoding's refusals are stops.
-fn instructed(
-    table: &[u8; 256],
-    image: &[u8],
-    bytes: &mut [u8; 256],
-    stack: &mut [u16; 6],
-    c: Control,
-    flags: FlagPairs,
-) -> Advanced
-    requires { ⌜ Timings (now table) × (isImage (length (now image)) ≡ true) × (c .pc < 4096) ⌝ }
-    ensures { λ r. ⌜ advancedAs (now (bytes .exit)) (now (stack .exit)) r ≡ decodedOf (now (image .entry)) (machineOf c (now (stack .entry)) flags (now (bytes .entry))) (decodeAt (now (image .entry)) (c .pc)) ⌝ }
-{
-    match isa::decode::decode_in_range(table, image, c.pc) {
-        Decoded::Refused(reason) => stopped(c, flags, reason),
-        Decoded::Valid {
-            instruction,
-            length: _,
-            cycles,
-        } => executed(image, bytes, stack, c, flags, instruction, cycles),
-    }
-}
-
 // Bit 4 of 0C8h enables sources 1 to 4.
 fn is_enabled(bytes: &[u8; 256]) -> bool
     ensures { λ r. ⌜ r ≡ enabledOf (now (bytes .entry)) ⌝ }
 {
-    alu::bit(bytes[0xC8], 4)
+    alu::bit(bytes[INTERRUPT_OPTION], 4)
 }
 
-// A step with no request taken: idle asleep, else an instruction.
-fn unrequested(
+// A step that takes no request: idle asleep, else the instruction at PC. PC goes by the length that decoding answers; decoding's
+// refusals are stops.
+fn uninterrupted(
     table: &[u8; 256],
     image: &[u8],
     bytes: &mut [u8; 256],
@@ -126,12 +117,19 @@ fn unrequested(
     flags: FlagPairs,
 ) -> Advanced
     requires { ⌜ Timings (now table) × (isImage (length (now image)) ≡ true) × (c .pc < 4096) ⌝ }
-    ensures { λ r. ⌜ advancedAs (now (bytes .exit)) (now (stack .exit)) r ≡ unrequestedOf (now (image .entry)) (machineOf c (now (stack .entry)) flags (now (bytes .entry))) ⌝ }
+    ensures { λ r. ⌜ advancedAs (now (bytes .exit)) (now (stack .exit)) r ≡ uninterruptedOf (now (image .entry)) (machineOf c (now (stack .entry)) flags (now (bytes .entry))) ⌝ }
 {
     if c.asleep {
         return done(c, flags, 0);
     }
-    instructed(table, image, bytes, stack, c, flags)
+    match decode_in_range(table, image, c.pc) {
+        Decoded::Refused(reason) => return stopped(c, flags, reason),
+        Decoded::Valid {
+            instruction,
+            length,
+            cycles,
+        } => executed(image, bytes, stack, c, flags, instruction, length, cycles),
+    }
 }
 
 // One step that is not refused.
@@ -150,6 +148,6 @@ pub fn advance(
     let mode = c.mode;
     match requested(mode, is_enabled(bytes), request) {
         Requested::Taken(source) => taken(stack, c, flags, source),
-        Requested::Nothing => unrequested(table, image, bytes, stack, c, flags),
+        Requested::Nothing => uninterrupted(table, image, bytes, stack, c, flags),
     }
 }

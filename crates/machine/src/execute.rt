@@ -4,29 +4,25 @@ use alu::Flags;
 use control::Control;
 use control::Stop;
 use control::Transfer;
-use control::transfers::at;
+use control::stack::pop;
+use control::transfers::branch;
 use control::transfers::call;
-use control::transfers::long;
-use control::transfers::pop;
 use control::transfers::return_from_interrupt;
-use control::transfers::short;
 use control::transfers::sleep;
 use isa::Instruction;
-use isa::displacement::forward;
-use isa::lengths::length_of;
+use isa::displacement::long_target;
+use isa::displacement::short_target;
 ghost use mathlib.Core.Path.{_≡_};
 ghost use mathlib.Core.List.{List};
 ghost use Prim.Native.Nat.{ℕ};
-ghost use Rattle.isa.specs.Displacement.{forwardOf};
-ghost use Rattle.isa.specs.Lengths.{lengthOf};
 ghost use Rattle.data.specs.Effect.{dataOf, effectOf};
 ghost use Rattle.control.specs.Stack.{transferOf, goesOn};
-ghost use Rattle.control.specs.Transfers.{atOf};
-ghost use Rattle.machine.specs.Execute.{executionOf, together, executeOf};
+ghost use Rattle.control.specs.Update.{withPc};
+ghost use Rattle.machine.specs.Execute.{executionOf, executionBy, executeOf};
 
 // Control goes on.
-fn going(control: Control, flags: Flags) -> Executed
-    ensures { λ r. ⌜ ((bytes stack : List ℕ) → executionOf bytes stack r ≡ together (dataOf bytes flags) (goesOn stack control)) ⌝ }
+fn goes_on(control: Control, flags: Flags) -> Executed
+    ensures { λ r. ⌜ ((bytes stack : List ℕ) → executionOf bytes stack r ≡ executionBy (dataOf bytes flags) (goesOn stack control)) ⌝ }
 {
     Executed {
         control,
@@ -37,7 +33,7 @@ fn going(control: Control, flags: Flags) -> Executed
 
 // Control is transferred by way of the stack.
 fn transferred(t: Transfer, flags: Flags) -> Executed
-    ensures { λ r. ⌜ ((bytes stack : List ℕ) → executionOf bytes stack r ≡ together (dataOf bytes flags) (transferOf stack t)) ⌝ }
+    ensures { λ r. ⌜ ((bytes stack : List ℕ) → executionOf bytes stack r ≡ executionBy (dataOf bytes flags) (transferOf stack t)) ⌝ }
 {
     let control = t.control;
     let stop = t.stop;
@@ -55,14 +51,15 @@ fn on_data(
     c: Control,
     flags: Flags,
     instruction: Instruction,
+    next: u16,
 ) -> Executed
-    ensures { λ r. ⌜ ((stack : List ℕ) → executionOf (now (bytes .exit)) stack r ≡ together (effectOf (now (image .entry)) (dataOf (now (bytes .entry)) flags) instruction) (goesOn stack (atOf c (forwardOf (c .pc) (lengthOf instruction))))) ⌝ }
+    ensures { λ r. ⌜ ((stack : List ℕ) → executionOf (now (bytes .exit)) stack r ≡ executionBy (effectOf (now (image .entry)) (dataOf (now (bytes .entry)) flags) instruction) (goesOn stack (withPc c next))) ⌝ }
 {
     let after = data::effect::effect(image, bytes, flags, instruction);
-    let next = forward(c.pc, length_of(instruction));
-    going(at(c, next), after)
+    goes_on(c.with_pc(next), after)
 }
 
+// An instruction at PC; `next` is the address after it.
 pub fn execute(
     image: &[u8],
     bytes: &mut [u8; 256],
@@ -70,28 +67,32 @@ pub fn execute(
     c: Control,
     flags: Flags,
     instruction: Instruction,
+    next: u16,
 ) -> Executed
-    ensures { λ r. ⌜ executionOf (now (bytes .exit)) (now (stack .exit)) r ≡ executeOf (now (image .entry)) (dataOf (now (bytes .entry)) flags) (now (stack .entry)) c instruction (forwardOf (c .pc) (lengthOf instruction)) ⌝ }
+    ensures { λ r. ⌜ executionOf (now (bytes .exit)) (now (stack .exit)) r ≡ executeOf (now (image .entry)) (dataOf (now (bytes .entry)) flags) (now (stack .entry)) c instruction next ⌝ }
 {
     match instruction {
-        Instruction::Jrnz(d) => going(short(c, !flags.zero, d), flags),
-        Instruction::Jrnc(d) => going(short(c, !flags.carry, d), flags),
-        Instruction::Jrz(d) => going(short(c, flags.zero, d), flags),
-        Instruction::Jrc(d) => going(short(c, flags.carry, d), flags),
-        Instruction::Call(to) => transferred(call(stack, c, to), flags),
-        Instruction::Jp(to) => going(at(c, to), flags),
+        Instruction::Jrnz(d) => goes_on(branch(c, !flags.zero, short_target(c.pc, d), next), flags),
+        Instruction::Jrnc(d) => goes_on(
+            branch(c, !flags.carry, short_target(c.pc, d), next),
+            flags,
+        ),
+        Instruction::Jrz(d) => goes_on(branch(c, flags.zero, short_target(c.pc, d), next), flags),
+        Instruction::Jrc(d) => goes_on(branch(c, flags.carry, short_target(c.pc, d), next), flags),
+        Instruction::Call(to) => transferred(call(stack, c, to, next), flags),
+        Instruction::Jp(to) => goes_on(c.with_pc(to), flags),
         Instruction::Jrr(bit, address, d) => {
             let after = data::effect::test_bit(image, bytes, flags.zero, address, bit);
-            going(long(c, !after.carry, d), after)
+            goes_on(branch(c, !after.carry, long_target(c.pc, d), next), after)
         }
         Instruction::Jrs(bit, address, d) => {
             let after = data::effect::test_bit(image, bytes, flags.zero, address, bit);
-            going(long(c, after.carry, d), after)
+            goes_on(branch(c, after.carry, long_target(c.pc, d), next), after)
         }
         Instruction::Ret => transferred(pop(stack, c), flags),
-        Instruction::Reti => transferred(return_from_interrupt(stack, c), flags),
-        Instruction::Stop => going(sleep(c), flags),
-        Instruction::Wait => going(sleep(c), flags),
-        _ => on_data(image, bytes, c, flags, instruction),
+        Instruction::Reti => transferred(return_from_interrupt(stack, c, next), flags),
+        Instruction::Stop => goes_on(sleep(c, next), flags),
+        Instruction::Wait => goes_on(sleep(c, next), flags),
+        _ => on_data(image, bytes, c, flags, instruction, next),
     }
 }

@@ -5,6 +5,7 @@ mod pairs;
 pub mod run;
 pub mod state;
 pub mod step;
+mod steps;
 
 use alu::Flags;
 use control::Control;

@@ -7,38 +7,67 @@ use alu::Flags;
 use control::Control;
 use control::Mode;
 use control::well_formed::is_well_formed;
+use data::space::INTERRUPT_OPTION;
+use data::space::ROM_WINDOW;
+use data::space::is_window;
 use isa::Refusal;
 use isa::sources::RESET_VECTOR;
 ghost use mathlib.Core.Path.{_≡_};
 ghost use Rattle.isa.specs.Refusals.{numbered, done, refused};
-ghost use Rattle.machine.specs.State.{withByte, storedOf, resetOf, freshOf, hostStored, hostStoreOf};
+ghost use Rattle.machine.specs.State.{withByte, storedOf, resetControl, clearedPairs, resetOf, freshOf, hostStored, hostStoreOf};
 
-// Reset keeps all data but 0C8h and 0C9h. The slots of the stack are cleared too, so that a fresh machine is one value.
-pub fn reset(m: Machine) -> Machine
-    ensures { λ r. ⌜ r ≡ resetOf m ⌝ }
+// Control after reset.
+fn reset_control() -> Control
+    ensures { λ r. ⌜ r ≡ resetControl ⌝ }
+{
+    Control {
+        pc: RESET_VECTOR,
+        levels: 0,
+        mode: Mode::Reset,
+        asleep: false,
+    }
+}
+
+// Six flags cleared.
+fn cleared_pairs() -> FlagPairs
+    ensures { λ r. ⌜ r ≡ clearedPairs ⌝ }
 {
     let cleared = Flags {
         zero: false,
         carry: false,
     };
+    FlagPairs {
+        normal: cleared,
+        interrupt: cleared,
+        nmi: cleared,
+    }
+}
+
+// Reset keeps all data but 0C8h and 0C9h. The slots of the stack are cleared too, so that a fresh machine is one value.
+pub fn reset(m: Machine) -> Machine
+    ensures { λ r. ⌜ r ≡ resetOf m ⌝ }
+{
     let mut bytes = m.bytes;
-    bytes[0xC8] = 0;
-    bytes[0xC9] = 0;
+    bytes[INTERRUPT_OPTION] = 0;
+    bytes[ROM_WINDOW] = 0;
     Machine {
-        control: Control {
-            pc: RESET_VECTOR,
-            levels: 0,
-            mode: Mode::Reset,
-            asleep: false,
-        },
+        control: reset_control(),
         stack: [0; 6],
-        flags: FlagPairs {
-            normal: cleared,
-            interrupt: cleared,
-            nmi: cleared,
-        },
+        flags: cleared_pairs(),
         bytes,
     }
+}
+
+// A fresh machine: a reset one with all data 0.
+pub fn fresh() -> Machine
+    ensures { λ r. ⌜ r ≡ freshOf ⌝ }
+{
+    reset(Machine {
+        control: reset_control(),
+        stack: [0; 6],
+        flags: cleared_pairs(),
+        bytes: [0; 256],
+    })
 }
 
 fn stored(m: Machine, address: u8, value: u8) -> Stored
@@ -60,7 +89,7 @@ fn stored(m: Machine, address: u8, value: u8) -> Stored
     }
 }
 
-fn unstored(m: Machine, refusal: Refusal) -> Stored
+fn refused_store(m: Machine, refusal: Refusal) -> Stored
     ensures { λ r. ⌜ storedOf r ≡ hostStored m (refused (numbered refusal)) ⌝ }
 {
     Stored {
@@ -76,38 +105,10 @@ pub fn host_store(m: Machine, address: u8, value: u8) -> Stored
     let control = m.control;
     let stack = m.stack;
     if !is_well_formed(&stack, control) {
-        return unstored(m, Refusal::IllFormedMachine);
+        return refused_store(m, Refusal::IllFormedMachine);
     }
-    if address < 0x40 {
-        return stored(m, address, value);
-    }
-    if address < 0x80 {
-        return unstored(m, Refusal::WindowAddress);
+    if is_window(address) {
+        return refused_store(m, Refusal::WindowAddress);
     }
     stored(m, address, value)
-}
-
-// A fresh machine: a reset one with all data 0.
-pub fn fresh() -> Machine
-    ensures { λ r. ⌜ r ≡ freshOf ⌝ }
-{
-    let cleared = Flags {
-        zero: false,
-        carry: false,
-    };
-    reset(Machine {
-        control: Control {
-            pc: RESET_VECTOR,
-            levels: 0,
-            mode: Mode::Reset,
-            asleep: false,
-        },
-        stack: [0; 6],
-        flags: FlagPairs {
-            normal: cleared,
-            interrupt: cleared,
-            nmi: cleared,
-        },
-        bytes: [0; 256],
-    })
 }

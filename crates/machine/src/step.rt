@@ -4,7 +4,7 @@ use crate::Machine;
 use crate::Report;
 use crate::StepAnswer;
 use crate::Stepped;
-use crate::run::on_copy;
+use crate::steps::on_copy;
 use control::well_formed::is_well_formed;
 use isa::Refusal;
 use isa::rom::is_image_length;
@@ -12,8 +12,9 @@ use isa::sources::names_only_sources;
 ghost use mathlib.Core.Path.{_≡_};
 ghost use Prim.Native.Nat.{_≤_};
 ghost use Rattle.isa.specs.Refusals.{numbered};
-ghost use Rattle.machine.specs.Step.{steppedOf, answerOf, refusedOf, stepOf};
-ghost use Rattle.machine.specs.Run.{reportOf, asAnswer};
+ghost use Rattle.machine.specs.Advance.{answerOf, refusedOf};
+ghost use Rattle.machine.specs.Step.{steppedOf, stepOf};
+ghost use Rattle.machine.specs.Steps.{reportOf, asAnswer};
 
 // A run's report as a step's answer.
 fn step_answer(report: Report) -> StepAnswer

@@ -10,28 +10,31 @@ beneath-requires c κs = search needs
 ends-start-up-requires : tie.Need-ends-start-up-requires
 ends-start-up-requires c κs = search needs
 
-forward-requires : tie.Need-forward-requires
-forward-requires c κs = search needs
+with-pc-requires : tie.Need-with-pc-requires
+with-pc-requires c κs = search needs
 
-at-requires : tie.Need-at-requires
-at-requires c κs = search needs
-
-in-mode-requires : tie.Need-in-mode-requires
-in-mode-requires c κs = search needs
+with-mode-requires : tie.Need-with-mode-requires
+with-mode-requires c κs = search needs
 
 returns : tie.Need-returns
 unfolding returnFromInterruptOf
-returns c = rw (c .in-mode .ensures, c .before .at .ensures, c .before .before .forward .ensures, c .before .before .before .before .before .beneath .ensures, ← c .before .before .before .before .ends-start-up .ensures, c .before .before .before .if1 .taken)
+returns c =
+    let k = c .before .before .before in
+    rw (c .with-mode .ensures, c .before .with-pc .ensures, k .before .beneath .ensures, ← k .ends-start-up .ensures)
+    (rw (c .before .before .if1 .taken))
 
 pop-requires : tie.Need-pop-requires
 pop-requires c κs = search needs
 
-in-mode-requires-2 : tie.Need-in-mode-requires-2
-in-mode-requires-2 c κs = search needs
+with-mode-requires-2 : tie.Need-with-mode-requires-2
+with-mode-requires-2 c κs = search needs
 
 returns-2 : tie.Need-returns-2
 unfolding returnFromInterruptOf
-returns-2 c = rw (c .in-mode2 .ensures, c .before .before .before .before .before .beneath .ensures, ← c .before .before .before .before .ends-start-up .ensures, c .before .before .before .if1 .left, ← c .before .before .pop .ensures)
+returns-2 c =
+    let k = c .before .before .before .before in
+    rw (c .with-mode2 .ensures, k .before .beneath .ensures, ← k .ends-start-up .ensures)
+    (rw (c .before .before .before .if1 .left, ← c .before .before .pop .ensures))
 
 pub return-from-interrupt-spec : {M : Type 1} → statement M
 return-from-interrupt-spec =
@@ -39,10 +42,9 @@ return-from-interrupt-spec =
     (tie.spec
     beneath-requires
     ends-start-up-requires
-    forward-requires
-    at-requires
-    in-mode-requires
+    with-pc-requires
+    with-mode-requires
     returns
     pop-requires
-    in-mode-requires-2
+    with-mode-requires-2
     returns-2)

@@ -9,11 +9,11 @@ accumulator-requires c κs = search needs
 added-requires : tie.Need-added-requires
 added-requires c κs = search needs
 
-put-requires : tie.Need-put-requires
-put-requires c κs = search needs
+store-result-requires : tie.Need-store-result-requires
+store-result-requires c κs = search needs
 
 returns : tie.Need-returns
-returns c = rw (c .put .ensures, c .before .before .added .ensures, c .before .before .before .accumulator .ensures)
+returns c = rw (c .store-result .ensures, c .before .before .added .ensures, c .before .before .before .accumulator .ensures)
 
 pub add-spec : {M : Type 1} → statement M
-add-spec = tie.close (tie.spec accumulator-requires added-requires put-requires returns)
+add-spec = tie.close (tie.spec accumulator-requires added-requires store-result-requires returns)

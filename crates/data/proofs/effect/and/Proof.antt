@@ -9,11 +9,11 @@ accumulator-requires c κs = search needs
 anded-requires : tie.Need-anded-requires
 anded-requires c κs = search needs
 
-put-requires : tie.Need-put-requires
-put-requires c κs = search needs
+store-result-requires : tie.Need-store-result-requires
+store-result-requires c κs = search needs
 
 returns : tie.Need-returns
-returns c = rw (c .put .ensures, c .before .before .anded .ensures, c .before .before .before .accumulator .ensures)
+returns c = rw (c .store-result .ensures, c .before .before .anded .ensures, c .before .before .before .accumulator .ensures)
 
 pub and-spec : {M : Type 1} → statement M
-and-spec = tie.close (tie.spec accumulator-requires anded-requires put-requires returns)
+and-spec = tie.close (tie.spec accumulator-requires anded-requires store-result-requires returns)

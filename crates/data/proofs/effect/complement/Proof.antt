@@ -9,12 +9,12 @@ accumulator-requires c κs = search needs
 complemented-requires : tie.Need-complemented-requires
 complemented-requires c κs = search needs
 
-put-requires : tie.Need-put-requires
-put-requires c κs = search needs
+store-result-requires : tie.Need-store-result-requires
+store-result-requires c κs = search needs
 
 returns : tie.Need-returns
-returns c = rw (c .put .ensures, c .before .before .complemented .ensures, c .before .before .before .accumulator .ensures)
+returns c = rw (c .store-result .ensures, c .before .before .complemented .ensures, c .before .before .before .accumulator .ensures)
 
 pub complement-spec : {M : Type 1} → statement M
 complement-spec =
-    tie.close (tie.spec accumulator-requires complemented-requires put-requires returns)
+    tie.close (tie.spec accumulator-requires complemented-requires store-result-requires returns)

@@ -9,11 +9,11 @@ read-requires c κs = search needs
 decremented-requires : tie.Need-decremented-requires
 decremented-requires c κs = search needs
 
-put-requires : tie.Need-put-requires
-put-requires c κs = search needs
+store-result-requires : tie.Need-store-result-requires
+store-result-requires c κs = search needs
 
 returns : tie.Need-returns
-returns c = rw (c .put .ensures, c .before .before .decremented .ensures, c .before .before .before .read .ensures)
+returns c = rw (c .store-result .ensures, c .before .before .decremented .ensures, c .before .before .before .read .ensures)
 
 pub decrement-spec : {M : Type 1} → statement M
-decrement-spec = tie.close (tie.spec read-requires decremented-requires put-requires returns)
+decrement-spec = tie.close (tie.spec read-requires decremented-requires store-result-requires returns)

@@ -9,11 +9,11 @@ read-requires c κs = search needs
 incremented-requires : tie.Need-incremented-requires
 incremented-requires c κs = search needs
 
-put-requires : tie.Need-put-requires
-put-requires c κs = search needs
+store-result-requires : tie.Need-store-result-requires
+store-result-requires c κs = search needs
 
 returns : tie.Need-returns
-returns c = rw (c .put .ensures, c .before .before .incremented .ensures, c .before .before .before .read .ensures)
+returns c = rw (c .store-result .ensures, c .before .before .incremented .ensures, c .before .before .before .read .ensures)
 
 pub increment-spec : {M : Type 1} → statement M
-increment-spec = tie.close (tie.spec read-requires incremented-requires put-requires returns)
+increment-spec = tie.close (tie.spec read-requires incremented-requires store-result-requires returns)

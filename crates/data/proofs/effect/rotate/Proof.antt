@@ -9,11 +9,11 @@ accumulator-requires c κs = search needs
 rotated-requires : tie.Need-rotated-requires
 rotated-requires c κs = search needs
 
-put-requires : tie.Need-put-requires
-put-requires c κs = search needs
+store-result-requires : tie.Need-store-result-requires
+store-result-requires c κs = search needs
 
 returns : tie.Need-returns
-returns c = rw (c .put .ensures, c .before .before .rotated .ensures, c .before .before .before .accumulator .ensures)
+returns c = rw (c .store-result .ensures, c .before .before .rotated .ensures, c .before .before .before .accumulator .ensures)
 
 pub rotate-spec : {M : Type 1} → statement M
-rotate-spec = tie.close (tie.spec accumulator-requires rotated-requires put-requires returns)
+rotate-spec = tie.close (tie.spec accumulator-requires rotated-requires store-result-requires returns)

@@ -9,11 +9,11 @@ accumulator-requires c κs = search needs
 result-requires : tie.Need-result-requires
 result-requires c κs = search needs
 
-put-requires : tie.Need-put-requires
-put-requires c κs = search needs
+store-result-requires : tie.Need-store-result-requires
+store-result-requires c κs = search needs
 
 returns : tie.Need-returns
-returns c = rw (c .put .ensures, c .before .before .result .ensures, c .before .before .before .accumulator .ensures)
+returns c = rw (c .store-result .ensures, c .before .before .result .ensures, c .before .before .before .accumulator .ensures)
 
 pub store-a-spec : {M : Type 1} → statement M
-store-a-spec = tie.close (tie.spec accumulator-requires result-requires put-requires returns)
+store-a-spec = tie.close (tie.spec accumulator-requires result-requires store-result-requires returns)

@@ -9,11 +9,11 @@ accumulator-requires c κs = search needs
 subtracted-requires : tie.Need-subtracted-requires
 subtracted-requires c κs = search needs
 
-put-requires : tie.Need-put-requires
-put-requires c κs = search needs
+store-result-requires : tie.Need-store-result-requires
+store-result-requires c κs = search needs
 
 returns : tie.Need-returns
-returns c = rw (c .put .ensures, c .before .before .subtracted .ensures, c .before .before .before .accumulator .ensures)
+returns c = rw (c .store-result .ensures, c .before .before .subtracted .ensures, c .before .before .before .accumulator .ensures)
 
 pub subtract-spec : {M : Type 1} → statement M
-subtract-spec = tie.close (tie.spec accumulator-requires subtracted-requires put-requires returns)
+subtract-spec = tie.close (tie.spec accumulator-requires subtracted-requires store-result-requires returns)

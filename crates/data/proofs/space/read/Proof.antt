@@ -1,23 +1,23 @@
 -- `space::read` meets its contract.
 use borrow.Author.Needs.{needs}
-use borrow.Author.Tests.{lt-ltb, le-ltb, le-leb, lt-leb}
+use native.Mathlib.Omega.{arith}
+use borrow.Author.Tests.{not-true, not-false}
 use Rattle.data.specs.Space.{readOf}
+use Rattle.data.proofs.Window.{window-low}
 use Rattle.data.proofs.space.read.Statement.{statement}
 use Rattle.data.proofs.space.read.Tie as tie
+
+is-window-requires : tie.Need-is-window-requires
+is-window-requires c κs = search needs
 
 element-copy-out-result : tie.Need-element-copy-out-result
 element-copy-out-result c = search needs
 
 returns : tie.Need-returns
 unfolding readOf
-returns c = rw (lt-ltb _ _ (c .before .if1 .taken))
-
-element-copy-out-result-2 : tie.Need-element-copy-out-result-2
-element-copy-out-result-2 c = search needs
-
-returns-2 : tie.Need-returns-2
-unfolding readOf
-returns-2 c = rw (le-ltb _ _ (c .before .before .if1 .left), le-leb _ _ (c .before .if2 .taken))
+returns c =
+    let k = c .before .before in
+    rw (← k .is-window .ensures, not-true (k .is-window .result) (c .before .if1 .taken))
 
 element-copy-out-window : tie.Need-element-copy-out-window
 element-copy-out-window c = search needs
@@ -28,6 +28,15 @@ cast-shown c = search needs
 mul-shown : tie.Need-mul-shown
 mul-shown c = search needs
 
+sub-shown : tie.Need-sub-shown
+sub-shown c =
+    let k = c .before .before in
+    omega (
+      arith,
+      window-low (k .before .before .args .address) (k .is-window .result) (k .is-window .ensures)
+          (not-false (k .is-window .result) (c .before .if1 .left)),
+    )
+
 cast-shown-2 : tie.Need-cast-shown-2
 cast-shown-2 c = search needs
 
@@ -37,22 +46,24 @@ add-shown c = search needs
 shown-requires : tie.Need-shown-requires
 shown-requires c κs = search needs
 
-returns-3 : tie.Need-returns-3
+returns-2 : tie.Need-returns-2
 unfolding readOf
-returns-3 c = rw (c .shown .ensures, le-ltb _ _ (c .before .before .before .if1 .left), lt-leb _ _ (c .before .before .if2 .left))
+returns-2 c =
+    let k = c .before .before .before in
+    rw (c .shown .ensures, ← k .is-window .ensures, not-false (k .is-window .result) (c .before .before .if1 .left))
 
 pub read-spec : {M : Type 1} → statement M
 read-spec =
     tie.close
     (tie.spec
+    is-window-requires
     element-copy-out-result
     returns
-    element-copy-out-result-2
-    returns-2
     element-copy-out-window
     cast-shown
     mul-shown
+    sub-shown
     cast-shown-2
     add-shown
     shown-requires
-    returns-3)
+    returns-2)

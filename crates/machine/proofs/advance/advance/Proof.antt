@@ -1,6 +1,6 @@
 -- `advance::advance` meets its contract.
 use borrow.Author.Needs.{needs}
-use Rattle.machine.specs.Step.{respondOf, advancedOf}
+use Rattle.machine.specs.Advance.{respondOf, advancedOf}
 use Rattle.machine.proofs.advance.advance.Statement.{statement}
 use Rattle.machine.proofs.advance.advance.Tie as tie
 
@@ -19,16 +19,22 @@ taken-requires c κs = search needs
 enum-told : tie.Need-enum-told
 enum-told c = search needs
 
-unrequested-requires : tie.Need-unrequested-requires
-unrequested-requires c κs = search needs
+uninterrupted-requires : tie.Need-uninterrupted-requires
+uninterrupted-requires c κs = search needs
 
 returns : tie.Need-returns
 unfolding respondOf advancedOf
-returns c = rw (← c .before .before .before .before .before .before .is-enabled .ensures, ← c .before .before .before .before .before .requested .ensures, c .before .before .before .source .given .1) (c .taken .ensures _)
+returns c =
+    let k = c .before .before .before .before .before in
+    rw (← k .before .is-enabled .ensures, ← k .requested .ensures, c .before .before .before .source .given .1)
+    (c .taken .ensures _)
 
 returns-2 : tie.Need-returns-2
 unfolding respondOf advancedOf
-returns-2 c = rw (← c .before .before .before .before .before .before .is-enabled .ensures, ← c .before .before .before .before .before .requested .ensures, c .before .before .before .enum-told .given .1) (c .unrequested .ensures)
+returns-2 c =
+    let k = c .before .before .before .before .before in
+    rw (← k .before .is-enabled .ensures, ← k .requested .ensures, c .before .before .before .enum-told .given .1)
+    (c .uninterrupted .ensures)
 
 pub advance-spec : {M : Type 1} → statement M
 advance-spec =
@@ -39,6 +45,6 @@ advance-spec =
     enum-known-source
     taken-requires
     enum-told
-    unrequested-requires
+    uninterrupted-requires
     returns
     returns-2)

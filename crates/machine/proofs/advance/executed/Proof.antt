@@ -1,9 +1,12 @@
 -- `advance::executed` meets its contract.
 use borrow.Author.Needs.{needs}
-use Rattle.machine.specs.Step.{executedOf}
+use Rattle.machine.specs.Advance.{executedOf}
 use Rattle.machine.proofs.Stops.{execution-keeps, completed, completed-full, completed-empty}
 use Rattle.machine.proofs.advance.executed.Statement.{statement}
 use Rattle.machine.proofs.advance.executed.Tie as tie
+
+forward-requires : tie.Need-forward-requires
+forward-requires c κs = search needs
 
 pair-requires : tie.Need-pair-requires
 pair-requires c κs = search needs
@@ -34,20 +37,30 @@ stopped-requires-2 c κs = search needs
 
 returns : tie.Need-returns
 unfolding executedOf
-returns c = rw (c .done .ensures _ _, c .before .with-pair .ensures) (completed _ _ _ _ _ _ (rw (c .before .before .before .before .before .before .before .pair .ensures) at (c .before .before .before .before .before .before .execute .ensures)) (c .before .before .enum-told .given .1))
+returns c =
+    let k = c .before .before .before .before .before .before in
+    let after = rw (k .before .pair .ensures, k .before .before .before .before .forward .ensures) at (k .execute .ensures) in
+    rw (c .done .ensures _ _, c .before .with-pair .ensures) (completed _ _ _ _ _ _ after (c .before .before .enum-told .given .1))
 
 returns-2 : tie.Need-returns-2
 unfolding executedOf
-returns-2 c = rw (c .stopped .ensures _ _) (completed-full _ _ _ _ _ _ (rw (c .before .before .before .before .before .before .pair .ensures) at (c .before .before .before .before .before .execute .ensures)) (execution-keeps _ _ _ _ _ _) (c .before .enum-told2 .given .1))
+returns-2 c =
+    let k = c .before .before .before .before .before in
+    let after = rw (k .before .pair .ensures, k .before .before .before .before .forward .ensures) at (k .execute .ensures) in
+    rw (c .stopped .ensures _ _) (completed-full _ _ _ _ _ _ after (execution-keeps _ _ _ _ _ _) (c .before .enum-told2 .given .1))
 
 returns-3 : tie.Need-returns-3
 unfolding executedOf
-returns-3 c = rw (c .stopped2 .ensures _ _) (completed-empty _ _ _ _ _ _ (rw (c .before .before .before .before .before .before .pair .ensures) at (c .before .before .before .before .before .execute .ensures)) (execution-keeps _ _ _ _ _ _) (c .before .enum-told3 .given .1))
+returns-3 c =
+    let k = c .before .before .before .before .before in
+    let after = rw (k .before .pair .ensures, k .before .before .before .before .forward .ensures) at (k .execute .ensures) in
+    rw (c .stopped2 .ensures _ _) (completed-empty _ _ _ _ _ _ after (execution-keeps _ _ _ _ _ _) (c .before .enum-told3 .given .1))
 
 pub executed-spec : {M : Type 1} → statement M
 executed-spec =
     tie.close
     (tie.spec
+    forward-requires
     pair-requires
     execute-requires
     enum-told

@@ -1,7 +1,7 @@
 -- `advance::taken` meets its contract.
 use borrow.Author.Needs.{needs}
-use Rattle.control.proofs.Stopped.{take-keeps}
-use Rattle.machine.specs.Step.{takenOf}
+use Rattle.control.proofs.Stopped.{take-stops}
+use Rattle.machine.specs.Advance.{takenOf}
 use Rattle.machine.proofs.Stops.{taken-done, taken-full, taken-empty}
 use Rattle.machine.proofs.advance.taken.Statement.{statement}
 use Rattle.machine.proofs.advance.taken.Tie as tie
@@ -33,11 +33,11 @@ returns c = λ bytes. rw (c .done .ensures bytes _) (taken-done _ _ _ _ (c .befo
 
 returns-2 : tie.Need-returns-2
 unfolding takenOf
-returns-2 c = λ bytes. rw (c .stopped .ensures bytes _) (taken-full _ _ _ _ (c .before .before .before .before .take .ensures) (take-keeps _ _ _) (c .before .enum-told2 .given .1))
+returns-2 c = λ bytes. rw (c .stopped .ensures bytes _) (taken-full _ _ _ _ (c .before .before .before .before .take .ensures) (take-stops _ _ _ .kept) (c .before .enum-told2 .given .1))
 
 returns-3 : tie.Need-returns-3
 unfolding takenOf
-returns-3 c = λ bytes. rw (c .stopped2 .ensures bytes _) (taken-empty _ _ _ _ (c .before .before .before .before .take .ensures) (take-keeps _ _ _) (c .before .enum-told3 .given .1))
+returns-3 c = λ bytes. rw (c .stopped2 .ensures bytes _) (taken-empty _ _ _ _ (c .before .before .before .before .take .ensures) (take-stops _ _ _ .kept) (c .before .enum-told3 .given .1))
 
 pub taken-spec : {M : Type 1} → statement M
 taken-spec =

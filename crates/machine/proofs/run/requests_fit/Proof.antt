@@ -1,7 +1,7 @@
 -- `run::requests_fit` meets its contract.
 use borrow.Author.Needs.{needs}
 use mathlib.Core.Path.{_∙_}
-use Rattle.machine.proofs.Steps.{fit-past}
+use Rattle.machine.proofs.StepByStep.{fit-past}
 use Rattle.machine.proofs.run.requests_fit.Statement.{statement}
 use Rattle.machine.proofs.run.requests_fit.Tie as tie
 

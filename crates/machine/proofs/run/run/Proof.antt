@@ -30,13 +30,10 @@ refused-run-requires-2 c κs = search needs
 returns-2 : tie.Need-returns-2
 unfolding runOf
 returns-2 c =
-    rw (
-      ← c .before .before .before .before .before .before .before .is-image-length .ensures,
-      not-false (c .before .before .before .before .before .before .before .is-image-length .result) (c .before .before .before .before .before .before .if1 .left),
-      ← c .before .before .is-well-formed .ensures,
-      not-true (c .before .before .is-well-formed .result) (c .before .if2 .taken),
-    )
-    (c .refused-run2 .ensures)
+    let w = c .before .before in
+    let i = w .before .before .before .before .before in
+    rw (← i .is-image-length .ensures, not-false (i .is-image-length .result) (w .before .before .before .before .if1 .left))
+    (rw (← w .is-well-formed .ensures, not-true (w .is-well-formed .result) (c .before .if2 .taken)) (c .refused-run2 .ensures))
 
 refused-run-requires-3 : tie.Need-refused-run-requires-3
 refused-run-requires-3 c κs = search needs
@@ -44,14 +41,11 @@ refused-run-requires-3 c κs = search needs
 returns-3 : tie.Need-returns-3
 unfolding runOf
 returns-3 c =
-    rw (
-      ← c .before .before .before .before .before .before .before .before .is-image-length .ensures,
-      not-false (c .before .before .before .before .before .before .before .before .is-image-length .result) (c .before .before .before .before .before .before .before .if1 .left),
-      ← c .before .before .before .is-well-formed .ensures,
-      not-false (c .before .before .before .is-well-formed .result) (c .before .before .if2 .left),
-      lt-leb _ _ (c .before .if3 .taken),
-    )
-    (c .refused-run3 .ensures)
+    let w = c .before .before .before in
+    let i = w .before .before .before .before .before in
+    rw (← i .is-image-length .ensures, not-false (i .is-image-length .result) (w .before .before .before .before .if1 .left))
+    (rw (← w .is-well-formed .ensures, not-false (w .is-well-formed .result) (c .before .before .if2 .left))
+    (rw (lt-leb _ _ (c .before .if3 .taken)) (c .refused-run3 .ensures)))
 
 requests-fit-requires : tie.Need-requests-fit-requires
 requests-fit-requires c κs = search needs
@@ -62,38 +56,35 @@ refused-run-requires-4 c κs = search needs
 returns-4 : tie.Need-returns-4
 unfolding runOf
 returns-4 c =
-    rw (
-      ← c .before .before .before .before .before .before .before .before .before .before .is-image-length .ensures,
-      not-false (c .before .before .before .before .before .before .before .before .before .before .is-image-length .result) (c .before .before .before .before .before .before .before .before .before .if1 .left),
-      ← c .before .before .before .before .before .is-well-formed .ensures,
-      not-false (c .before .before .before .before .before .is-well-formed .result) (c .before .before .before .before .if2 .left),
-      le-leb _ _ (c .before .before .before .if3 .left),
-      ← c .before .before .requests-fit .ensures,
-      not-true (c .before .before .requests-fit .result) (c .before .if4 .taken),
-    )
-    (c .refused-run4 .ensures)
+    let f = c .before .before in
+    let w = f .before .before .before in
+    let i = w .before .before .before .before .before in
+    rw (← i .is-image-length .ensures, not-false (i .is-image-length .result) (w .before .before .before .before .if1 .left))
+    (rw (← w .is-well-formed .ensures, not-false (w .is-well-formed .result) (f .before .before .if2 .left))
+    (rw (le-leb _ _ (f .before .if3 .left), ← f .requests-fit .ensures, not-true (f .requests-fit .result) (c .before .if4 .taken))
+    (c .refused-run4 .ensures)))
 
 on-copy-requires : tie.Need-on-copy-requires
-on-copy-requires c κs = (
-  c .before .before .if3 .left,
-  sym (c .before .before .before .before .before .before .before .before .before .is-image-length .ensures) ∙ not-false _ (c .before .before .before .before .before .before .before .before .if1 .left),
-  sym (c .before .before .before .before .is-well-formed .ensures) ∙ not-false _ (c .before .before .before .if2 .left),
-  sym (c .before .requests-fit .ensures) ∙ not-false _ (c .if4 .left),
-)
+on-copy-requires c κs =
+    let f = c .before in
+    let w = f .before .before .before in
+    let i = w .before .before .before .before .before in (
+      f .before .if3 .left,
+      sym (i .is-image-length .ensures) ∙ not-false _ (w .before .before .before .before .if1 .left),
+      sym (w .is-well-formed .ensures) ∙ not-false _ (f .before .before .if2 .left),
+      sym (f .requests-fit .ensures) ∙ not-false _ (c .if4 .left),
+    )
 
 returns-5 : tie.Need-returns-5
 unfolding runOf
 returns-5 c =
-    rw (
-      ← c .before .before .before .before .before .before .before .before .before .before .is-image-length .ensures,
-      not-false (c .before .before .before .before .before .before .before .before .before .before .is-image-length .result) (c .before .before .before .before .before .before .before .before .before .if1 .left),
-      ← c .before .before .before .before .before .is-well-formed .ensures,
-      not-false (c .before .before .before .before .before .is-well-formed .result) (c .before .before .before .before .if2 .left),
-      le-leb _ _ (c .before .before .before .if3 .left),
-      ← c .before .before .requests-fit .ensures,
-      not-false (c .before .before .requests-fit .result) (c .before .if4 .left),
-    )
-    (c .on-copy .ensures .0)
+    let f = c .before .before in
+    let w = f .before .before .before in
+    let i = w .before .before .before .before .before in
+    rw (← i .is-image-length .ensures, not-false (i .is-image-length .result) (w .before .before .before .before .if1 .left))
+    (rw (← w .is-well-formed .ensures, not-false (w .is-well-formed .result) (f .before .before .if2 .left))
+    (rw (le-leb _ _ (f .before .if3 .left), ← f .requests-fit .ensures, not-false (f .requests-fit .result) (c .before .if4 .left))
+    (c .on-copy .ensures .0)))
 
 pub run-spec : {M : Type 1} → statement M
 run-spec =

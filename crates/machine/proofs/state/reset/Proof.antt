@@ -1,6 +1,5 @@
 -- `state::reset` meets its contract.
 use borrow.Author.Needs.{needs}
-use mathlib.Core.Path.{refl}
 use Rattle.machine.specs.State.{resetOf}
 use Rattle.machine.proofs.state.reset.Statement.{statement}
 use Rattle.machine.proofs.state.reset.Tie as tie
@@ -11,9 +10,22 @@ array-write-bytes c = search needs
 array-write-bytes-2 : tie.Need-array-write-bytes-2
 array-write-bytes-2 c = search needs
 
+reset-control-requires : tie.Need-reset-control-requires
+reset-control-requires c κs = search needs
+
+cleared-pairs-requires : tie.Need-cleared-pairs-requires
+cleared-pairs-requires c κs = search needs
+
 returns : tie.Need-returns
 unfolding resetOf
-returns c = refl
+returns c = rw (c .cleared-pairs .ensures, c .before .reset-control .ensures)
 
 pub reset-spec : {M : Type 1} → statement M
-reset-spec = tie.close (tie.spec array-write-bytes array-write-bytes-2 returns)
+reset-spec =
+    tie.close
+    (tie.spec
+    array-write-bytes
+    array-write-bytes-2
+    reset-control-requires
+    cleared-pairs-requires
+    returns)

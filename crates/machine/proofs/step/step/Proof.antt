@@ -4,7 +4,7 @@ use mathlib.Core.Path.{sym, _∙_}
 use native.Mathlib.Omega.{arith}
 use borrow.Author.Tests.{not-true, not-false}
 use Rattle.machine.specs.Step.{stepOf}
-use Rattle.machine.proofs.Steps.{fit-one, one-step}
+use Rattle.machine.proofs.StepByStep.{fit-one, one-step}
 use Rattle.machine.proofs.step.step.Statement.{statement}
 use Rattle.machine.proofs.step.step.Tie as tie
 
@@ -32,13 +32,10 @@ refused-step-requires-2 c κs = search needs
 returns-2 : tie.Need-returns-2
 unfolding stepOf
 returns-2 c =
-    rw (
-      ← c .before .before .before .before .before .before .before .is-image-length .ensures,
-      not-false (c .before .before .before .before .before .before .before .is-image-length .result) (c .before .before .before .before .before .before .if1 .left),
-      ← c .before .before .is-well-formed .ensures,
-      not-true (c .before .before .is-well-formed .result) (c .before .if2 .taken),
-    )
-    (c .refused-step2 .ensures)
+    let w = c .before .before in
+    let i = w .before .before .before .before .before in
+    rw (← i .is-image-length .ensures, not-false (i .is-image-length .result) (w .before .before .before .before .if1 .left))
+    (rw (← w .is-well-formed .ensures, not-true (w .is-well-formed .result) (c .before .if2 .taken)) (c .refused-step2 .ensures))
 
 names-only-sources-requires : tie.Need-names-only-sources-requires
 names-only-sources-requires c κs = search needs
@@ -49,26 +46,27 @@ refused-step-requires-3 c κs = search needs
 returns-3 : tie.Need-returns-3
 unfolding stepOf
 returns-3 c =
-    rw (
-      ← c .before .before .before .before .before .before .before .before .before .is-image-length .ensures,
-      not-false (c .before .before .before .before .before .before .before .before .before .is-image-length .result) (c .before .before .before .before .before .before .before .before .if1 .left),
-      ← c .before .before .before .before .is-well-formed .ensures,
-      not-false (c .before .before .before .before .is-well-formed .result) (c .before .before .before .if2 .left),
-      ← c .before .before .names-only-sources .ensures,
-      not-true (c .before .before .names-only-sources .result) (c .before .if3 .taken),
-    )
-    (c .refused-step3 .ensures)
+    let n = c .before .before in
+    let w = n .before .before in
+    let i = w .before .before .before .before .before in
+    rw (← i .is-image-length .ensures, not-false (i .is-image-length .result) (w .before .before .before .before .if1 .left))
+    (rw (← w .is-well-formed .ensures, not-false (w .is-well-formed .result) (n .before .if2 .left))
+    (rw (← n .names-only-sources .ensures, not-true (n .names-only-sources .result) (c .before .if3 .taken))
+    (c .refused-step3 .ensures)))
 
 slice-aggregate-on-copy : tie.Need-slice-aggregate-on-copy
 slice-aggregate-on-copy c = search needs
 
 on-copy-requires : tie.Need-on-copy-requires
-on-copy-requires c κs = (
-  omega arith,
-  sym (c .before .before .before .before .before .before .before .before .before .is-image-length .ensures) ∙ not-false _ (c .before .before .before .before .before .before .before .before .if1 .left),
-  sym (c .before .before .before .before .is-well-formed .ensures) ∙ not-false _ (c .before .before .before .if2 .left),
-  fit-one _ (sym (c .before .before .names-only-sources .ensures) ∙ not-false _ (c .before .if3 .left)),
-)
+on-copy-requires c κs =
+    let n = c .before .before in
+    let w = n .before .before in
+    let i = w .before .before .before .before .before in (
+      omega arith,
+      sym (i .is-image-length .ensures) ∙ not-false _ (w .before .before .before .before .if1 .left),
+      sym (w .is-well-formed .ensures) ∙ not-false _ (n .before .if2 .left),
+      fit-one _ (sym (n .names-only-sources .ensures) ∙ not-false _ (c .before .if3 .left)),
+    )
 
 step-answer-requires : tie.Need-step-answer-requires
 step-answer-requires c κs = c .before .before .on-copy .ensures .1

@@ -1,4 +1,4 @@
--- `run::all_steps` meets its contract. The loop's invariant: the first i steps completed, and the machine is well formed.
+-- `steps::all_steps` meets its contract. The loop's invariant: the first i steps completed, and the machine is well formed.
 use Prim.Native.Nat.{ℕ, _≤_, _<_, _-_, _*_}
 use mathlib.Core.Path.{_≡_, refl, sym, ap, _∙_}
 use mathlib.Core.Bool.{true}
@@ -9,11 +9,11 @@ use Rattle.isa.specs.Refusals.{done}
 use Rattle.control.specs.WellFormed.{wellFormed}
 use Rattle.control.proofs.StaysWellFormed.{formed-exactly}
 use Rattle.machine.specs.State.{machineOf}
-use Rattle.machine.specs.Run.{Run, runAt, stepsOf}
+use Rattle.machine.specs.Steps.{Run, runAt, stepsOf}
 use Rattle.machine.proofs.StaysWellFormed.{formed-step}
-use Rattle.machine.proofs.Steps.{stepped, one-more, stops-at}
-use Rattle.machine.proofs.run.all_steps.Statement.{statement}
-use Rattle.machine.proofs.run.all_steps.Tie as tie
+use Rattle.machine.proofs.StepByStep.{stepped, one-more, stops-at}
+use Rattle.machine.proofs.steps.all_steps.Statement.{statement}
+use Rattle.machine.proofs.steps.all_steps.Tie as tie
 
 abbrev Inv-loop : tie.InvT-loop
 Inv-loop table image bytes₀ stack₀ requests n c₀ flags₀ cycles₀ i₀ bytes stack c flags cycles i = (i ≤ n) × (cycles ≤ 255 * i) × (wellFormed stack c ≡ true)

@@ -1,8 +1,8 @@
--- `run::request_at` meets its contract.
+-- `steps::request_at` meets its contract.
 use borrow.Author.Needs.{needs}
 use lib.ListN.{List·getD-eq-default}
-use Rattle.machine.proofs.run.request_at.Statement.{statement}
-use Rattle.machine.proofs.run.request_at.Tie as tie
+use Rattle.machine.proofs.steps.request_at.Statement.{statement}
+use Rattle.machine.proofs.steps.request_at.Tie as tie
 
 shared-slice-read-result : tie.Need-shared-slice-read-result
 shared-slice-read-result c = search needs

@@ -14,12 +14,14 @@ use Rattle.isa.specs.Rom.{isImage}
 use Rattle.isa.specs.Decode.{decodeAt}
 use Rattle.machine.specs.declared.Machine.{Machine}
 use Rattle.machine.specs.State.{isWellFormed}
-use Rattle.machine.specs.Step.{Step, doneOf, refusedOf, decodedOf, unrequestedOf, advancedOf, stepOf}
-use Rattle.machine.specs.Step as step
-use Rattle.machine.specs.Run.{Run, runAt, asAnswer, joinedBy, continuedOf, stepsOf, requestsFit}
+use Rattle.machine.specs.Advance.{Step, doneOf, refusedOf, decodedOf, uninterruptedOf, advancedOf}
+use Rattle.machine.specs.Step.{stepOf}
+use Rattle.machine.specs.Steps.{Run, runAt, asAnswer, joinedBy, continuedOf, stepsOf, requestsFit}
 
 -- a step that is not refused
-pub step-advances : (image : List ℕ) (m : Machine) (request : ℕ) → isImage (length image) ≡ true → isWellFormed m ≡ true → namesOnlySources request ≡ true → stepOf image m request ≡ advancedOf image m request
+pub step-advances :
+    (image : List ℕ) (m : Machine) (request : ℕ) → isImage (length image) ≡ true → isWellFormed m ≡ true →
+    namesOnlySources request ≡ true → stepOf image m request ≡ advancedOf image m request
 unfolding stepOf
 step-advances image m request i w n = rw (i, w, n)
 
@@ -28,53 +30,77 @@ both true b e = (refl, e)
 both false b e = let z : _≡_ {A = ℕ} 0 1 = cc in absurd (omega arith)
 
 -- each of the first n request bytes names nothing but sources
-pub fits-at : (requests : List ℕ) (n : ℕ) → requestsFit requests n ≡ true → (k : ℕ) → k < n → namesOnlySources (getD requests k 0) ≡ true
+pub fits-at :
+    (requests : List ℕ) (n : ℕ) → requestsFit requests n ≡ true → (k : ℕ) → k < n →
+    namesOnlySources (getD requests k 0) ≡ true
 unfolding requestsFit
 fits-at requests zero e k h = absurd (omega arith)
 fits-at requests (suc n) e k h =
     let p : (namesOnlySources (getD requests n 0) ≡ true) × (requestsFit requests n ≡ true) = both (namesOnlySources (getD requests n 0)) (requestsFit requests n) e in
     below-more (λ j. namesOnlySources (getD requests j 0) ≡ true) n (fits-at requests n (p .1)) (p .0) k (omega arith)
 
+-- a byte that does not makes the test fail
+pub fits-not :
+    (requests : List ℕ) (n k : ℕ) → k < n → namesOnlySources (getD requests k 0) ≡ false →
+    (b : Bool) → requestsFit requests n ≡ b → b ≡ false
+fits-not requests n k h named false e = refl
+fits-not requests n k h named true e = let fits : namesOnlySources (getD requests k 0) ≡ true = fits-at requests n e k h in cc
+
 -- past the list's end there is nothing that does not fit
-past-end : (requests : List ℕ) (d : ℕ) → requestsFit requests (d + length requests) ≡ requestsFit requests (length requests)
+past-end :
+    (requests : List ℕ) (d : ℕ) → requestsFit requests (d + length requests) ≡ requestsFit requests (length requests)
 unfolding requestsFit
 past-end requests zero = ap (requestsFit requests) (zero-add (length requests))
 past-end requests (suc d) =
     ap (requestsFit requests) (suc-add d (length requests))
     ∙ rw (List·getD-eq-default requests 0 {n = d + length requests} (omega arith)) (past-end requests d)
 
-pub fit-past : (requests : List ℕ) (n : ℕ) → length requests ≤ n → requestsFit requests (length requests) ≡ requestsFit requests n
+pub fit-past :
+    (requests : List ℕ) (n : ℕ) → length requests ≤ n →
+    requestsFit requests (length requests) ≡ requestsFit requests n
 fit-past requests n h =
     let whole : (n - length requests) + length requests ≡ n = omega arith in
     sym (past-end requests (n - length requests)) ∙ ap (requestsFit requests) whole
 
 -- step i of a run, from what the program knows
-pub stepped : (image requests : List ℕ) (m : Machine) (n i request : ℕ) (s : Step) → isImage (length image) ≡ true → isWellFormed m ≡ true → requestsFit requests n ≡ true → i < n → request ≡ getD requests i 0 → s ≡ advancedOf image m request → s ≡ stepOf image m (getD requests i 0)
+pub stepped :
+    (image requests : List ℕ) (m : Machine) (n i request : ℕ) (s : Step) → isImage (length image) ≡ true →
+    isWellFormed m ≡ true → requestsFit requests n ≡ true → i < n → request ≡ getD requests i 0 →
+    s ≡ advancedOf image m request → s ≡ stepOf image m (getD requests i 0)
 stepped image requests m n i request s v w f h e a =
     a ∙ ap (advancedOf image m) e ∙ sym (step-advances image m (getD requests i 0) v w (fits-at requests n f i h))
 
 -- asleep with nothing to take, and awake
-pub idle : (image : List ℕ) (m : Machine) → m .control .asleep ≡ true → doneOf m 0 ≡ unrequestedOf image m
-unfolding unrequestedOf
+pub idle : (image : List ℕ) (m : Machine) → m .control .asleep ≡ true → doneOf m 0 ≡ uninterruptedOf image m
+unfolding uninterruptedOf
 idle image m e = rw e
 
-pub awake : (image : List ℕ) (m : Machine) → m .control .asleep ≡ false → decodedOf image m (decodeAt image (m .control .pc)) ≡ unrequestedOf image m
-unfolding unrequestedOf
+pub awake :
+    (image : List ℕ) (m : Machine) → m .control .asleep ≡ false →
+    decodedOf image m (decodeAt image (m .control .pc)) ≡ uninterruptedOf image m
+unfolding uninterruptedOf
 awake image m e = rw e
 
 -- a run that has ended stays as it is
-ended-stays : (image : List ℕ) (r : Run) (request : ℕ) (n : Numbered) → r .report .ending ≡ refused n → continuedOf image r request ≡ r
+ended-stays :
+    (image : List ℕ) (r : Run) (request : ℕ) (n : Numbered) → r .report .ending ≡ refused n →
+    continuedOf image r request ≡ r
 ended-stays image r request n e = rw e
 
 module _ (image requests : List ℕ) (m : Machine) where
-  pub next-step : (i : ℕ) → stepsOf image requests m (suc i) ≡ continuedOf image (stepsOf image requests m i) (getD requests i 0)
+  pub next-step :
+      (i : ℕ) → stepsOf image requests m (suc i) ≡ continuedOf image (stepsOf image requests m i) (getD requests i 0)
   unfolding stepsOf
   next-step i = refl
 
-  after : (i : ℕ) (r : Run) → r ≡ stepsOf image requests m i → continuedOf image r (getD requests i 0) ≡ stepsOf image requests m (suc i)
+  after :
+      (i : ℕ) (r : Run) → r ≡ stepsOf image requests m i →
+      continuedOf image r (getD requests i 0) ≡ stepsOf image requests m (suc i)
   after i r e = rw (next-step i, ← e)
 
-  stays-by : (k d : ℕ) (r : Numbered) → stepsOf image requests m k .report .ending ≡ refused r → stepsOf image requests m (d + k) ≡ stepsOf image requests m k
+  stays-by :
+      (k d : ℕ) (r : Numbered) → stepsOf image requests m k .report .ending ≡ refused r →
+      stepsOf image requests m (d + k) ≡ stepsOf image requests m k
   stays-by k zero r e = ap (stepsOf image requests m) (zero-add k)
   stays-by k (suc d) r e =
       let before : stepsOf image requests m (d + k) ≡ stepsOf image requests m k = stays-by k d r e in
@@ -82,13 +108,19 @@ module _ (image requests : List ℕ) (m : Machine) where
       ∙ ended-stays image (stepsOf image requests m (d + k)) (getD requests (d + k) 0) r (ap (λ (x : Run). x .report .ending) before ∙ e) ∙ before
 
   -- a step that completes, after i that did
-  pub one-more : (i cycles more : ℕ) (n o : Machine) → runAt n i cycles (done tt) ≡ stepsOf image requests m i → doneOf o more ≡ stepOf image n (getD requests i 0) → runAt o (i + 1) (cycles + more) (done tt) ≡ stepsOf image requests m (i + 1)
+  pub one-more :
+      (i cycles more : ℕ) (n o : Machine) → runAt n i cycles (done tt) ≡ stepsOf image requests m i →
+      doneOf o more ≡ stepOf image n (getD requests i 0) →
+      runAt o (i + 1) (cycles + more) (done tt) ≡ stepsOf image requests m (i + 1)
   one-more i cycles more n o e s =
       let joined : runAt o (i + 1) (cycles + more) (done tt) ≡ continuedOf image (runAt n i cycles (done tt)) (getD requests i 0) = rw (← s) in
       joined ∙ after i (runAt n i cycles (done tt)) e ∙ ap (stepsOf image requests m) (sym (add-one i))
 
   -- a step that stops, after i that completed, ends the run
-  pub stops-at : (i n cycles : ℕ) (o p : Machine) (r : Numbered) → i < n → runAt o i cycles (done tt) ≡ stepsOf image requests m i → refusedOf p r ≡ stepOf image o (getD requests i 0) → runAt p i cycles (refused r) ≡ stepsOf image requests m n
+  pub stops-at :
+      (i n cycles : ℕ) (o p : Machine) (r : Numbered) → i < n →
+      runAt o i cycles (done tt) ≡ stepsOf image requests m i → refusedOf p r ≡ stepOf image o (getD requests i 0) →
+      runAt p i cycles (refused r) ≡ stepsOf image requests m n
   stops-at i n cycles o p r h e s =
       let joined : runAt p i cycles (refused r) ≡ continuedOf image (runAt o i cycles (done tt)) (getD requests i 0) = rw (← s) in
       let here : runAt p i cycles (refused r) ≡ stepsOf image requests m (suc i) = joined ∙ after i (runAt o i cycles (done tt)) e in
@@ -101,10 +133,14 @@ unfolding requestsFit
 fit-one q e = rw e
 
 -- a run of one step is that step
-pub one-step : (image : List ℕ) (m : Machine) (q : ℕ) (r : Run) → r ≡ stepsOf image (replicate 1 q) m 1 → _≡_ {A = Step} (record { machine = r .machine; answer = asAnswer (r .report) }) (stepOf image m q)
+pub one-step :
+    (image : List ℕ) (m : Machine) (q : ℕ) (r : Run) → r ≡ stepsOf image (replicate 1 q) m 1 →
+    _≡_ {A = Step} (record { machine = r .machine; answer = asAnswer (r .report) }) (stepOf image m q)
 unfolding stepsOf
 one-step image m q r e = rw e (by-answer (stepOf image m q .machine) (stepOf image m q .answer))
   where
-    by-answer : (n : Machine) (a : Answer ℕ) → _≡_ {A = Step} (record { machine = joinedBy (runAt m 0 0 (done tt)) n a .machine; answer = asAnswer (joinedBy (runAt m 0 0 (done tt)) n a .report) }) (record { machine = n; answer = a })
+    by-answer :
+        (n : Machine) (a : Answer ℕ) →
+        _≡_ {A = Step} (record { machine = joinedBy (runAt m 0 0 (done tt)) n a .machine; answer = asAnswer (joinedBy (runAt m 0 0 (done tt)) n a .report) }) (record { machine = n; answer = a })
     by-answer n (done cycles) = rw (zero-add cycles)
     by-answer n (refused reason) = refl

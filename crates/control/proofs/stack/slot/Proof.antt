@@ -1,8 +1,8 @@
--- `transfers::slot` meets its contract.
+-- `stack::slot` meets its contract.
 use borrow.Author.Needs.{needs}
 use lib.ListN.{List·getD-eq-default}
-use Rattle.control.proofs.transfers.slot.Statement.{statement}
-use Rattle.control.proofs.transfers.slot.Tie as tie
+use Rattle.control.proofs.stack.slot.Statement.{statement}
+use Rattle.control.proofs.stack.slot.Tie as tie
 
 mul-result : tie.Need-mul-result
 mul-result c = search needs
