@@ -1,4 +1,5 @@
-// Control: the program counter, the stack of return addresses, the mode, sleep, and requests. Nothing here knows data bytes or flags.
+// Control: the program counter, the stack of return addresses, the mode, sleep, and requests. Nothing here knows data
+// bytes or flags.
 pub mod modes;
 pub mod requests;
 pub mod stack;

@@ -1,4 +1,5 @@
-// What each instruction does to the lent data bytes, and the flags after it. Values come before the bytes, since they are read from them.
+// What each instruction does to the lent data bytes, and the flags after it. Values come before the bytes, since they
+// are read from them.
 use crate::space::A;
 use crate::space::address;
 use crate::space::operand;
@@ -61,7 +62,8 @@ fn store_a(address: u8, bytes: &mut [u8; 256], carry: bool) -> Flags
 
 // INC.
 fn increment(image: &[u8], address: u8, bytes: &mut [u8; 256], carry: bool) -> Flags
-    ensures { λ r. ⌜ dataOf (now (bytes .exit)) r ≡ incrementOf (now (image .entry)) (now (bytes .entry)) carry address ⌝ }
+    ensures { λ r. ⌜ dataOf (now (bytes .exit)) r
+        ≡ incrementOf (now (image .entry)) (now (bytes .entry)) carry address ⌝ }
 {
     let result = alu::incremented(read(image, bytes, address), carry);
     store_result(bytes, address, result)
@@ -69,7 +71,8 @@ fn increment(image: &[u8], address: u8, bytes: &mut [u8; 256], carry: bool) -> F
 
 // DEC.
 fn decrement(image: &[u8], address: u8, bytes: &mut [u8; 256], carry: bool) -> Flags
-    ensures { λ r. ⌜ dataOf (now (bytes .exit)) r ≡ decrementOf (now (image .entry)) (now (bytes .entry)) carry address ⌝ }
+    ensures { λ r. ⌜ dataOf (now (bytes .exit)) r
+        ≡ decrementOf (now (image .entry)) (now (bytes .entry)) carry address ⌝ }
 {
     let result = alu::decremented(read(image, bytes, address), carry);
     store_result(bytes, address, result)
@@ -133,7 +136,8 @@ fn store_immediate(bytes: &mut [u8; 256], flags: Flags, address: u8, value: u8) 
 
 // SET: no flag changes.
 fn set_bit(image: &[u8], bytes: &mut [u8; 256], flags: Flags, address: u8, bit: u8) -> Flags
-    ensures { λ r. ⌜ dataOf (now (bytes .exit)) r ≡ setBitOf (now (image .entry)) (now (bytes .entry)) flags address bit ⌝ }
+    ensures { λ r. ⌜ dataOf (now (bytes .exit)) r
+        ≡ setBitOf (now (image .entry)) (now (bytes .entry)) flags address bit ⌝ }
 {
     let value = alu::with_bit(read(image, bytes, address), bit);
     store(bytes, address, value);
@@ -142,7 +146,8 @@ fn set_bit(image: &[u8], bytes: &mut [u8; 256], flags: Flags, address: u8, bit: 
 
 // RES: no flag changes.
 fn reset_bit(image: &[u8], bytes: &mut [u8; 256], flags: Flags, address: u8, bit: u8) -> Flags
-    ensures { λ r. ⌜ dataOf (now (bytes .exit)) r ≡ resetBitOf (now (image .entry)) (now (bytes .entry)) flags address bit ⌝ }
+    ensures { λ r. ⌜ dataOf (now (bytes .exit)) r
+        ≡ resetBitOf (now (image .entry)) (now (bytes .entry)) flags address bit ⌝ }
 {
     let value = alu::without_bit(read(image, bytes, address), bit);
     store(bytes, address, value);
@@ -159,7 +164,8 @@ pub fn test_bit(image: &[u8], bytes: &[u8; 256], zero: bool, address: u8, bit: u
 
 // An instruction's effect. Jumps on a flag, CALL, JP, returns, STOP and WAIT have none.
 pub fn effect(image: &[u8], bytes: &mut [u8; 256], flags: Flags, instruction: Instruction) -> Flags
-    ensures { λ r. ⌜ dataOf (now (bytes .exit)) r ≡ effectOf (now (image .entry)) (dataOf (now (bytes .entry)) flags) instruction ⌝ }
+    ensures { λ r. ⌜ dataOf (now (bytes .exit)) r
+        ≡ effectOf (now (image .entry)) (dataOf (now (bytes .entry)) flags) instruction ⌝ }
 {
     let carry = flags.carry;
     match instruction {

@@ -1,5 +1,5 @@
-// Data space: the one read and the one store of a data byte, and where an operand stands. The bytes are lent, by data address;
-// those under the ROM window (40h-7Fh) are never read and never change.
+// Data space: the one read and the one store of a data byte, and where an operand stands. The bytes are lent, by data
+// address; those under the ROM window (40h-7Fh) are never read and never change.
 use isa::Operand;
 use isa::rom::RomByte;
 use isa::rom::rom_byte;

@@ -1,4 +1,5 @@
-// One step that is not refused: a request, sleep, or an instruction. The data bytes and the stack are lent, the rest goes by value.
+// One step that is not refused: a request, sleep, or an instruction. The data bytes and the stack are lent, the rest
+// goes by value.
 use crate::Advanced;
 use crate::FlagPairs;
 use crate::StepAnswer;
@@ -39,7 +40,8 @@ ghost use Rattle.machine.specs.Advance.{
 
 // A completed step.
 fn done(control: Control, flags: FlagPairs, cycles: u8) -> Advanced
-    ensures { λ r. ⌜ ((bytes stack : List ℕ) → advancedAs bytes stack r ≡ doneOf (machineOf control stack flags bytes) cycles) ⌝ }
+    ensures { λ r. ⌜ ((bytes stack : List ℕ) → advancedAs bytes stack r
+        ≡ doneOf (machineOf control stack flags bytes) cycles) ⌝ }
 {
     Advanced {
         control,
@@ -50,7 +52,8 @@ fn done(control: Control, flags: FlagPairs, cycles: u8) -> Advanced
 
 // A stop: control and flags as they were.
 fn stopped(control: Control, flags: FlagPairs, reason: Refusal) -> Advanced
-    ensures { λ r. ⌜ ((bytes stack : List ℕ) → advancedAs bytes stack r ≡ refusedOf (machineOf control stack flags bytes) (numbered reason)) ⌝ }
+    ensures { λ r. ⌜ ((bytes stack : List ℕ) → advancedAs bytes stack r
+        ≡ refusedOf (machineOf control stack flags bytes) (numbered reason)) ⌝ }
 {
     Advanced {
         control,
@@ -61,7 +64,8 @@ fn stopped(control: Control, flags: FlagPairs, reason: Refusal) -> Advanced
 
 // A request is taken, in one cycle: a stop on six levels gives PC.
 fn taken(stack: &mut [u16; 6], c: Control, flags: FlagPairs, source: Source) -> Advanced
-    ensures { λ r. ⌜ ((bytes : List ℕ) → advancedAs bytes (now (stack .exit)) r ≡ takenOf (machineOf c (now (stack .entry)) flags bytes) source) ⌝ }
+    ensures { λ r. ⌜ ((bytes : List ℕ) → advancedAs bytes (now (stack .exit)) r
+        ≡ takenOf (machineOf c (now (stack .entry)) flags bytes) source) ⌝ }
 {
     let moved = take(stack, c, source);
     let control = moved.control;
@@ -84,7 +88,9 @@ fn executed(
     length: u8,
     cycles: u8,
 ) -> Advanced
-    ensures { λ r. ⌜ advancedAs (now (bytes .exit)) (now (stack .exit)) r ≡ executedOf (now (image .entry)) (machineOf c (now (stack .entry)) flags (now (bytes .entry))) instruction length cycles ⌝ }
+    ensures { λ r. ⌜ advancedAs (now (bytes .exit)) (now (stack .exit)) r
+        ≡ executedOf (now (image .entry)) (machineOf c (now (stack .entry)) flags (now (bytes .entry)))
+        instruction length cycles ⌝ }
 {
     let mode = c.mode;
     let next = forward(c.pc, length);
@@ -106,8 +112,8 @@ fn is_enabled(bytes: &[u8; 256]) -> bool
     alu::bit(bytes[INTERRUPT_OPTION], 4)
 }
 
-// A step that takes no request: idle asleep, else the instruction at PC. PC goes by the length that decoding answers; decoding's
-// refusals are stops.
+// A step that takes no request: idle asleep, else the instruction at PC. PC goes by the length that decoding answers;
+// decoding's refusals are stops.
 fn uninterrupted(
     table: &[u8; 256],
     image: &[u8],
@@ -117,7 +123,8 @@ fn uninterrupted(
     flags: FlagPairs,
 ) -> Advanced
     requires { ⌜ Timings (now table) × (isImage (length (now image)) ≡ true) × (c .pc < 4096) ⌝ }
-    ensures { λ r. ⌜ advancedAs (now (bytes .exit)) (now (stack .exit)) r ≡ uninterruptedOf (now (image .entry)) (machineOf c (now (stack .entry)) flags (now (bytes .entry))) ⌝ }
+    ensures { λ r. ⌜ advancedAs (now (bytes .exit)) (now (stack .exit)) r
+        ≡ uninterruptedOf (now (image .entry)) (machineOf c (now (stack .entry)) flags (now (bytes .entry))) ⌝ }
 {
     if c.asleep {
         return done(c, flags, 0);
@@ -143,7 +150,8 @@ pub fn advance(
     request: u8,
 ) -> Advanced
     requires { ⌜ Timings (now table) × (isImage (length (now image)) ≡ true) × (c .pc < 4096) ⌝ }
-    ensures { λ r. ⌜ advancedAs (now (bytes .exit)) (now (stack .exit)) r ≡ advancedOf (now (image .entry)) (machineOf c (now (stack .entry)) flags (now (bytes .entry))) request ⌝ }
+    ensures { λ r. ⌜ advancedAs (now (bytes .exit)) (now (stack .exit)) r
+        ≡ advancedOf (now (image .entry)) (machineOf c (now (stack .entry)) flags (now (bytes .entry))) request ⌝ }
 {
     let mode = c.mode;
     match requested(mode, is_enabled(bytes), request) {

@@ -22,7 +22,8 @@ ghost use Rattle.machine.specs.Execute.{executionOf, executionBy, execut
 
 // Control goes on.
 fn goes_on(control: Control, flags: Flags) -> Executed
-    ensures { λ r. ⌜ ((bytes stack : List ℕ) → executionOf bytes stack r ≡ executionBy (dataOf bytes flags) (goesOn stack control)) ⌝ }
+    ensures { λ r. ⌜ ((bytes stack : List ℕ) → executionOf bytes stack r
+        ≡ executionBy (dataOf bytes flags) (goesOn stack control)) ⌝ }
 {
     Executed {
         control,
@@ -33,7 +34,8 @@ fn goes_on(control: Control, flags: Flags) -> Executed
 
 // Control is transferred by way of the stack.
 fn transferred(t: Transfer, flags: Flags) -> Executed
-    ensures { λ r. ⌜ ((bytes stack : List ℕ) → executionOf bytes stack r ≡ executionBy (dataOf bytes flags) (transferOf stack t)) ⌝ }
+    ensures { λ r. ⌜ ((bytes stack : List ℕ) → executionOf bytes stack r
+        ≡ executionBy (dataOf bytes flags) (transferOf stack t)) ⌝ }
 {
     let control = t.control;
     let stop = t.stop;
@@ -53,7 +55,9 @@ fn on_data(
     instruction: Instruction,
     next: u16,
 ) -> Executed
-    ensures { λ r. ⌜ ((stack : List ℕ) → executionOf (now (bytes .exit)) stack r ≡ executionBy (effectOf (now (image .entry)) (dataOf (now (bytes .entry)) flags) instruction) (goesOn stack (withPc c next))) ⌝ }
+    ensures { λ r. ⌜ ((stack : List ℕ) → executionOf (now (bytes .exit)) stack r
+        ≡ executionBy (effectOf (now (image .entry)) (dataOf (now (bytes .entry)) flags) instruction)
+        (goesOn stack (withPc c next))) ⌝ }
 {
     let after = data::effect::effect(image, bytes, flags, instruction);
     goes_on(c.with_pc(next), after)
@@ -69,7 +73,9 @@ pub fn execute(
     instruction: Instruction,
     next: u16,
 ) -> Executed
-    ensures { λ r. ⌜ executionOf (now (bytes .exit)) (now (stack .exit)) r ≡ executeOf (now (image .entry)) (dataOf (now (bytes .entry)) flags) (now (stack .entry)) c instruction next ⌝ }
+    ensures { λ r. ⌜ executionOf (now (bytes .exit)) (now (stack .exit)) r
+        ≡ executeOf (now (image .entry)) (dataOf (now (bytes .entry)) flags)
+        (now (stack .entry)) c instruction next ⌝ }
 {
     match instruction {
         Instruction::Jrnz(d) => goes_on(branch(c, !flags.zero, short_target(c.pc, d), next), flags),

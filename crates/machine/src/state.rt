@@ -14,7 +14,16 @@ use isa::Refusal;
 use isa::sources::RESET_VECTOR;
 ghost use mathlib.Core.Path.{_≡_};
 ghost use Rattle.isa.specs.Refusals.{numbered, done, refused};
-ghost use Rattle.machine.specs.State.{withByte, storedOf, resetControl, clearedPairs, resetOf, freshOf, hostStored, hostStoreOf};
+ghost use Rattle.machine.specs.State.{
+  withByte,
+  storedOf,
+  resetControl,
+  clearedPairs,
+  resetOf,
+  freshOf,
+  hostStored,
+  hostStoreOf,
+};
 
 // Control after reset.
 fn reset_control() -> Control

@@ -28,7 +28,8 @@ pub fn request_at(requests: &[u8], i: u32) -> u8
 }
 
 fn progress(control: Control, flags: FlagPairs, steps: u32, cycles: u32, ending: Ending) -> Progress
-    ensures { λ r. ⌜ ((bytes stack : List ℕ) → progressAs bytes stack r ≡ runAt (machineOf control stack flags bytes) steps cycles (endedOf ending)) ⌝ }
+    ensures { λ r. ⌜ ((bytes stack : List ℕ) → progressAs bytes stack r
+        ≡ runAt (machineOf control stack flags bytes) steps cycles (endedOf ending)) ⌝ }
 {
     Progress {
         control,
@@ -52,8 +53,11 @@ fn all_steps(
     requests: &[u8],
     n: u32,
 ) -> Progress
-    requires { ⌜ (n ≤ 65535) × Timings (now table) × (isImage (length (now image)) ≡ true) × (wellFormed (now stack) start ≡ true) × (requestsFit (now requests) n ≡ true) ⌝ }
-    ensures { λ r. ⌜ (progressAs (now (bytes .exit)) (now (stack .exit)) r ≡ stepsOf (now (image .entry)) (now (requests .entry)) (machineOf start (now (stack .entry)) pairs (now (bytes .entry))) n) × (r .report .cycles ≤ 255 * n) ⌝ }
+    requires { ⌜ (n ≤ 65535) × Timings (now table) × (isImage (length (now image)) ≡ true)
+        × (wellFormed (now stack) start ≡ true) × (requestsFit (now requests) n ≡ true) ⌝ }
+    ensures { λ r. ⌜ (progressAs (now (bytes .exit)) (now (stack .exit)) r
+        ≡ stepsOf (now (image .entry)) (now (requests .entry))
+        (machineOf start (now (stack .entry)) pairs (now (bytes .entry))) n) × (r .report .cycles ≤ 255 * n) ⌝ }
 {
     let mut c = start;
     let mut flags = pairs;
@@ -85,8 +89,10 @@ fn all_steps(
 
 // The steps of a run on a machine of its own.
 pub fn on_copy(image: &[u8], m: Machine, requests: &[u8], n: u32) -> Ran
-    requires { ⌜ (n ≤ 65535) × (isImage (length (now image)) ≡ true) × (isWellFormed m ≡ true) × (requestsFit (now requests) n ≡ true) ⌝ }
-    ensures { λ r. ⌜ (ranOf r ≡ stepsOf (now (image .entry)) (now (requests .entry)) m n) × (r .report .cycles ≤ 255 * n) ⌝ }
+    requires { ⌜ (n ≤ 65535) × (isImage (length (now image)) ≡ true) × (isWellFormed m ≡ true)
+        × (requestsFit (now requests) n ≡ true) ⌝ }
+    ensures { λ r. ⌜ (ranOf r ≡ stepsOf (now (image .entry)) (now (requests .entry)) m n)
+        × (r .report .cycles ≤ 255 * n) ⌝ }
 {
     let mut bytes = m.bytes;
     let mut stack = m.stack;
