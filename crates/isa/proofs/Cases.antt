@@ -1,4 +1,4 @@
--- The bench cases that speak of decoding, and the places where the manual misleads, by computation.
+-- The ends of long displacements and the places where the manual misleads, by computation.
 use mathlib.Core.Path.{refl}
 use Rattle.isa.specs.Table.{bytesOf, cyclesOf}
 use Rattle.isa.specs.Map.{entryOf, formOf, formAs}
@@ -11,10 +11,6 @@ pub decoding-cases : DecodingCases
 unfolding decodeAt romAt operandAt formOf formAs entryOf bytesOf cyclesOf flowOf
 decoding-cases =
     record {
-      p7 = record { farthest = (refl, refl); farthest-back = (refl, refl); itself = (refl, refl) };
-      p8 = (refl, refl);
-      p9 = (refl, refl);
-      p10 = record { calls = (refl, refl); jumps = (refl, refl) };
       long-ends = record { farthest = (refl, refl); farthest-back = (refl, refl) };
       return-opcodes = record { of-interrupt = (refl, refl); of-subroutine = (refl, refl) };
       tested-bit = λ f s. refl;

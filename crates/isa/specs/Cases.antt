@@ -1,5 +1,4 @@
--- The bench cases that speak of decoding, and the places where the manual misleads (document 01, "Bench cases" and "The
--- opcode map").
+-- The ends of long displacements, and the places where the manual misleads (document 01, "The opcode map").
 use Prim.Native.Nat.{ℕ, _-_}
 use mathlib.Core.Path.{_≡_}
 use mathlib.Core.Bool.{true, false}
@@ -26,29 +25,6 @@ placed a bs = replicate a 0 ++ (bs ++ replicate (4096 - a - length bs) 0)
 -- the bytes at an address decode to an instruction with its length and cycles, and it may continue so
 abbrev pub Decodes : ℕ → List ℕ → Instruction → ℕ → ℕ → Flow → Type 0
 Decodes a bs i n cycles f = (decodeAt (placed a bs) a ≡ done (instruction i n cycles)) × (flowOf i a ≡ f)
-
--- "P7 7Eh jumps +16, 86h −15, FEh to itself."
--- proved by decoding-cases, proofs/Cases
-pub record P7 : Type 0 where
-  pub farthest : Decodes 0x100 (0x7E ∷ []) (I.Jrc (pos 15)) 1 2 (flow.Branch (Carry true) 0x110)
-  pub farthest-back : Decodes 0x100 (0x86 ∷ []) (I.Jrc (negsuc 15)) 1 2 (flow.Branch (Carry true) 0xF1)
-  pub itself : Decodes 0x100 (0xFE ∷ []) (I.Jrc (negsuc 0)) 1 2 (flow.Branch (Carry true) 0x100)
-
--- "P8 23 70 EA at 110 reaches 90 where the bit is 0."
--- proved by decoding-cases, proofs/Cases
-abbrev pub P8 : Type 0
-P8 = Decodes 110 (0x23 ∷ 0x70 ∷ 0xEA ∷ []) (I.Jrr 4 0x70 (negsuc 21)) 3 5 (flow.Branch (Bit 0x70 4 false) 90)
-
--- "P9 F3 AF 17 at 123 reaches 148 where the bit is 1."
--- proved by decoding-cases, proofs/Cases
-abbrev pub P9 : Type 0
-P9 = Decodes 123 (0xF3 ∷ 0xAF ∷ 0x17 ∷ []) (I.Jrs 7 0xAF (pos 23)) 3 5 (flow.Branch (Bit 0xAF 7 true) 148)
-
--- "P10 C1 8D calls 8DCh; D9 5C jumps to 5CDh."
--- proved by decoding-cases, proofs/Cases
-pub record P10 : Type 0 where
-  pub calls : Decodes 0x100 (0xC1 ∷ 0x8D ∷ []) (I.Call 0x8DC) 2 4 (flow.Call 0x8DC)
-  pub jumps : Decodes 0x100 (0xD9 ∷ 0x5C ∷ []) (I.Jp 0x5CD) 2 4 (flow.Jump 0x5CD)
 
 -- "The long one is a signed byte counted from the opcode plus 2, by the manual's range −126 to +129."
 -- proved by decoding-cases, proofs/Cases
@@ -78,13 +54,9 @@ pub record NoFormsOfTheirOwn : Type 0 where
   pub shift-a : Decodes 0x100 (0x5F ∷ 0xFF ∷ []) (I.Add (Direct 0xFF)) 2 4 flow.Next
   pub clear : (d : ℕ) → Decodes 0x100 (0x0D ∷ d ∷ 0x00 ∷ []) (I.LoadImmediate d 0x00) 3 4 flow.Next
 
--- all of them
+-- all of them; P7 to P10 stand in the one table of bench cases
 -- proved by decoding-cases, proofs/Cases
 pub record DecodingCases : Type 0 where
-  pub p7 : P7
-  pub p8 : P8
-  pub p9 : P9
-  pub p10 : P10
   pub long-ends : LongEnds
   pub return-opcodes : ReturnOpcodes
   pub tested-bit : TestedBit
