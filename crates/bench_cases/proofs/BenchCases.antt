@@ -17,7 +17,9 @@ use Rattle.certificate.proofs.Cases.{check-cases}
 use Rattle.bench_cases.specs.BenchCases.{BenchCases}
 
 pub bench-cases : BenchCases
-unfolding stepOf advancedOf respondOf uninterruptedOf decodedOf executedOf completedOf executeOf wellFormed addressesFit requestedOf advanceOf callOf pushOf effectOf storeResultOf operandOf addressOf storeOf readOf flowOf formOf formAs cyclesOf bytesOf entryOf decodeAt operandAt romAt
+unfolding stepOf advancedOf respondOf uninterruptedOf decodedOf executedOf completedOf executeOf wellFormed addressesFit
+    requestedOf advanceOf callOf pushOf effectOf storeResultOf operandOf addressOf storeOf readOf flowOf formOf formAs
+    cyclesOf bytesOf entryOf decodeAt operandAt romAt
 bench-cases = record {
   p1 = record { byte = refl; flags = refl; answer = refl };
   p2 = record { byte = refl; flags = refl; answer = refl };

@@ -24,7 +24,8 @@ ready pc bytes zero carry =
     machineOf (record { pc = pc; levels = 0; mode = Normal; asleep = false }) (replicate 6 0)
     (record { normal = record { zero = zero; carry = carry }; interrupt = clearedFlags; nmi = clearedFlags }) bytes
 
--- one step, without a request, of a program that has the bytes at an address. Where the instruction sets a flag, the cases start from
+-- one step, without a request, of a program that has the bytes at an address. Where the instruction sets a flag, the
+-- cases start from
 -- the other value than they expect
 abbrev pub stepped : (at : ℕ) → (code : List ℕ) → (bytes : List ℕ) → (zero carry : Bool) → Step
 stepped at code bytes zero carry = stepOf (placed at code) (ready at bytes zero carry) 0

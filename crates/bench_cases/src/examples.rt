@@ -38,7 +38,8 @@ fn flag(is: bool) -> u8 {
     if is { 1 } else { 0 }
 }
 
-// A 4K image with up to three bytes at 100h; the window shows 00h-3Fh, where a data address of 40h to 7Fh finds its value.
+// A 4K image with up to three bytes at 100h; the window shows 00h-3Fh, where a data address of 40h to 7Fh finds its
+// value.
 fn image_of(code: [u8; 3], address: u8, value: u8) -> [u8; 4096] {
     let mut image = [0u8; 4096];
     image[0x100] = code[0];
@@ -162,7 +163,8 @@ fn put_differences() {
     );
 }
 
-// The manual's DEC (X) and INC (X) are on register 45h, which the ROM window covers here: 25h instead, and then 45h, where nothing is stored.
+// The manual's DEC (X) and INC (X) are on register 45h, which the ROM window covers here: 25h instead, and then 45h,
+// where nothing is stored.
 fn put_stores() {
     example(
         b"CLR 22h",

@@ -1,4 +1,5 @@
-// The manual's examples of jumps and returns, but for those that are among P7 to P10, and document 01's words on their ends.
+// The manual's examples of jumps and returns, but for those that are among P7 to P10, and document 01's words on
+// their ends.
 use crate::examples::machine_at;
 use machine::Machine;
 use machine::StepAnswer;

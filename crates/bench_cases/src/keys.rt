@@ -19,7 +19,8 @@ fn press(what: &[u8], image: &[u8], m: Machine, address: u8, requests: &[u8], n:
     after
 }
 
-// STOP sleeps until NMI is requested at step 9. The second time the keys are pressed on the machine that the first run left.
+// STOP sleeps until NMI is requested at step 9. The second time the keys are pressed on the machine that the first
+// run left.
 fn press_twice(image: &[u8], requests: &[u8]) {
     let m = press(b"NMI wakes", image, fresh(), 0x20, requests, 12);
     press(b"again", image, m, 0x20, requests, 13);

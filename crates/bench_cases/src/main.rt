@@ -1,4 +1,5 @@
-// Runs what no proof repeats: the manual's worked examples beside document 01's P1 to P12 (which specs/BenchCases.antt has, proved), small
+// Runs what no proof repeats: the manual's worked examples beside document 01's P1 to P12 (which
+// specs/BenchCases.antt has, proved), small
 // programs step by step and as a run, keys pressed on one machine, and the lines that jobs print.
 mod examples;
 mod jumps;

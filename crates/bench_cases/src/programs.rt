@@ -1,6 +1,7 @@
 // Small programs, by their bytes.
 
-// RETI; LDI A,20h; LDI 22h,33h; ADD A,22h; COM A; ADDI A,60h; RLC A; CPI A,20h; SUBI A,1Ah; AND A,22h; ANDI A,0Fh; SUB A,A; SLA A.
+// RETI; LDI A,20h; LDI 22h,33h; ADD A,22h; COM A; ADDI A,60h; RLC A; CPI A,20h; SUBI A,1Ah; AND A,22h; ANDI A,0Fh;
+// SUB A,A; SLA A.
 pub const ARITHMETIC: [u8; 24] = [
     0x4D,
     0x17,
@@ -28,7 +29,8 @@ pub const ARITHMETIC: [u8; 24] = [
     0xFF,
 ];
 
-// RETI; LDI X,22h; LDI Y,23h; LDI A,81h; LD (X),A; INC (X); LD (Y),A; RES 4,22h; SET 4,23h; JRR 4,22h and JRS 7,23h to the next
+// RETI; LDI X,22h; LDI Y,23h; LDI A,81h; LD (X),A; INC (X); LD (Y),A; RES 4,22h; SET 4,23h; JRR 4,22h and JRS 7,23h
+// to the next
 // instruction; DEC Y; LD V,A; LD A,V; NOP.
 pub const DATA: [u8; 28] = [
     0x4D,
@@ -61,7 +63,8 @@ pub const DATA: [u8; 28] = [
     0x04,
 ];
 
-// RETI; LDI 0C9h,04h (the window shows 100h); LD A,40h; INC 41h (a store there does nothing); LD A,41h; LD 42h,A; LD A,42h.
+// RETI; LDI 0C9h,04h (the window shows 100h); LD A,40h; INC 41h (a store there does nothing); LD A,41h; LD 42h,A; LD
+// A,42h.
 pub const WINDOW: [u8; 14] = [
     0x4D,
     0x0D,
@@ -98,7 +101,8 @@ pub const SUBROUTINES: [u8; 12] = [
 // RETI; LDI 0C8h,10h (sources enabled); NOP; WAIT; NOP; JP 104h.
 pub const REQUESTS: [u8; 9] = [0x4D, 0x0D, 0xC8, 0x10, 0x04, 0xED, 0x04, 0x49, 0x10];
 
-// The request bytes for it: a source and NMI at once, NMI inside a source's service, a second NMI that is not taken, and one that wakes.
+// The request bytes for it: a source and NMI at once, NMI inside a source's service, a second NMI that is not taken,
+// and one that wakes.
 pub const ASKED: [u8; 18] = [
     0,
     0,

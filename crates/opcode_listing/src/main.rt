@@ -1,4 +1,5 @@
-// Lists the 256 opcodes as they decode at 100h with the operand bytes 12h and 34h: the bytes, length, cycles, and the instruction in
+// Lists the 256 opcodes as they decode at 100h with the operand bytes 12h and 34h: the bytes, length, cycles, and the
+// instruction in
 // the manual's notation. It is there to be held against the manual's map and pages.
 mod notation;
 

@@ -1,4 +1,5 @@
-// Numbers, addresses, refusals and modes on standard output, as the papers write them: for the programs that print what they ran.
+// Numbers, addresses, refusals and modes on standard output, as the papers write them: for the programs that print
+// what they ran.
 use control::Mode;
 use isa::Number;
 use isa::Refusal;

@@ -16,11 +16,13 @@ enum-known-length : tie.Need-enum-known-length
 enum-known-length c = search needs
 
 array-share-prefix-line : tie.Need-array-share-prefix-line
-array-share-prefix-line c = within-buffer (c .before .length .given .1) (c .before .before .before .before .answer .ensures)
+array-share-prefix-line c =
+    within-buffer (c .before .length .given .1) (c .before .before .before .before .answer .ensures)
 
 slice-aggregate-put : tie.Need-slice-aggregate-put
 slice-aggregate-put c =
-    let written = within-buffer (c .before .before .length .given .1) (c .before .before .before .before .before .answer .ensures) in
+    let before = c .before .before in
+    let written = within-buffer (before .length .given .1) (before .before .before .before .answer .ensures) in
     sym (length-take-le _ _ written)
 
 put-requires : tie.Need-put-requires
