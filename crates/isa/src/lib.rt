@@ -5,7 +5,6 @@ pub mod decode;
 pub mod displacement;
 pub mod encode;
 pub mod flow_at;
-pub mod lengths;
 pub mod map;
 pub mod refusals;
 pub mod rom;
