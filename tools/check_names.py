@@ -3,7 +3,8 @@
 
 Names are words in backticks (`decodeAt`, `Rom.romAt`, `machine::run::run`) and, ticked or not, paths (isa/specs/Map). Code fences and what
 has spaces in backticks (commands, printed lines) are passed over, and comments do not count. In a name of two parts the first names the
-file of the second, which after :: is a function defined there; in a note (`romAt`, isa/specs/Rom) the path does. Exits with 1 if any.
+file of the second, which after :: is a function defined there; in a note (`romAt`, isa/specs/Rom) the path does. A claim that says which
+proof proves it must name a theorem of that file. Exits with 1 if any.
 """
 import fnmatch
 import re
@@ -17,6 +18,7 @@ WORD = re.compile(r"[A-Za-z_][\w'-]*")
 TICKED = re.compile(r'`([^`]+)`')
 NAME = re.compile(r"(?![0-9A-F]+h?$)[A-Za-z_.][\w.:/*'-]*(\{[\w, ]+\})?$")
 PATH = re.compile(r'(?<![\w/.])(?:crates/)?(?:\w+/)?(?:specs|proofs|src|must-fail)/[\w/]*\w')
+PROVED = re.compile(r'-- proved by ([\w-]+), proofs/(\w+)')
 NOTE = re.compile(r'((?:`[^`]+`(?:, | and ))+)(\w+/(?:specs|src)/\w+)')
 
 
@@ -42,6 +44,15 @@ def is_known(name, words, paths):
     return '/' not in name and all(any(m in f for f in files) for m in members)
 
 
+def missing_proofs():
+    """The claims whose line names no theorem."""
+    for page in sorted(ROOT.glob('crates/*/specs/*.antt')):
+        for name, file in PROVED.findall(page.read_text()):
+            proof = page.parent.parent / 'proofs' / f'{file}.antt'
+            if not proof.exists() or not re.search(rf'(?m)^\s*pub {name} :', proof.read_text()):
+                yield f'{page.relative_to(ROOT)}: proved by {name}, proofs/{file}'
+
+
 def main():
     (words, paths), wrong, fenced = read_sources(), [], False
     for page in [ROOT / 'README.md', *sorted(ROOT.glob('docs/*.md'))]:
@@ -52,6 +63,7 @@ def main():
             here = [n for n in dict.fromkeys(names) if not is_known(n, words, paths)]
             here += [f'{n} in {f}' for ns, f in NOTE.findall(line) for n in TICKED.findall(ns) if n not in words.get('crates/' + f, [n])]
             wrong += [f'{page.relative_to(ROOT)}:{number}: {n}' for n in here]
+    wrong += missing_proofs()
     print('\n'.join(wrong) or 'all names stand somewhere')
     sys.exit(bool(wrong))
 
