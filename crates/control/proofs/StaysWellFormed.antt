@@ -41,8 +41,8 @@ unfolding addressesFit
 addresses-below stack zero e k h = absurd (omega arith)
 addresses-below stack (suc n) e k h =
     let p = both (ltb (getD stack n 0) 0x1000) (addressesFit stack n) e in
-    below-more (λ j. getD stack j 0 < 0x1000) n (addresses-below stack n (p .1)) (ltb-true (getD stack n 0) 0x1000 (p .0)) k
-    (omega arith)
+    below-more (λ j. getD stack j 0 < 0x1000) n (addresses-below stack n (p .1))
+    (ltb-true (getD stack n 0) 0x1000 (p .0)) k (omega arith)
 
 below-addresses : (stack : List ℕ) (n : ℕ) → ((k : ℕ) → k < n → getD stack k 0 < 0x1000) → addressesFit stack n ≡ true
 unfolding addressesFit
@@ -68,7 +68,8 @@ formed-exactly = record {
         addresses = addresses-below stack (c .levels) (q .1);
       };
   test = λ stack c f.
-      rw (lt-ltb (c .pc) 0x1000 (f .pc), le-leb (c .levels) 6 (f .levels)) (below-addresses stack (c .levels) (f .addresses));
+      rw (lt-ltb (c .pc) 0x1000 (f .pc), le-leb (c .levels) 6 (f .levels))
+      (below-addresses stack (c .levels) (f .addresses));
 }
 
 -- the slot that was stored to, whatever the list's length
@@ -84,7 +85,8 @@ elsewhere stack c d f h e = record { pc = h; levels = rw e (f .levels); addresse
 module _ (stack : List ℕ) (c : Control) (formed : Formed stack c) where
   pushed :
       (address : ℕ) → address < 0x1000 → (b : Bool) → isFull c ≡ b →
-      FormedAfter (cond b (stops stack c stop.Full) (goesOn (set stack (c .levels) address) (withLevels c (c .levels + 1))))
+      FormedAfter
+      (cond b (stops stack c stop.Full) (goesOn (set stack (c .levels) address) (withLevels c (c .levels + 1))))
   pushed address h true e = formed
   pushed address h false e =
       let room : c .levels < 6 = leb-false 6 (c .levels) e in
@@ -92,13 +94,17 @@ module _ (stack : List ℕ) (c : Control) (formed : Formed stack c) where
         pc = formed .pc;
         levels = omega arith;
         addresses = below-more (λ j. getD (set stack (c .levels) address) j 0 < 0x1000) (c .levels)
-            (λ k h. rw (getD-set-other stack (c .levels) k address 0 (λ (q : k ≡ c .levels). omega arith)) (formed .addresses k h))
+            (λ k h.
+            rw (getD-set-other stack (c .levels) k address 0 (λ (q : k ≡ c .levels). omega arith))
+            (formed .addresses k h))
             (stored-below stack (c .levels) address h);
       }
 
   popped :
       (b : Bool) → eqb (c .levels) 0 ≡ b →
-      FormedAfter (cond b (stops stack c stop.Empty) (goesOn stack (withLevels (withPc c (getD stack (c .levels - 1) 0)) (c .levels - 1))))
+      FormedAfter
+      (cond b (stops stack c stop.Empty)
+      (goesOn stack (withLevels (withPc c (getD stack (c .levels - 1) 0)) (c .levels - 1))))
   popped true e = formed
   popped false e =
       let some : c .levels ≡ 0 → ⊥ = eqb-false (c .levels) 0 e in
@@ -110,7 +116,9 @@ module _ (stack : List ℕ) (c : Control) (formed : Formed stack c) where
 
   returned :
       (next : ℕ) → next < 0x1000 → (b : Bool) →
-      FormedAfter (cond b (goesOn stack (withMode (withPc c next) (modeBeneath (c .mode)))) (thenIn (popOf stack c) (modeBeneath (c .mode))))
+      FormedAfter
+      (cond b (goesOn stack (withMode (withPc c next) (modeBeneath (c .mode))))
+      (thenIn (popOf stack c) (modeBeneath (c .mode))))
   unfolding popOf
   returned next h true = elsewhere stack c _ formed h refl
   returned next h false =
@@ -128,7 +136,8 @@ module _ (stack : List ℕ) (c : Control) (formed : Formed stack c) where
   by-flow flow.Next r jumps next h = elsewhere stack c _ formed h refl
   by-flow (flow.Jump to) r jumps next h = elsewhere stack c _ formed r refl
   by-flow (flow.Branch condition to) r jumps next h = branched to next r h jumps
-  by-flow (flow.Call to) r jumps next h = elsewhere _ (pushOf stack c next .control) _ (pushed next h (isFull c) refl) r refl
+  by-flow (flow.Call to) r jumps next h =
+      elsewhere _ (pushOf stack c next .control) _ (pushed next h (isFull c) refl) r refl
   by-flow flow.Return r jumps next h = popped (eqb (c .levels) 0) refl
   by-flow flow.ReturnFromInterrupt r jumps next h = returned next h (endsStartUp c)
   by-flow flow.Sleep r jumps next h = elsewhere stack c _ formed h refl

@@ -55,6 +55,7 @@ module _ (stack : List ℕ) (c : Control) where
     where
       by-start-up :
           (b : Bool) → StopsWhere (not b && eqb (c .levels) 0) stop.Empty stack
-          (cond b (goesOn stack (withMode (withPc c next) (modeBeneath (c .mode)))) (thenIn (popOf stack c) (modeBeneath (c .mode))))
+          (cond b (goesOn stack (withMode (withPc c next) (modeBeneath (c .mode))))
+          (thenIn (popOf stack c) (modeBeneath (c .mode))))
       by-start-up true = record { stop = refl; kept = inl refl }
       by-start-up false = record { stop = pop-stops .stop; kept = pop-stops .kept }

@@ -46,7 +46,8 @@ unfolding executedOf completedOf executeOf advanceOf
 data-goes-on image m i bytes cycles e = record { control = rw e; stack = rw e; answer = rw e }
 
 -- a run that has not ended is at a step that is not refused
-module _ (image : List ℕ) (all : Bytes image) (size : isImage (length image) ≡ true) (requests : List ℕ) (m : Machine) (formed : isWellFormed m ≡ true) where
+module _ (image : List ℕ) (all : Bytes image) (size : isImage (length image) ≡ true) (requests : List ℕ) (m : Machine)
+    (formed : isWellFormed m ≡ true) where
   stopped :
       (n : Machine) (request : ℕ) → isWellFormed n ≡ true → (s : Step) → Does image n request s → (r : Run) →
       StopsOnly (joinedOf r s .report .ending)
@@ -59,7 +60,8 @@ module _ (image : List ℕ) (all : Bytes image) (size : isImage (length image) �
       (r : Run) (request : ℕ) → isWellFormed (r .machine) ≡ true → namesOnlySources request ≡ true → (e : Ended) →
       r .report .ending ≡ e → StopsOnly e → StopsOnly (continuedBy image r request e .report .ending)
   continued r request w fits (done tt) is f =
-      rw (step-advances image (r .machine) request size w fits) (stopped (r .machine) request w _ (step-does image (r .machine) request size w) r)
+      rw (step-advances image (r .machine) request size w fits)
+      (stopped (r .machine) request w _ (step-does image (r .machine) request size w) r)
   continued r request w fits (refused reason) is f = rw is f
 
   ends :
@@ -68,8 +70,9 @@ module _ (image : List ℕ) (all : Bytes image) (size : isImage (length image) �
   unfolding stepsOf
   ends n fit zero h = tt
   ends n fit (suc k) h =
-      continued (stepsOf image requests m k) (getD requests k 0) (stays-well-formed .by-steps image all requests m formed k)
-      (fits-at requests n fit k (omega arith)) (stepsOf image requests m k .report .ending) refl (ends n fit k (omega arith))
+      continued (stepsOf image requests m k) (getD requests k 0)
+      (stays-well-formed .by-steps image all requests m formed k) (fits-at requests n fit k (omega arith))
+      (stepsOf image requests m k .report .ending) refl (ends n fit k (omega arith))
 
 pub run-ends-by-stop : RunEndsByStop
 run-ends-by-stop image all size requests n fit m formed = ends image all size requests m formed n fit n (omega arith)
@@ -82,7 +85,8 @@ run-is r e = rw (add-zero (r .report .steps), add-zero (r .report .cycles), e)
 followed-on :
     (image : List ℕ) (r s : Run) (request : ℕ) (e : Ended) → s .report .ending ≡ e →
     continuedBy image (followedBy r s) request e ≡ followedBy r (continuedBy image s request e)
-followed-on image r s request (done tt) e = by-answer (stepOf image (s .machine) request .machine) (stepOf image (s .machine) request .answer)
+followed-on image r s request (done tt) e =
+    by-answer (stepOf image (s .machine) request .machine) (stepOf image (s .machine) request .answer)
   where
     by-answer : (n : Machine) (a : Answer ℕ) → joinedBy (followedBy r s) n a ≡ followedBy r (joinedBy s n a)
     by-answer n (done cycles) =
@@ -90,10 +94,13 @@ followed-on image r s request (done tt) e = by-answer (stepOf image (s .machine)
     by-answer n (refused reason) = refl
 followed-on image r s request (refused reason) e = refl
 
-module _ (image requests : List ℕ) (m : Machine) (n : ℕ) (completes : stepsOf image requests m n .report .ending ≡ done tt) where
+module _ (image requests : List ℕ) (m : Machine) (n : ℕ)
+    (completes : stepsOf image requests m n .report .ending ≡ done tt) where
   more :
       (k : ℕ) →
-      stepsOf image requests m (n + k) ≡ followedBy (stepsOf image requests m n) (stepsOf image (drop n requests) (stepsOf image requests m n .machine) k)
+      stepsOf image requests m (n + k)
+      ≡ followedBy (stepsOf image requests m n)
+      (stepsOf image (drop n requests) (stepsOf image requests m n .machine) k)
   unfolding stepsOf
   more zero = rw (add-zero n) (sym (run-is (stepsOf image requests m n) completes))
   more (suc k) =

@@ -88,7 +88,8 @@ other-pair p f Reset b n = other-than-nmi p f b n
 other-pair p f NmiOverNormal b n = other-than-nmi p f b n
 other-pair p f NmiOverInterrupt b n = other-than-nmi p f b n
 
-module _ (image : List ℕ) (m : Machine) (request : ℕ) (mode : Mode) (apart : pairNumber (m .control .mode) ≢ pairNumber mode) where
+module _ (image : List ℕ) (m : Machine) (request : ℕ) (mode : Mode)
+    (apart : pairNumber (m .control .mode) ≢ pairNumber mode) where
   by-case : (s : Step) → Does image m request s → pairOf (s .machine .flags) mode ≡ pairOf (m .flags) mode
   by-case _ (stops r is) = refl
   by-case _ (takes source e none) = refl
@@ -112,7 +113,8 @@ own-pair p q f Reset = refl
 own-pair p q f NmiOverNormal = refl
 own-pair p q f NmiOverInterrupt = refl
 
-module _ (image : List ℕ) (m : Machine) (flags : FlagPairs) (same : pairOf flags (m .control .mode) ≡ pairOf (m .flags) (m .control .mode)) where
+module _ (image : List ℕ) (m : Machine) (flags : FlagPairs)
+    (same : pairOf flags (m .control .mode) ≡ pairOf (m .flags) (m .control .mode)) where
   unmoved :
       (a : Answer ℕ) →
       Alike (m .control .mode) (record { machine = m; answer = a }) (record { machine = withFlags m flags; answer = a })
@@ -149,7 +151,8 @@ module _ (image : List ℕ) (m : Machine) (flags : FlagPairs) (same : pairOf fla
   unrequested :
       (asleep : Bool) →
       Alike (m .control .mode) (cond asleep (doneOf m 0) (decodedOf image m (decodeAt image (m .control .pc))))
-      (cond asleep (doneOf (withFlags m flags) 0) (decodedOf image (withFlags m flags) (decodeAt image (m .control .pc))))
+      (cond asleep (doneOf (withFlags m flags) 0)
+      (decodedOf image (withFlags m flags) (decodeAt image (m .control .pc))))
   unrequested true = unmoved _
   unrequested false = decoded (decodeAt image (m .control .pc))
 
@@ -163,7 +166,8 @@ module _ (image : List ℕ) (m : Machine) (flags : FlagPairs) (same : pairOf fla
   tested :
       (i w n : Bool) (request : ℕ) →
       Alike (m .control .mode)
-      (unless i (refusedOf m (plain 1)) (unless w (refusedOf m (plain 2)) (unless n (refusedOf m (plain 11)) (advancedOf image m request))))
+      (unless i (refusedOf m (plain 1))
+      (unless w (refusedOf m (plain 2)) (unless n (refusedOf m (plain 11)) (advancedOf image m request))))
       (unless i (refusedOf (withFlags m flags) (plain 1))
       (unless w (refusedOf (withFlags m flags) (plain 2))
       (unless n (refusedOf (withFlags m flags) (plain 11)) (advancedOf image (withFlags m flags) request))))
@@ -187,7 +191,8 @@ beneath stack c next = by-test (endsStartUp c)
   where
     by-test :
         (b : Bool) →
-        cond b (goesOn stack (withMode (withPc c next) (modeBeneath (c .mode)))) (thenIn (popOf stack c) (modeBeneath (c .mode))) .control .mode
+        cond b (goesOn stack (withMode (withPc c next) (modeBeneath (c .mode))))
+        (thenIn (popOf stack c) (modeBeneath (c .mode))) .control .mode
         ≡ modeBeneath (c .mode)
     by-test true = refl
     by-test false = refl
@@ -202,7 +207,8 @@ put-back p NmiOverInterrupt = refl
 not-done : {P : Type 0} (r : Numbered) (used : ℕ) → _≡_ {A = Answer ℕ} (refused r) (done used) → P
 not-done r used e = let z : _≡_ {A = ℕ} 0 1 = cc in absurd (omega arith)
 
-module _ (image : List ℕ) (m n : Machine) (request bytes cycles used : ℕ) (none : TakesNone m request) (awake : m .control .asleep ≡ false) (at : AtPc image m I.Reti bytes cycles) where
+module _ (image : List ℕ) (m n : Machine) (request bytes cycles used : ℕ) (none : TakesNone m request)
+    (awake : m .control .asleep ≡ false) (at : AtPc image m I.Reti bytes cycles) where
   abbrev Returned : Type 0
   Returned = pairOf (n .flags) (n .control .mode) ≡ pairOf (m .flags) (modeBeneath (m .control .mode))
 
@@ -242,4 +248,8 @@ nothing-taken mode (inr e) enabled request = rw e (simp and-false)
 pub nmi-not-nested : NmiNotNested
 unfolding stepOf advancedOf
 nmi-not-nested image m request nmi named =
-    rw (named, nothing-taken (m .control .mode) nmi (enabledOf (m .bytes)) request, nothing-taken (m .control .mode) nmi (enabledOf (m .bytes)) 0)
+    rw (
+      named,
+      nothing-taken (m .control .mode) nmi (enabledOf (m .bytes)) request,
+      nothing-taken (m .control .mode) nmi (enabledOf (m .bytes)) 0,
+    )

@@ -75,7 +75,8 @@ module _ (image : List ℕ) (m : Machine) (request : ℕ) where
   stop-given : (r : Numbered) → StepStops image m request r → advancedOf image m request ≡ refusedOf m r
   unfolding advancedOf respondOf takenOf takenBy uninterruptedOf decodedOf executeOf advanceOf flowOf
   stop-given _ (why.request-full source e six) =
-      let full : takeOf (m .stack) (m .control) source .stop ≡ stop.Full = take-stops (m .stack) (m .control) source .stop ∙ rw six in
+      let full : takeOf (m .stack) (m .control) source .stop ≡ stop.Full =
+      take-stops (m .stack) (m .control) source .stop ∙ rw six in
       ap (respondOf image m) e ∙ rw full
   stop-given r (why.undecoded _ none awake e) =
       ap (respondOf image m) none ∙ sym (steps.awake image m awake) ∙ ap (decodedOf image m) e
@@ -157,7 +158,9 @@ module _ (image : List ℕ) (m : Machine) (requests : List ℕ) (n : ℕ) where
   by-tests :
       (i : Bool) → isImage (length image) ≡ i → (w : Bool) → isWellFormed m ≡ w → (few : Bool) → leb n 65535 ≡ few →
       (fit : Bool) → requestsFit requests n ≡ fit → ((r : Numbered) → RunRefused image m requests n r → ⊥) →
-      unless i (refusedRun m (plain 1)) (unless w (refusedRun m (plain 2)) (unless few (refusedRun m (plain 12)) (unless fit (refusedRun m (plain 11)) (stepsOf image requests m n))))
+      unless i (refusedRun m (plain 1))
+      (unless w (refusedRun m (plain 2))
+      (unless few (refusedRun m (plain 12)) (unless fit (refusedRun m (plain 11)) (stepsOf image requests m n))))
       ≡ stepsOf image requests m n
   by-tests false e w f few g fit h nowhere = absurd (nowhere _ (why.image-length e))
   by-tests true e false f few g fit h nowhere = absurd (nowhere _ (why.ill-formed e f))
@@ -172,7 +175,8 @@ unfolding runOf
 run-refusals = record {
   given = run-given;
   steps-else = λ image m requests n.
-      by-tests image m requests n (isImage (length image)) refl (isWellFormed m) refl (leb n 65535) refl (requestsFit requests n) refl;
+      by-tests image m requests n (isImage (length image)) refl (isWellFormed m) refl (leb n 65535) refl
+      (requestsFit requests n) refl;
 }
 
 module _ (m : Machine) (a value : ℕ) where
@@ -190,7 +194,8 @@ module _ (m : Machine) (a value : ℕ) where
   store-tests false e low f high g nowhere = absurd (nowhere _ (why.ill-formed e))
   store-tests true e false f high g nowhere = refl
   store-tests true e true f false g nowhere = refl
-  store-tests true e true f true g nowhere = absurd (nowhere _ (why.window-address e (leb-true 0x40 a f) (ltb-true a 0x80 g)))
+  store-tests true e true f true g nowhere =
+      absurd (nowhere _ (why.window-address e (leb-true 0x40 a f) (ltb-true a 0x80 g)))
 
 pub store-refusals : StoreRefusals
 unfolding hostStoreOf

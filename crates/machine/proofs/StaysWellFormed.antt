@@ -42,7 +42,8 @@ module _ (image : List ℕ) (all : Bytes image) (m : Machine) (formed : isWellFo
   by-case _ (idles none asleep) = formed
   by-case _ (executes i bytes cycles none awake at goes) =
       formed-exactly .test _ _
-      (stays-formed .by-flow (m .stack) (m .control) facts (flowOf i (m .control .pc)) (targets-in-range image all (m .control .pc) i bytes cycles at)
+      (stays-formed .by-flow (m .stack) (m .control) facts (flowOf i (m .control .pc))
+      (targets-in-range image all (m .control .pc) i bytes cycles at)
       (jumpsOf image (viewOf m) (flowOf i (m .control .pc))) (forwardOf (m .control .pc) bytes) (omega arith))
 
   advance-formed : isImage (length image) ≡ true → FormedStep (advancedOf image m request)
@@ -70,13 +71,17 @@ module _ (image : List ℕ) (all : Bytes image) (requests : List ℕ) (m : Machi
   continued :
       (r : Run) (request : ℕ) (ending : Ended) → isWellFormed (r .machine) ≡ true →
       isWellFormed (continuedBy image r request ending .machine) ≡ true
-  continued r request (done tt) f = joined r (stepOf image (r .machine) request .machine) (stepOf image (r .machine) request .answer) (by-step image all (r .machine) f request)
+  continued r request (done tt) f =
+      joined r (stepOf image (r .machine) request .machine) (stepOf image (r .machine) request .answer)
+      (by-step image all (r .machine) f request)
   continued r request (refused reason) f = f
 
   by-steps : (n : ℕ) → isWellFormed (stepsOf image requests m n .machine) ≡ true
   unfolding stepsOf
   by-steps zero = formed
-  by-steps (suc n) = continued (stepsOf image requests m n) (getD requests n 0) (stepsOf image requests m n .report .ending) (by-steps n)
+  by-steps (suc n) =
+      continued (stepsOf image requests m n) (getD requests n 0) (stepsOf image requests m n .report .ending)
+      (by-steps n)
 
   by-run : (n : ℕ) → isWellFormed (runOf image m requests n .machine) ≡ true
   unfolding runOf
@@ -84,7 +89,12 @@ module _ (image : List ℕ) (all : Bytes image) (requests : List ℕ) (m : Machi
     where
       by-tests :
           (a b c d : Bool) →
-          isWellFormed (unless a (refusedRun m (plain 1)) (unless b (refusedRun m (plain 2)) (unless c (refusedRun m (plain 12)) (unless d (refusedRun m (plain 11)) (stepsOf image requests m n)))) .machine) ≡ true
+          isWellFormed
+          (unless a (refusedRun m (plain 1))
+          (unless b (refusedRun m (plain 2))
+          (unless c (refusedRun m (plain 12)) (unless d (refusedRun m (plain 11)) (stepsOf image requests m n))))
+          .machine)
+          ≡ true
       by-tests false b c d = formed
       by-tests true false c d = formed
       by-tests true true false d = formed
@@ -97,7 +107,11 @@ by-store m formed a value = by-tests (isWellFormed m) (not (inWindow a))
   where
     by-tests :
         (b c : Bool) →
-        isWellFormed (unless b (hostStored m (refused (plain 2))) (unless c (hostStored m (refused (plain 10))) (hostStored (withByte m a value) (done tt))) .machine) ≡ true
+        isWellFormed
+        (unless b (hostStored m (refused (plain 2)))
+        (unless c (hostStored m (refused (plain 10))) (hostStored (withByte m a value) (done tt)))
+        .machine)
+        ≡ true
     by-tests false c = formed
     by-tests true false = formed
     by-tests true true = formed

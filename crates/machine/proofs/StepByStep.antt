@@ -36,7 +36,8 @@ pub fits-at :
 unfolding requestsFit
 fits-at requests zero e k h = absurd (omega arith)
 fits-at requests (suc n) e k h =
-    let p : (namesOnlySources (getD requests n 0) ≡ true) × (requestsFit requests n ≡ true) = both (namesOnlySources (getD requests n 0)) (requestsFit requests n) e in
+    let p : (namesOnlySources (getD requests n 0) ≡ true) × (requestsFit requests n ≡ true) =
+    both (namesOnlySources (getD requests n 0)) (requestsFit requests n) e in
     below-more (λ j. namesOnlySources (getD requests j 0) ≡ true) n (fits-at requests n (p .1)) (p .0) k (omega arith)
 
 -- a byte that does not makes the test fail
@@ -44,7 +45,9 @@ pub fits-not :
     (requests : List ℕ) (n k : ℕ) → k < n → namesOnlySources (getD requests k 0) ≡ false →
     (b : Bool) → requestsFit requests n ≡ b → b ≡ false
 fits-not requests n k h named false e = refl
-fits-not requests n k h named true e = let fits : namesOnlySources (getD requests k 0) ≡ true = fits-at requests n e k h in cc
+fits-not requests n k h named true e =
+    let fits : namesOnlySources (getD requests k 0) ≡ true = fits-at requests n e k h in
+    cc
 
 -- past the list's end there is nothing that does not fit
 past-end :
@@ -105,7 +108,9 @@ module _ (image requests : List ℕ) (m : Machine) where
   stays-by k (suc d) r e =
       let before : stepsOf image requests m (d + k) ≡ stepsOf image requests m k = stays-by k d r e in
       ap (stepsOf image requests m) (suc-add d k) ∙ next-step (d + k)
-      ∙ ended-stays image (stepsOf image requests m (d + k)) (getD requests (d + k) 0) r (ap (λ (x : Run). x .report .ending) before ∙ e) ∙ before
+      ∙ ended-stays image (stepsOf image requests m (d + k)) (getD requests (d + k) 0) r
+      (ap (λ (x : Run). x .report .ending) before ∙ e)
+      ∙ before
 
   -- a step that completes, after i that did
   pub one-more :
@@ -113,7 +118,9 @@ module _ (image requests : List ℕ) (m : Machine) where
       doneOf o more ≡ stepOf image n (getD requests i 0) →
       runAt o (i + 1) (cycles + more) (done tt) ≡ stepsOf image requests m (i + 1)
   one-more i cycles more n o e s =
-      let joined : runAt o (i + 1) (cycles + more) (done tt) ≡ continuedOf image (runAt n i cycles (done tt)) (getD requests i 0) = rw (← s) in
+      let joined : runAt o (i + 1) (cycles + more) (done tt)
+      ≡ continuedOf image (runAt n i cycles (done tt)) (getD requests i 0) =
+      rw (← s) in
       joined ∙ after i (runAt n i cycles (done tt)) e ∙ ap (stepsOf image requests m) (sym (add-one i))
 
   -- a step that stops, after i that completed, ends the run
@@ -122,10 +129,13 @@ module _ (image requests : List ℕ) (m : Machine) where
       runAt o i cycles (done tt) ≡ stepsOf image requests m i → refusedOf p r ≡ stepOf image o (getD requests i 0) →
       runAt p i cycles (refused r) ≡ stepsOf image requests m n
   stops-at i n cycles o p r h e s =
-      let joined : runAt p i cycles (refused r) ≡ continuedOf image (runAt o i cycles (done tt)) (getD requests i 0) = rw (← s) in
-      let here : runAt p i cycles (refused r) ≡ stepsOf image requests m (suc i) = joined ∙ after i (runAt o i cycles (done tt)) e in
+      let joined : runAt p i cycles (refused r) ≡ continuedOf image (runAt o i cycles (done tt)) (getD requests i 0) =
+      rw (← s) in
+      let here : runAt p i cycles (refused r) ≡ stepsOf image requests m (suc i) =
+      joined ∙ after i (runAt o i cycles (done tt)) e in
       let whole : (n - suc i) + suc i ≡ n = omega arith in
-      here ∙ sym (stays-by (suc i) (n - suc i) r (sym (ap (λ (x : Run). x .report .ending) here))) ∙ ap (stepsOf image requests m) whole
+      here ∙ sym (stays-by (suc i) (n - suc i) r (sym (ap (λ (x : Run). x .report .ending) here)))
+      ∙ ap (stepsOf image requests m) whole
 
 -- a list of one request byte
 pub fit-one : (q : ℕ) → namesOnlySources q ≡ true → requestsFit (replicate 1 q) 1 ≡ true
@@ -141,6 +151,11 @@ one-step image m q r e = rw e (by-answer (stepOf image m q .machine) (stepOf ima
   where
     by-answer :
         (n : Machine) (a : Answer ℕ) →
-        _≡_ {A = Step} (record { machine = joinedBy (runAt m 0 0 (done tt)) n a .machine; answer = asAnswer (joinedBy (runAt m 0 0 (done tt)) n a .report) }) (record { machine = n; answer = a })
+        _≡_ {A = Step}
+        (record {
+          machine = joinedBy (runAt m 0 0 (done tt)) n a .machine;
+          answer = asAnswer (joinedBy (runAt m 0 0 (done tt)) n a .report);
+        })
+        (record { machine = n; answer = a })
     by-answer n (done cycles) = rw (zero-add cycles)
     by-answer n (refused reason) = refl

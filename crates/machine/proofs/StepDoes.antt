@@ -99,11 +99,13 @@ module _ (image : List ℕ) (m : Machine) (request : ℕ) (formed : isWellFormed
       Does image m request (executedOf image m i bytes cycles)
   unfolding executedOf completedOf executeOf advanceOf flowOf
   executed none awake i bytes cycles at (is-call to) =
-      by-test _ _ stop.Full (isFull (m .control)) (call-stops (m .stack) (m .control) to (forwardOf (m .control .pc) bytes) .stop)
+      by-test _ _ stop.Full (isFull (m .control))
+      (call-stops (m .stack) (m .control) to (forwardOf (m .control .pc) bytes) .stop)
       (executes i bytes cycles none awake at) (λ f. stops _ (call-full to bytes cycles none awake at (six f)))
   executed none awake i bytes cycles at is-ret =
       by-test _ _ stop.Empty (eqb (m .control .levels) 0) (pop-stops (m .stack) (m .control) .stop)
-      (executes i bytes cycles none awake at) (λ f. stops _ (ret-empty bytes cycles none awake at (eqb-true (m .control .levels) 0 f)))
+      (executes i bytes cycles none awake at)
+      (λ f. stops _ (ret-empty bytes cycles none awake at (eqb-true (m .control .levels) 0 f)))
   executed none awake i bytes cycles at is-reti =
       by-test _ _ stop.Empty _ (return-stops (m .stack) (m .control) (forwardOf (m .control .pc) bytes) .stop)
       (executes i bytes cycles none awake at)
@@ -142,9 +144,16 @@ step-does image m request size formed =
 
 -- a stop has one of four numbers, and an address
 is-stop : (number address : ℕ) → 3 < number → number < 8 → IsStop (located number address)
-is-stop number address h l = record { number = number; address = address; is = refl; least = omega arith; most = omega arith }
+is-stop number address h l = record {
+  number = number;
+  address = address;
+  is = refl;
+  least = omega arith;
+  most = omega arith;
+}
 
-module _ (image : List ℕ) (m : Machine) (request : ℕ) (size : isImage (length image) ≡ true) (formed : isWellFormed m ≡ true) where
+module _ (image : List ℕ) (m : Machine) (request : ℕ) (size : isImage (length image) ≡ true)
+    (formed : isWellFormed m ≡ true) where
   by-decoding : (a : Answer decode.Decoding) → AtAddress (m .control .pc) a → (r : Numbered) → a ≡ refused r → IsStop r
   by-decoding (done d) at r e = let z : _≡_ {A = ℕ} 0 1 = cc in absurd (omega arith)
   by-decoding (refused q) (inl is) r e =
@@ -159,7 +168,8 @@ module _ (image : List ℕ) (m : Machine) (request : ℕ) (size : isImage (lengt
       (at-address image (m .control .pc) size (formed-exactly .facts (m .stack) (m .control) formed .pc)) r e
   numbered-stop _ (call-full to bytes cycles none awake at l) = is-stop 6 (m .control .pc) (omega arith) (omega arith)
   numbered-stop _ (ret-empty bytes cycles none awake at l) = is-stop 7 (m .control .pc) (omega arith) (omega arith)
-  numbered-stop _ (reti-empty bytes cycles none awake at l mode) = is-stop 7 (m .control .pc) (omega arith) (omega arith)
+  numbered-stop _ (reti-empty bytes cycles none awake at l mode) =
+      is-stop 7 (m .control .pc) (omega arith) (omega arith)
 
 -- a step: refused for one of three reasons, or as above
 pub data Tested (image : List ℕ) (m : Machine) (request : ℕ) : Step → Type 0 where
@@ -170,13 +180,15 @@ pub data Tested (image : List ℕ) (m : Machine) (request : ℕ) : Step → Type
 
 pub step-tested : (image : List ℕ) (m : Machine) (request : ℕ) → Tested image m request (stepOf image m request)
 unfolding stepOf
-step-tested image m request = by-tests (isImage (length image)) refl (isWellFormed m) refl (namesOnlySources request) refl
+step-tested image m request =
+    by-tests (isImage (length image)) refl (isWellFormed m) refl (namesOnlySources request) refl
   where
     by-tests :
         (i : Bool) → isImage (length image) ≡ i → (w : Bool) → isWellFormed m ≡ w → (n : Bool) →
         namesOnlySources request ≡ n →
         Tested image m request
-        (unless i (refusedOf m (plain 1)) (unless w (refusedOf m (plain 2)) (unless n (refusedOf m (plain 11)) (advancedOf image m request))))
+        (unless i (refusedOf m (plain 1))
+        (unless w (refusedOf m (plain 2)) (unless n (refusedOf m (plain 11)) (advancedOf image m request))))
     by-tests false e w f n g = refuses (plain 1) (image-length e)
     by-tests true e false f n g = refuses (plain 2) (ill-formed e f)
     by-tests true e true f false g = refuses (plain 11) (unknown-source e f g)

@@ -35,9 +35,10 @@ pub data MayStop : Instruction → Type 0 where
   is-ret : MayStop I.Ret
   is-reti : MayStop I.Reti
   goes-on :
-      {i : Instruction} →
-      ((image : List ℕ) (d : Data) (stack : List ℕ) (c : Control) (next : ℕ) → executeOf image d stack c i next .stop ≡ stop.None) →
-      MayStop i
+      {i : Instruction}
+      → ((image : List ℕ) (d : Data) (stack : List ℕ) (c : Control) (next : ℕ)
+      → executeOf image d stack c i next .stop ≡ stop.None)
+      → MayStop i
 
 pub may-stop : (i : Instruction) → MayStop i
 unfolding executeOf advanceOf flowOf
@@ -95,10 +96,12 @@ not-none-empty : {s : Stop} → (s ≡ stop.None) → (s ≡ stop.Empty) → ⊥
 not-none-empty p q = let z : _≡_ {A = ℕ} 0 1 = cc in omega arith
 
 -- an instruction's end, from what the program was handed
-module _ (m : Machine) (cycles : ℕ) (x : Execution) (bytes stack : List ℕ) (r : Executed) (e : executionOf bytes stack r ≡ x) where
+module _ (m : Machine) (cycles : ℕ) (x : Execution) (bytes stack : List ℕ) (r : Executed)
+    (e : executionOf bytes stack r ≡ x) where
   pub completed :
       r .stop ≡ stop.None →
-      doneOf (machineOf (r .control) stack (withPairOf (m .flags) (m .control .mode) (r .flags)) bytes) cycles ≡ completedOf m cycles x
+      doneOf (machineOf (r .control) stack (withPairOf (m .flags) (m .control .mode) (r .flags)) bytes) cycles
+      ≡ completedOf m cycles x
   unfolding completedOf
   completed h = rw (← e, h)
 
@@ -113,13 +116,15 @@ module _ (m : Machine) (cycles : ℕ) (x : Execution) (bytes stack : List ℕ) (
       Kept (viewOf m) (m .stack) x → r .stop ≡ stop.Full →
       refusedOf (machineOf (m .control) stack (m .flags) bytes) (located 6 (m .control .pc)) ≡ completedOf m cycles x
   unfolding completedOf
-  completed-full k h = ap (λ (n : Machine). refusedOf n (located 6 (m .control .pc))) (same k (λ n. not-none n h)) ∙ rw (← e, h)
+  completed-full k h =
+      ap (λ (n : Machine). refusedOf n (located 6 (m .control .pc))) (same k (λ n. not-none n h)) ∙ rw (← e, h)
 
   pub completed-empty :
       Kept (viewOf m) (m .stack) x → r .stop ≡ stop.Empty →
       refusedOf (machineOf (m .control) stack (m .flags) bytes) (located 7 (m .control .pc)) ≡ completedOf m cycles x
   unfolding completedOf
-  completed-empty k h = ap (λ (n : Machine). refusedOf n (located 7 (m .control .pc))) (same k (λ n. not-none-empty n h)) ∙ rw (← e, h)
+  completed-empty k h =
+      ap (λ (n : Machine). refusedOf n (located 7 (m .control .pc))) (same k (λ n. not-none-empty n h)) ∙ rw (← e, h)
 
 -- a request's end, likewise
 module _ (m : Machine) (t : Transferred) (stack : List ℕ) (r : Transfer) (e : transferOf stack r ≡ t) where
@@ -138,10 +143,13 @@ module _ (m : Machine) (t : Transferred) (stack : List ℕ) (r : Transfer) (e : 
       control.Kept (m .stack) t → r .stop ≡ stop.Full →
       refusedOf (machineOf (m .control) stack (m .flags) (m .bytes)) (located 6 (m .control .pc)) ≡ takenBy m t
   unfolding takenBy
-  taken-full k h = ap (λ (n : Machine). refusedOf n (located 6 (m .control .pc))) (same-taken k (λ n. not-none n h)) ∙ rw (← e, h)
+  taken-full k h =
+      ap (λ (n : Machine). refusedOf n (located 6 (m .control .pc))) (same-taken k (λ n. not-none n h)) ∙ rw (← e, h)
 
   pub taken-empty :
       control.Kept (m .stack) t → r .stop ≡ stop.Empty →
       refusedOf (machineOf (m .control) stack (m .flags) (m .bytes)) (located 7 (m .control .pc)) ≡ takenBy m t
   unfolding takenBy
-  taken-empty k h = ap (λ (n : Machine). refusedOf n (located 7 (m .control .pc))) (same-taken k (λ n. not-none-empty n h)) ∙ rw (← e, h)
+  taken-empty k h =
+      ap (λ (n : Machine). refusedOf n (located 7 (m .control .pc))) (same-taken k (λ n. not-none-empty n h))
+      ∙ rw (← e, h)

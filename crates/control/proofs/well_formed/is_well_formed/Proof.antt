@@ -9,8 +9,8 @@ use Rattle.control.proofs.well_formed.is_well_formed.Tie as tie
 returns : tie.Need-returns
 unfolding wellFormed
 returns c =
-    ⊎-elim (λ w. rw (le-ltb _ _ (w .taken))) (λ w. rw (lt-ltb _ _ (w .0 .left), lt-leb _ _ (ltb-true _ _ (w .1 .taken))))
-    (c .if1 .came)
+    ⊎-elim (λ w. rw (le-ltb _ _ (w .taken)))
+    (λ w. rw (lt-ltb _ _ (w .0 .left), lt-leb _ _ (ltb-true _ _ (w .1 .taken)))) (c .if1 .came)
 
 addresses-fit-requires : tie.Need-addresses-fit-requires
 addresses-fit-requires c κs = search needs

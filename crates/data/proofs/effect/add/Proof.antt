@@ -13,7 +13,9 @@ store-result-requires : tie.Need-store-result-requires
 store-result-requires c κs = search needs
 
 returns : tie.Need-returns
-returns c = rw (c .store-result .ensures, c .before .before .added .ensures, c .before .before .before .accumulator .ensures)
+returns c =
+    let k = c .before .before in
+    rw (c .store-result .ensures, k .added .ensures, k .before .accumulator .ensures)
 
 pub add-spec : {M : Type 1} → statement M
 add-spec = tie.close (tie.spec accumulator-requires added-requires store-result-requires returns)

@@ -169,11 +169,15 @@ returns-4 c = rw (c .set-bit .ensures, c .before .before .before .instruction4 .
 
 returns-5 : tie.Need-returns-5
 unfolding effectOf
-returns-5 c = rw (c .load .ensures, c .before .before .operand .ensures, c .before .before .before .before .before .instruction5 .given .1)
+returns-5 c =
+    let k = c .before .before in
+    rw (c .load .ensures, k .operand .ensures, k .before .before .before .instruction5 .given .1)
 
 returns-6 : tie.Need-returns-6
 unfolding effectOf
-returns-6 c = rw (c .store-a .ensures, c .before .before .address .ensures, c .before .before .before .before .before .instruction6 .given .1)
+returns-6 c =
+    let k = c .before .before in
+    rw (c .store-a .ensures, k .address .ensures, k .before .before .before .instruction6 .given .1)
 
 returns-7 : tie.Need-returns-7
 unfolding effectOf
@@ -185,15 +189,21 @@ returns-8 c = rw (c .store-immediate .ensures, c .before .before .before .instru
 
 returns-9 : tie.Need-returns-9
 unfolding effectOf
-returns-9 c = rw (c .increment .ensures, c .before .before .address2 .ensures, c .before .before .before .before .before .instruction9 .given .1)
+returns-9 c =
+    let k = c .before .before in
+    rw (c .increment .ensures, k .address2 .ensures, k .before .before .before .instruction9 .given .1)
 
 returns-10 : tie.Need-returns-10
 unfolding effectOf
-returns-10 c = rw (c .decrement .ensures, c .before .before .address3 .ensures, c .before .before .before .before .before .instruction10 .given .1)
+returns-10 c =
+    let k = c .before .before in
+    rw (c .decrement .ensures, k .address3 .ensures, k .before .before .before .instruction10 .given .1)
 
 returns-11 : tie.Need-returns-11
 unfolding effectOf
-returns-11 c = rw (c .add .ensures, c .before .before .operand2 .ensures, c .before .before .before .before .before .instruction11 .given .1)
+returns-11 c =
+    let k = c .before .before in
+    rw (c .add .ensures, k .operand2 .ensures, k .before .before .before .instruction11 .given .1)
 
 returns-12 : tie.Need-returns-12
 unfolding effectOf
@@ -201,7 +211,9 @@ returns-12 c = rw (c .add2 .ensures, c .before .before .before .instruction12 .g
 
 returns-13 : tie.Need-returns-13
 unfolding effectOf
-returns-13 c = rw (c .subtract .ensures, c .before .before .operand3 .ensures, c .before .before .before .before .before .instruction13 .given .1)
+returns-13 c =
+    let k = c .before .before in
+    rw (c .subtract .ensures, k .operand3 .ensures, k .before .before .before .instruction13 .given .1)
 
 returns-14 : tie.Need-returns-14
 unfolding effectOf
@@ -209,7 +221,9 @@ returns-14 c = rw (c .subtract2 .ensures, c .before .before .before .instruction
 
 returns-15 : tie.Need-returns-15
 unfolding effectOf
-returns-15 c = rw (c .and .ensures, c .before .before .operand4 .ensures, c .before .before .before .before .before .instruction15 .given .1)
+returns-15 c =
+    let k = c .before .before in
+    rw (c .and .ensures, k .operand4 .ensures, k .before .before .before .instruction15 .given .1)
 
 returns-16 : tie.Need-returns-16
 unfolding effectOf
@@ -217,7 +231,9 @@ returns-16 c = rw (c .and2 .ensures, c .before .before .before .instruction16 .g
 
 returns-17 : tie.Need-returns-17
 unfolding effectOf
-returns-17 c = rw (c .compare .ensures, c .before .before .operand5 .ensures, c .before .before .before .before .before .instruction17 .given .1)
+returns-17 c =
+    let k = c .before .before in
+    rw (c .compare .ensures, k .operand5 .ensures, k .before .before .before .instruction17 .given .1)
 
 returns-18 : tie.Need-returns-18
 unfolding effectOf

@@ -13,7 +13,9 @@ store-result-requires : tie.Need-store-result-requires
 store-result-requires c κs = search needs
 
 returns : tie.Need-returns
-returns c = rw (c .store-result .ensures, c .before .before .incremented .ensures, c .before .before .before .read .ensures)
+returns c =
+    let k = c .before .before in
+    rw (c .store-result .ensures, k .incremented .ensures, k .before .read .ensures)
 
 pub increment-spec : {M : Type 1} → statement M
 increment-spec = tie.close (tie.spec read-requires incremented-requires store-result-requires returns)

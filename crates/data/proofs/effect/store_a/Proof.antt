@@ -13,7 +13,9 @@ store-result-requires : tie.Need-store-result-requires
 store-result-requires c κs = search needs
 
 returns : tie.Need-returns
-returns c = rw (c .store-result .ensures, c .before .before .result .ensures, c .before .before .before .accumulator .ensures)
+returns c =
+    let k = c .before .before in
+    rw (c .store-result .ensures, k .result .ensures, k .before .accumulator .ensures)
 
 pub store-a-spec : {M : Type 1} → statement M
 store-a-spec = tie.close (tie.spec accumulator-requires result-requires store-result-requires returns)

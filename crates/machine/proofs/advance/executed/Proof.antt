@@ -39,22 +39,28 @@ returns : tie.Need-returns
 unfolding executedOf
 returns c =
     let k = c .before .before .before .before .before .before in
-    let after = rw (k .before .pair .ensures, k .before .before .before .before .forward .ensures) at (k .execute .ensures) in
-    rw (c .done .ensures _ _, c .before .with-pair .ensures) (completed _ _ _ _ _ _ after (c .before .before .enum-told .given .1))
+    let after =
+    rw (k .before .pair .ensures, k .before .before .before .before .forward .ensures) at (k .execute .ensures) in
+    rw (c .done .ensures _ _, c .before .with-pair .ensures)
+    (completed _ _ _ _ _ _ after (c .before .before .enum-told .given .1))
 
 returns-2 : tie.Need-returns-2
 unfolding executedOf
 returns-2 c =
     let k = c .before .before .before .before .before in
-    let after = rw (k .before .pair .ensures, k .before .before .before .before .forward .ensures) at (k .execute .ensures) in
-    rw (c .stopped .ensures _ _) (completed-full _ _ _ _ _ _ after (execution-keeps _ _ _ _ _ _) (c .before .enum-told2 .given .1))
+    let after =
+    rw (k .before .pair .ensures, k .before .before .before .before .forward .ensures) at (k .execute .ensures) in
+    rw (c .stopped .ensures _ _)
+    (completed-full _ _ _ _ _ _ after (execution-keeps _ _ _ _ _ _) (c .before .enum-told2 .given .1))
 
 returns-3 : tie.Need-returns-3
 unfolding executedOf
 returns-3 c =
     let k = c .before .before .before .before .before in
-    let after = rw (k .before .pair .ensures, k .before .before .before .before .forward .ensures) at (k .execute .ensures) in
-    rw (c .stopped2 .ensures _ _) (completed-empty _ _ _ _ _ _ after (execution-keeps _ _ _ _ _ _) (c .before .enum-told3 .given .1))
+    let after =
+    rw (k .before .pair .ensures, k .before .before .before .before .forward .ensures) at (k .execute .ensures) in
+    rw (c .stopped2 .ensures _ _)
+    (completed-empty _ _ _ _ _ _ after (execution-keeps _ _ _ _ _ _) (c .before .enum-told3 .given .1))
 
 pub executed-spec : {M : Type 1} → statement M
 executed-spec =

@@ -32,7 +32,8 @@ returns-2 c =
     let start = k .before .before .before in
     let reason = c .before .before .reason .given in
     let decoded : decodeAt (start .args .image .now) (start .args .c .pc) ≡ refused (numbered (reason .0 .0)) =
-    sym (rw (reason .1) at (k .decode-in-range .ensures (start .pre .0)) ∙ in-range _ _ (start .pre .1) (start .pre .2)) in
+    sym (rw (reason .1) at (k .decode-in-range .ensures (start .pre .0))
+    ∙ in-range _ _ (start .pre .1) (start .pre .2)) in
     rw decoded (c .stopped .ensures _ _) ∙ awake _ _ (k .before .if1 .left)
 
 enum-known-instruction : tie.Need-enum-known-instruction
@@ -47,7 +48,8 @@ returns-3 c =
     let k = c .before .before .before .before .before .before in
     let start = k .before .before .before in
     let d = c .before .before .before .before .instruction .given in
-    let decoded : decodeAt (start .args .image .now) (start .args .c .pc) ≡ done (decode.instruction (d .0 .0) (d .0 .1 .0) (d .0 .1 .1 .0)) =
+    let decoded : decodeAt (start .args .image .now) (start .args .c .pc)
+    ≡ done (decode.instruction (d .0 .0) (d .0 .1 .0) (d .0 .1 .1 .0)) =
     sym (rw (d .1) at (k .decode-in-range .ensures (start .pre .0)) ∙ in-range _ _ (start .pre .1) (start .pre .2)) in
     rw decoded (c .executed .ensures) ∙ awake _ _ (k .before .if1 .left)
 

@@ -149,28 +149,48 @@ returns : tie.Need-returns
 unfolding executeOf advanceOf flowOf effectOf
 returns c =
     let k = c .before .before .before .before .before in
-    rw (c .goes-on .ensures _ _, c .before .branch .ensures, c .before .before .short-target .ensures, k .instruction .given .1)
+    rw (
+      c .goes-on .ensures _ _,
+      c .before .branch .ensures,
+      c .before .before .short-target .ensures,
+      k .instruction .given .1,
+    )
     (search needs)
 
 returns-2 : tie.Need-returns-2
 unfolding executeOf advanceOf flowOf effectOf
 returns-2 c =
     let k = c .before .before .before .before .before in
-    rw (c .goes-on2 .ensures _ _, c .before .branch2 .ensures, c .before .before .short-target2 .ensures, k .instruction2 .given .1)
+    rw (
+      c .goes-on2 .ensures _ _,
+      c .before .branch2 .ensures,
+      c .before .before .short-target2 .ensures,
+      k .instruction2 .given .1,
+    )
     (search needs)
 
 returns-3 : tie.Need-returns-3
 unfolding executeOf advanceOf flowOf effectOf
 returns-3 c =
     let k = c .before .before .before .before in
-    rw (c .goes-on3 .ensures _ _, c .before .branch3 .ensures, c .before .before .short-target3 .ensures, k .instruction3 .given .1)
+    rw (
+      c .goes-on3 .ensures _ _,
+      c .before .branch3 .ensures,
+      c .before .before .short-target3 .ensures,
+      k .instruction3 .given .1,
+    )
     (search needs)
 
 returns-4 : tie.Need-returns-4
 unfolding executeOf advanceOf flowOf effectOf
 returns-4 c =
     let k = c .before .before .before .before in
-    rw (c .goes-on4 .ensures _ _, c .before .branch4 .ensures, c .before .before .short-target4 .ensures, k .instruction4 .given .1)
+    rw (
+      c .goes-on4 .ensures _ _,
+      c .before .branch4 .ensures,
+      c .before .before .short-target4 .ensures,
+      k .instruction4 .given .1,
+    )
     (search needs)
 
 returns-5 : tie.Need-returns-5
@@ -182,20 +202,31 @@ returns-5 c =
 
 returns-6 : tie.Need-returns-6
 unfolding executeOf advanceOf flowOf effectOf
-returns-6 c = rw (c .goes-on5 .ensures _ _, c .before .with-pc .ensures, c .before .before .before .instruction6 .given .1)
+returns-6 c =
+    rw (c .goes-on5 .ensures _ _, c .before .with-pc .ensures, c .before .before .before .instruction6 .given .1)
 
 returns-7 : tie.Need-returns-7
 unfolding executeOf advanceOf flowOf effectOf
 returns-7 c =
     let k = c .before .before .before .before in
-    rw (c .goes-on6 .ensures _ _, c .before .branch5 .ensures, c .before .before .long-target .ensures, k .test-bit .ensures)
+    rw (
+      c .goes-on6 .ensures _ _,
+      c .before .branch5 .ensures,
+      c .before .before .long-target .ensures,
+      k .test-bit .ensures,
+    )
     (rw (k .before .before .before .instruction7 .given .1) (search needs))
 
 returns-8 : tie.Need-returns-8
 unfolding executeOf advanceOf flowOf effectOf
 returns-8 c =
     let k = c .before .before .before in
-    rw (c .goes-on7 .ensures _ _, c .before .branch6 .ensures, c .before .before .long-target2 .ensures, k .test-bit2 .ensures)
+    rw (
+      c .goes-on7 .ensures _ _,
+      c .before .branch6 .ensures,
+      c .before .before .long-target2 .ensures,
+      k .test-bit2 .ensures,
+    )
     (rw (k .before .before .before .instruction8 .given .1) (search needs))
 
 returns-9 : tie.Need-returns-9
@@ -209,7 +240,8 @@ returns-10 : tie.Need-returns-10
 unfolding executeOf advanceOf flowOf effectOf
 returns-10 c =
     let a = c .before .before .before .before .before .before .args in
-    c .transferred3 .ensures _ _ ∙ ap (executionBy (dataOf (a .bytes .now) (a .flags))) (c .before .return-from-interrupt .ensures)
+    c .transferred3 .ensures _ _
+    ∙ ap (executionBy (dataOf (a .bytes .now) (a .flags))) (c .before .return-from-interrupt .ensures)
     ∙ rw (c .before .before .before .enum-told2 .given .1)
 
 returns-11 : tie.Need-returns-11

@@ -9,16 +9,26 @@ is-normal-requires : tie.Need-is-normal-requires
 is-normal-requires c κs = search needs
 
 returns : tie.Need-returns
-returns c = rw (normal-is (c .before .before .before .args .mode) (sym (c .before .before .is-normal .ensures) ∙ c .before .if1 .taken))
+returns c =
+    let k = c .before .before in
+    rw (normal-is (k .before .args .mode) (sym (k .is-normal .ensures) ∙ c .before .if1 .taken))
 
 is-interrupt-requires : tie.Need-is-interrupt-requires
 is-interrupt-requires c κs = search needs
 
 returns-2 : tie.Need-returns-2
-returns-2 c = rw (interrupt-is (c .before .before .before .before .before .args .mode) (sym (c .before .before .is-interrupt .ensures) ∙ c .before .if2 .taken))
+returns-2 c =
+    let k = c .before .before in
+    let start = k .before .before .before in
+    rw (interrupt-is (start .args .mode) (sym (k .is-interrupt .ensures) ∙ c .before .if2 .taken))
 
 returns-3 : tie.Need-returns-3
-returns-3 c = nmi-pair (c .before .before .before .before .before .args .pairs) (c .before .before .before .before .before .args .mode) (sym (c .before .before .before .before .is-normal .ensures) ∙ c .before .before .before .if1 .left) (sym (c .before .before .is-interrupt .ensures) ∙ c .before .if2 .left)
+returns-3 c =
+    let k = c .before .before in
+    let start = k .before .before .before in
+    nmi-pair (start .args .pairs) (start .args .mode)
+    (sym (k .before .before .is-normal .ensures) ∙ k .before .if1 .left)
+    (sym (k .is-interrupt .ensures) ∙ c .before .if2 .left)
 
 pub pair-spec : {M : Type 1} → statement M
 pair-spec =

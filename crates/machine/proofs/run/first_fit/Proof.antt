@@ -32,9 +32,12 @@ names-only-sources-requires c κs = search needs
 returns : tie.Need-returns Inv-loop μ-loop
 returns c =
     let k = c .before in
-    let named : k .names-only-sources .result ≡ namesOnlySources (getD (k .before .before .before .before .before .args .requests .now) (k .before .before .before .loop .i) 0) =
+    let at-loop = k .before .before .before in
+    let start = at-loop .before .before in
+    let named : k .names-only-sources .result
+    ≡ namesOnlySources (getD (start .args .requests .now) (at-loop .loop .i) 0) =
     k .names-only-sources .ensures ∙ ap namesOnlySources (k .before .request-at .ensures) in
-    sym (fits-not _ _ (k .before .before .before .loop .i) (omega arith)
+    sym (fits-not _ _ (at-loop .loop .i) (omega arith)
     (sym named ∙ not-true (k .names-only-sources .result) (c .if1 .taken)) _ refl)
 
 add-i : tie.Need-add-i Inv-loop μ-loop
@@ -47,10 +50,13 @@ loop-again : tie.Need-loop-again Inv-loop μ-loop
 unfolding requestsFit
 loop-again c =
     let k = c .before in
-    let named : k .names-only-sources .result ≡ namesOnlySources (getD (k .before .before .before .before .before .args .requests .now) (k .before .before .before .loop .i) 0) =
+    let at-loop = k .before .before .before in
+    let start = at-loop .before .before in
+    let named : k .names-only-sources .result
+    ≡ namesOnlySources (getD (start .args .requests .now) (at-loop .loop .i) 0) =
     k .names-only-sources .ensures ∙ ap namesOnlySources (k .before .request-at .ensures) in (
       search needs,
-      rw (add-one _, ← named, not-false (k .names-only-sources .result) (c .if1 .left)) (k .before .before .before .loop .inv .1),
+      rw (add-one _, ← named, not-false (k .names-only-sources .result) (c .if1 .left)) (at-loop .loop .inv .1),
     )
 
 returns-2 : tie.Need-returns-2 Inv-loop μ-loop

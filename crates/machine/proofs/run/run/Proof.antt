@@ -32,8 +32,12 @@ unfolding runOf
 returns-2 c =
     let w = c .before .before in
     let i = w .before .before .before .before .before in
-    rw (← i .is-image-length .ensures, not-false (i .is-image-length .result) (w .before .before .before .before .if1 .left))
-    (rw (← w .is-well-formed .ensures, not-true (w .is-well-formed .result) (c .before .if2 .taken)) (c .refused-run2 .ensures))
+    rw (
+      ← i .is-image-length .ensures,
+      not-false (i .is-image-length .result) (w .before .before .before .before .if1 .left),
+    )
+    (rw (← w .is-well-formed .ensures, not-true (w .is-well-formed .result) (c .before .if2 .taken))
+    (c .refused-run2 .ensures))
 
 refused-run-requires-3 : tie.Need-refused-run-requires-3
 refused-run-requires-3 c κs = search needs
@@ -43,7 +47,10 @@ unfolding runOf
 returns-3 c =
     let w = c .before .before .before in
     let i = w .before .before .before .before .before in
-    rw (← i .is-image-length .ensures, not-false (i .is-image-length .result) (w .before .before .before .before .if1 .left))
+    rw (
+      ← i .is-image-length .ensures,
+      not-false (i .is-image-length .result) (w .before .before .before .before .if1 .left),
+    )
     (rw (← w .is-well-formed .ensures, not-false (w .is-well-formed .result) (c .before .before .if2 .left))
     (rw (lt-leb _ _ (c .before .if3 .taken)) (c .refused-run3 .ensures)))
 
@@ -59,9 +66,16 @@ returns-4 c =
     let f = c .before .before in
     let w = f .before .before .before in
     let i = w .before .before .before .before .before in
-    rw (← i .is-image-length .ensures, not-false (i .is-image-length .result) (w .before .before .before .before .if1 .left))
+    rw (
+      ← i .is-image-length .ensures,
+      not-false (i .is-image-length .result) (w .before .before .before .before .if1 .left),
+    )
     (rw (← w .is-well-formed .ensures, not-false (w .is-well-formed .result) (f .before .before .if2 .left))
-    (rw (le-leb _ _ (f .before .if3 .left), ← f .requests-fit .ensures, not-true (f .requests-fit .result) (c .before .if4 .taken))
+    (rw (
+      le-leb _ _ (f .before .if3 .left),
+      ← f .requests-fit .ensures,
+      not-true (f .requests-fit .result) (c .before .if4 .taken),
+    )
     (c .refused-run4 .ensures)))
 
 on-copy-requires : tie.Need-on-copy-requires
@@ -81,9 +95,16 @@ returns-5 c =
     let f = c .before .before in
     let w = f .before .before .before in
     let i = w .before .before .before .before .before in
-    rw (← i .is-image-length .ensures, not-false (i .is-image-length .result) (w .before .before .before .before .if1 .left))
+    rw (
+      ← i .is-image-length .ensures,
+      not-false (i .is-image-length .result) (w .before .before .before .before .if1 .left),
+    )
     (rw (← w .is-well-formed .ensures, not-false (w .is-well-formed .result) (f .before .before .if2 .left))
-    (rw (le-leb _ _ (f .before .if3 .left), ← f .requests-fit .ensures, not-false (f .requests-fit .result) (c .before .if4 .left))
+    (rw (
+      le-leb _ _ (f .before .if3 .left),
+      ← f .requests-fit .ensures,
+      not-false (f .requests-fit .result) (c .before .if4 .left),
+    )
     (c .on-copy .ensures .0)))
 
 pub run-spec : {M : Type 1} → statement M

@@ -34,8 +34,12 @@ unfolding stepOf
 returns-2 c =
     let w = c .before .before in
     let i = w .before .before .before .before .before in
-    rw (← i .is-image-length .ensures, not-false (i .is-image-length .result) (w .before .before .before .before .if1 .left))
-    (rw (← w .is-well-formed .ensures, not-true (w .is-well-formed .result) (c .before .if2 .taken)) (c .refused-step2 .ensures))
+    rw (
+      ← i .is-image-length .ensures,
+      not-false (i .is-image-length .result) (w .before .before .before .before .if1 .left),
+    )
+    (rw (← w .is-well-formed .ensures, not-true (w .is-well-formed .result) (c .before .if2 .taken))
+    (c .refused-step2 .ensures))
 
 names-only-sources-requires : tie.Need-names-only-sources-requires
 names-only-sources-requires c κs = search needs
@@ -49,7 +53,10 @@ returns-3 c =
     let n = c .before .before in
     let w = n .before .before in
     let i = w .before .before .before .before .before in
-    rw (← i .is-image-length .ensures, not-false (i .is-image-length .result) (w .before .before .before .before .if1 .left))
+    rw (
+      ← i .is-image-length .ensures,
+      not-false (i .is-image-length .result) (w .before .before .before .before .if1 .left),
+    )
     (rw (← w .is-well-formed .ensures, not-false (w .is-well-formed .result) (n .before .if2 .left))
     (rw (← n .names-only-sources .ensures, not-true (n .names-only-sources .result) (c .before .if3 .taken))
     (c .refused-step3 .ensures)))

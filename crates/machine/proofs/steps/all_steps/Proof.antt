@@ -1,4 +1,5 @@
--- `steps::all_steps` meets its contract. The loop's invariant: the first i steps completed, and the machine is well formed.
+-- `steps::all_steps` meets its contract. The loop's invariant: the first i steps completed, and the machine is well
+-- formed.
 use Prim.Native.Nat.{ℕ, _≤_, _<_, _-_, _*_}
 use mathlib.Core.Path.{_≡_, refl, sym, ap, _∙_}
 use mathlib.Core.Bool.{true}
@@ -16,8 +17,10 @@ use Rattle.machine.proofs.steps.all_steps.Statement.{statement}
 use Rattle.machine.proofs.steps.all_steps.Tie as tie
 
 abbrev Inv-loop : tie.InvT-loop
-Inv-loop table image bytes₀ stack₀ requests n c₀ flags₀ cycles₀ i₀ bytes stack c flags cycles i = (i ≤ n) × (cycles ≤ 255 * i) × (wellFormed stack c ≡ true)
-    × (runAt (machineOf c stack flags bytes) i cycles (done tt) ≡ stepsOf image requests (machineOf c₀ stack₀ flags₀ bytes₀) i)
+Inv-loop table image bytes₀ stack₀ requests n c₀ flags₀ cycles₀ i₀ bytes stack c flags cycles i =
+    (i ≤ n) × (cycles ≤ 255 * i) × (wellFormed stack c ≡ true)
+    × (runAt (machineOf c stack flags bytes) i cycles (done tt)
+    ≡ stepsOf image requests (machineOf c₀ stack₀ flags₀ bytes₀) i)
 
 abbrev μ-loop : tie.MeasureT-loop
 μ-loop table image bytes₀ stack₀ requests n c₀ flags₀ cycles₀ i₀ bytes stack c flags cycles i = n - i
@@ -51,12 +54,19 @@ progress-requires c κs = search needs
 
 returns : tie.Need-returns Inv-loop μ-loop
 returns c =
-    let start = c .before .before .before .before .before .before .before .before .before .before .before .before .before .before in
-    let loop = c .before .before .before .before .before .before .before .before .before .before .before .loop in
-    let step = stepped _ _ _ _ _ _ _ (start .pre .2) (loop .inv .2) (start .pre .4) (c .before .before .before .before .before .before .before .before .before .before .loop-test .taken) (c .before .before .before .before .before .before .before .request-at .ensures) (c .before .before .before .before .before .before .advance .ensures) in
-    let cycles : c .progress .result .report .cycles ≡ loop .cycles = ap (λ (x : Run). x .report .cycles) (c .progress .ensures [] []) in (
-      c .progress .ensures _ _ ∙ stops-at _ _ _ _ _ _ _ _ _ (c .before .before .before .before .before .before .before .before .before .before .loop-test .taken) (loop .inv .3) (rw (c .before .before .answer2 .given .1) at step),
-      omega (arith, loop .inv .1, c .before .before .before .before .before .before .before .before .before .before .loop-test .taken),
+    let at-advance = c .before .before .before .before .before .before in
+    let at-test = at-advance .before .before .before .before in
+    let start = at-test .before .before .before .before in
+    let loop = at-test .before .loop in
+    let step =
+    stepped _ _ _ _ _ _ _ (start .pre .2) (loop .inv .2) (start .pre .4) (at-test .loop-test .taken)
+    (at-advance .before .request-at .ensures) (at-advance .advance .ensures) in
+    let cycles : c .progress .result .report .cycles ≡ loop .cycles =
+    ap (λ (x : Run). x .report .cycles) (c .progress .ensures [] []) in (
+      c .progress .ensures _ _
+          ∙ stops-at _ _ _ _ _ _ _ _ _ (at-test .loop-test .taken) (loop .inv .3)
+          (rw (c .before .before .answer2 .given .1) at step),
+      omega (arith, loop .inv .1, at-test .loop-test .taken),
     )
 
 add-i : tie.Need-add-i Inv-loop μ-loop
@@ -67,14 +77,19 @@ loop-less c = search needs
 
 loop-again : tie.Need-loop-again Inv-loop μ-loop
 loop-again c =
-    let start = c .before .before .before .before .before .before .before .before .before .before .before .before .before in
-    let loop = c .before .before .before .before .before .before .before .before .before .before .loop in
-    let moved = c .before .before .before .before .before .advance in
-    let request = c .before .before .before .before .before .before .request-at in
-    let step = stepped _ _ _ _ _ _ _ (start .pre .2) (loop .inv .2) (start .pre .4) (c .before .before .before .before .before .before .before .before .before .loop-test .taken) (request .ensures) (moved .ensures) in (
-      omega (arith, c .before .before .before .before .before .before .before .before .before .loop-test .taken),
+    let at-advance = c .before .before .before .before .before in
+    let at-test = at-advance .before .before .before .before in
+    let start = at-test .before .before .before .before in
+    let known = at-test .before .before .before .shared-slice-known in
+    let loop = at-test .before .loop in
+    let moved = at-advance .advance in
+    let request = at-advance .before .request-at in
+    let step =
+    stepped _ _ _ _ _ _ _ (start .pre .2) (loop .inv .2) (start .pre .4) (at-test .loop-test .taken)
+    (request .ensures) (moved .ensures) in (
+      omega (arith, at-test .loop-test .taken),
       omega (arith, loop .inv .1),
-      formed-step _ (λ j. c .before .before .before .before .before .before .before .before .before .before .before .before .shared-slice-known .given j .fits) _ (loop .inv .2) _ (start .pre .2) _ (moved .ensures),
+      formed-step _ (λ j. known .given j .fits) _ (loop .inv .2) _ (start .pre .2) _ (moved .ensures),
       one-more _ _ _ _ _ _ _ _ (loop .inv .3) (rw (c .before .answer .given .1) at step),
     )
 
@@ -83,9 +98,11 @@ progress-requires-2 c κs = search needs
 
 returns-2 : tie.Need-returns-2 Inv-loop μ-loop
 returns-2 c =
-    let same : c .before .before .loop .i ≡ c .before .before .before .before .before .args .n = omega arith in
-    let cycles : c .progress2 .result .report .cycles ≡ c .before .before .loop .cycles = ap (λ (x : Run). x .report .cycles) (c .progress2 .ensures [] []) in
-    (c .progress2 .ensures _ _ ∙ (rw same at (c .before .before .loop .inv .3)), omega (arith, c .before .before .loop .inv .1))
+    let k = c .before .before in
+    let same : k .loop .i ≡ k .before .before .before .args .n = omega arith in
+    let cycles : c .progress2 .result .report .cycles ≡ k .loop .cycles =
+    ap (λ (x : Run). x .report .cycles) (c .progress2 .ensures [] []) in
+    (c .progress2 .ensures _ _ ∙ (rw same at (k .loop .inv .3)), omega (arith, k .loop .inv .1))
 
 pub all-steps-spec : {M : Type 1} → statement M
 all-steps-spec =
