@@ -26,8 +26,8 @@ p11-never-stops = never-stops _ _ 0x01 2 (check-cases .p11)
 pub p11-uses-two : P11UsesTwo
 unfolding leaves levelsInUse runOf requestsFit stepsOf resetOf freshOf Step.stepOf Step.advancedOf Step.respondOf
     Step.uninterruptedOf Step.decodedOf Step.executedOf Step.completedOf Step.takenOf Step.takenBy executeOf effectOf
-    WellFormed.addressesFit WellFormed.wellFormed Requests.requestedOf Requests.servingOf Requests.takeOf Transfers.callOf
-    Transfers.returnFromInterruptOf Transfers.advanceOf Stack.pushOf Stack.popOf
+    WellFormed.addressesFit WellFormed.wellFormed Requests.requestedOf Requests.servingOf Requests.takeOf
+    Transfers.callOf Transfers.returnFromInterruptOf Transfers.advanceOf Stack.pushOf Stack.popOf
     Map.entryOf Table.bytesOf Table.cyclesOf Map.formAs Map.formOf Rom.romAt Rom.operandAt Decode.decodeAt
     ControlFlow.flowOf
 p11-uses-two = refl
