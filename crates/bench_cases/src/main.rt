@@ -1,14 +1,16 @@
 // Runs what no proof repeats: the manual's worked examples beside document 01's P1 to P12 (which
-// specs/BenchCases.antt has, proved), small
-// programs step by step and as a run, keys pressed on one machine, and the lines that jobs print.
+// specs/BenchCases.antt has, proved), small programs step by step and as a run, keys pressed on one machine, the lines
+// that jobs print, and the widths of programs for the gauge.
 mod examples;
 mod jumps;
 mod keys;
 mod lines;
 mod programs;
 mod sample;
+mod sizing;
 mod states;
 mod traces;
+mod widths;
 
 fn main() {
     examples::put_examples();
@@ -16,4 +18,5 @@ fn main() {
     traces::put_traces();
     keys::put_keys();
     lines::put_lines();
+    widths::put_widths();
 }

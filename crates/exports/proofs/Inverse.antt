@@ -17,7 +17,7 @@ use Rattle.exports.specs.Every.{every}
 use Rattle.exports.specs.States.{isFlag, isValid, lowByte, highByte, flagByte, modeOf, modeNumber, controlAt}
 use Rattle.exports.specs.States.{stackAt, pairsAt, machineAt, valid, invalid, unpacked, controlBytes, stackBytes}
 use Rattle.exports.specs.States.{packed}
-use Rattle.exports.specs.Laws.{Sized, PackingInverts, WordReads}
+use Rattle.exports.specs.Laws.{Sized, PackingInverts, WordReads, SizeReads}
 use Rattle.exports.proofs.Every.{every-holds}
 use Rattle.exports.proofs.Pasting.{valid-length}
 
@@ -234,3 +234,6 @@ word-reads = record {
   address = λ n a v h k. omega arith;
   value = λ n a v h k. omega arith;
 }
+
+pub size-reads : SizeReads
+size-reads = record { width = λ w s h. omega arith; steps = λ w s h. omega arith }

@@ -3,9 +3,12 @@
 use Prim.Native.Nat.{ℕ, _+_, _*_}
 use mathlib.Core.Bool.{Bool, true, false, cond}
 use mathlib.Core.List.{List}
+use lib.Dec.{leb}
 use lib.ListN.{length}
 use Rattle.isa.specs.Refusals.{Numbered, plain, located, Answer, Ended, done, refused}
 use Rattle.isa.specs.Rom.{isImage}
+use Rattle.gauge.specs.Sleep.{Size}
+use Rattle.gauge.specs.Width.{widthOf}
 
 abbrev pub word : (number address value : ℕ) → ℕ
 word number address value = number + address * 0x100 + value * 0x1000000
@@ -23,6 +26,16 @@ invalidWord image = refusalWord (cond (isImage (length image)) (plain 2) (plain 
 abbrev pub answerWord : Answer ℕ → ℕ
 answerWord (done value) = word 0 0 value
 answerWord (refused r) = refusalWord r
+
+-- W-201: the width in bits 24 to 39, the steps in bits 40 to 55
+abbrev pub sizeWord : Answer Size → ℕ
+sizeWord (done size) = word 0 0 (size .width + size .steps * 0x10000)
+sizeWord (refused r) = refusalWord r
+
+-- a count beyond its byte is refused with 8, before anything else
+abbrev pub widthWord : (image certificate : List ℕ) → (count : ℕ) → ℕ
+widthWord image certificate count =
+    cond (leb count 255) (sizeWord (widthOf image certificate count)) (refusalWord (plain 8))
 
 -- a run or a host store has no value
 abbrev pub endedWord : Ended → ℕ

@@ -18,7 +18,8 @@ use Rattle.machine.specs.declared.Machine.{Machine}
 use Rattle.machine.specs.State.{isWellFormed}
 use Rattle.machine.specs.Step.{stepOf}
 use Rattle.machine.specs.Run.{stepsOf, requestsFit, runOf}
-use Rattle.exports.specs.Answers.{word, answerWord, isRefusedRun}
+use Rattle.gauge.specs.Sleep.{sizeAs}
+use Rattle.exports.specs.Answers.{word, answerWord, sizeWord, isRefusedRun}
 use Rattle.exports.specs.States.{valid, unpacked, packed}
 use Rattle.exports.specs.Fields.{packedInstruction, unpackedInstruction}
 use Rattle.exports.specs.declared.fields.Reading.the-variants.{Is}
@@ -93,6 +94,12 @@ pub record WordReads : Type 0 where
   pub number : (n a v : ℕ) → n < 0x100 → a < 0x10000 → word n a v % 0x100 ≡ n
   pub address : (n a v : ℕ) → n < 0x100 → a < 0x10000 → word n a v / 0x100 % 0x10000 ≡ a
   pub value : (n a v : ℕ) → n < 0x100 → a < 0x10000 → word n a v / 0x1000000 ≡ v
+
+-- bits 24 to 39 the width, bits 40 to 55 the steps
+-- proved by size-reads, proofs/Inverse
+pub record SizeReads : Type 0 where
+  pub width : (w s : ℕ) → w < 0x10000 → sizeWord (done (sizeAs w s)) / 0x1000000 % 0x10000 ≡ w
+  pub steps : (w s : ℕ) → w < 0x10000 → sizeWord (done (sizeAs w s)) / 0x10000000000 ≡ s
 
 -- a run is refused exactly where one of its own refusals applies: 1, 2, 12, 11
 -- proved by refused-runs, proofs/Runs

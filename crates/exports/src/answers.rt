@@ -1,6 +1,7 @@
 // Answers as one number: bits 0 to 7 the refusal's or stop's number (0: none), bits 8 to 23 its address, bits 24 to 55
 // a value.
 use certificate::Checked;
+use gauge::Sizing;
 use isa::Number;
 use isa::Refusal;
 use isa::Written;
@@ -14,7 +15,8 @@ ghost use Rattle.isa.specs.Write.{outcomeOf};
 ghost use Rattle.machine.specs.State.{endedOf};
 ghost use Rattle.machine.specs.Step.{answerOf};
 ghost use Rattle.certificate.specs.Check.{answered};
-ghost use Rattle.exports.specs.Answers.{word, refusalWord, invalidWord, answerWord, endedWord, isRefusedRun};
+ghost use Rattle.gauge.specs.Sleep.{sizingOf};
+ghost use Rattle.exports.specs.Answers.{word, refusalWord, invalidWord, answerWord, sizeWord, endedWord, isRefusedRun};
 
 // What is done, with its value.
 pub fn done(value: u32) -> u64
@@ -89,5 +91,15 @@ pub fn write_word(written: Written) -> u64
     match written {
         Written::Done(length) => done(length as u32),
         Written::Refused(refusal) => refused(refusal),
+    }
+}
+
+// The width in the low 16 bits of the value, the steps above it.
+pub fn width_word(sizing: Sizing) -> u64
+    ensures { λ r. ⌜ r ≡ sizeWord (sizingOf sizing) ⌝ }
+{
+    match sizing {
+        Sizing::Measured { width, steps } => done(width as u32 + steps as u32 * 0x10000),
+        Sizing::Refused(refusal) => refused(refusal),
     }
 }

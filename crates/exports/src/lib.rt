@@ -14,6 +14,7 @@ use answers::invalid_state;
 use answers::is_refused;
 use answers::refused;
 use answers::step_word;
+use answers::width_word;
 use answers::write_word;
 use certificate::check::check;
 use clamp::clamp_address;
@@ -22,6 +23,7 @@ use copying::put;
 use fields::Reading;
 use fields::put_row;
 use fields::read;
+use gauge::width::width;
 use isa::Decoded;
 use isa::Refusal;
 use isa::decode::decode;
@@ -38,7 +40,7 @@ use states::is_valid;
 use states::unpack;
 ghost use mathlib.Core.Path.{_≡_};
 ghost use Rattle.certificate.specs.Check.{checkOf};
-ghost use Rattle.exports.specs.Answers.{answerWord};
+ghost use Rattle.exports.specs.Answers.{answerWord, widthWord};
 ghost use Rattle.exports.specs.Lent.{lent, lentRun, decodeLent, writeLent, resetLent, storeLent, stepLent};
 ghost use Rattle.exports.specs.Lent.{runLent, jobLent};
 
@@ -157,6 +159,17 @@ pub extern "C" fn st62_check(image: &[u8], certificate: &[u8], wired: u32) -> u6
     ensures { λ r. ⌜ r ≡ answerWord (checkOf (now (image .entry)) (now (certificate .entry)) wired) ⌝ }
 {
     check_word(check(image, certificate, clamp_byte(wired)))
+}
+
+// The width that the gauge would show for a count.
+#[no_mangle]
+pub extern "C" fn st62_width(image: &[u8], certificate: &[u8], count: u32) -> u64
+    ensures { λ r. ⌜ r ≡ widthWord (now (image .entry)) (now (certificate .entry)) count ⌝ }
+{
+    if 255 < count {
+        return refused(Refusal::OperandRange);
+    }
+    width_word(width(image, certificate, count as u8))
 }
 
 // Answers a job with its line, written into `line`.

@@ -1,4 +1,4 @@
--- Refusals by document 01's numbers ("What each operation turns down").
+-- Refusals by the numbers of document 01 ("What each operation turns down") and of document 02.
 use Prim.Native.Nat.{ℕ}
 use mathlib.Core.Bool.{Bool, true, false}
 use Rattle.isa.specs.declared.Number.{Number}
@@ -35,6 +35,10 @@ numbered R.TooManyLevels = plain 19
 numbered R.JobTooShort = plain 20
 numbered R.JobVersion = plain 21
 numbered R.JobLength = plain 22
+-- document 02, W-201: "It refuses with 23 when the check with nothing wired refuses [..], and with 24 when 65,535 steps
+-- pass without sleep."
+numbered R.CheckRefused = plain 23
+numbered R.NoSleep = plain 24
 
 -- the program's number of a refusal
 abbrev pub asNumbered : Number → Numbered

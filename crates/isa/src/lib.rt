@@ -67,8 +67,8 @@ pub enum Form {
     Undefined,
 }
 
-// Why an operation was refused or stopped, in the order of document 01's numbers 1 to 22, with the address where it
-// gives one.
+// Why an operation was refused or stopped, in the order of the papers' numbers 1 to 24, with the address where they
+// give one.
 pub enum Refusal {
     ImageLength,
     IllFormedMachine,
@@ -92,6 +92,8 @@ pub enum Refusal {
     JobTooShort,
     JobVersion,
     JobLength,
+    CheckRefused,
+    NoSleep,
 }
 
 // A refusal's number, alone or with an address.

@@ -1,10 +1,10 @@
-// Refusals by document 01's numbers.
+// Refusals by the papers' numbers.
 use crate::Number;
 use crate::Refusal;
 ghost use mathlib.Core.Path.{_≡_};
 ghost use Rattle.isa.specs.Refusals.{asNumbered, numbered};
 
-// The number of a refusal, with the address where document 01 gives one.
+// The number of a refusal, with the address where the papers give one.
 pub fn number_of(refusal: Refusal) -> Number
     ensures { λ r. ⌜ asNumbered r ≡ numbered refusal ⌝ }
 {
@@ -31,5 +31,7 @@ pub fn number_of(refusal: Refusal) -> Number
         Refusal::JobTooShort => Number::Plain(20),
         Refusal::JobVersion => Number::Plain(21),
         Refusal::JobLength => Number::Plain(22),
+        Refusal::CheckRefused => Number::Plain(23),
+        Refusal::NoSleep => Number::Plain(24),
     }
 }

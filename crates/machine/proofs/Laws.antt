@@ -5,6 +5,7 @@ use mathlib.Core.Bool.{Bool, true, false, _&&_}
 use mathlib.Core.List.{List, [], _∷_}
 use native.Mathlib.Omega.{arith}
 use native.Mathlib.Nat.{zero-add, add-zero, add-suc, add-assoc}
+use native.Mathlib.Numerals.{add-one}
 use lib.ListN.{length, getD, drop}
 use lib.Seq.{getD-drop}
 use Rattle.data.specs.Effect.{effectOf}
@@ -16,11 +17,12 @@ use Rattle.isa.specs.Sources.{namesOnlySources}
 use Rattle.isa.specs.Rom.{isImage}
 use Rattle.isa.specs.declared.Instruction.{Instruction}
 use Rattle.isa.specs.declared.Flow.the-variants as flow
+use Rattle.control.specs.Requests.{requestedOf}
 use Rattle.control.specs.Transfers.{advanceOf}
 use Rattle.machine.specs.declared.Machine.{Machine}
 use Rattle.machine.specs.Execute.{executeOf}
 use Rattle.machine.specs.State.{isWellFormed}
-use Rattle.machine.specs.Advance.{Step, doneOf, refusedOf, completedOf, executedOf, advancedOf}
+use Rattle.machine.specs.Advance.{Step, doneOf, refusedOf, completedOf, executedOf, respondOf, advancedOf}
 use Rattle.machine.specs.Step.{stepOf}
 use Rattle.machine.specs.Steps.{Run, runAt, joinedBy, joinedOf, continuedBy, continuedOf, stepsOf, requestsFit}
 use Rattle.machine.specs.Laws.{
@@ -36,9 +38,10 @@ use Rattle.machine.specs.Laws.{
   RunEndsByStop,
   followedBy,
   RunIsSteps,
+  SleeperStays,
 }
 use Rattle.machine.proofs.StepDoes.{step-does, numbered-stop}
-use Rattle.machine.proofs.StepByStep.{step-advances, fits-at, next-step}
+use Rattle.machine.proofs.StepByStep.{step-advances, idle, fits-at, next-step}
 use Rattle.machine.proofs.StaysWellFormed.{stays-well-formed}
 
 pub data-goes-on : DataGoesOn
@@ -118,3 +121,18 @@ run-is-steps = record {
   one-stops = λ image m q n r e. rw e;
   more = λ image requests m n k e. more image requests m n e k;
 }
+
+-- a sleeping machine without requests
+module _ (image : List ℕ) (m : Machine) (size : isImage (length image) ≡ true) (formed : isWellFormed m ≡ true)
+    (asleep : m .control .asleep ≡ true) where
+  idles-on : stepOf image m 0 ≡ doneOf m 0
+  unfolding advancedOf respondOf requestedOf
+  idles-on = step-advances image m 0 size formed refl ∙ sym (idle image m asleep)
+
+  all-idle : (n : ℕ) → stepsOf image [] m n ≡ runAt m n 0 (done tt)
+  unfolding stepsOf
+  all-idle zero = refl
+  all-idle (suc n) = rw (all-idle n, idles-on, add-one n)
+
+pub sleeper-stays : SleeperStays
+sleeper-stays = record { by-step = idles-on; by-steps = all-idle }

@@ -118,3 +118,14 @@ pub record RunIsSteps : Type 0 where
       stepsOf image requests m (n + k)
       ≡ followedBy (stepsOf image requests m n)
       (stepsOf image (drop n requests) (stepsOf image requests m n .machine) k)
+
+-- "a sleeping step with nothing to take is idle, 0 cycles": without requests there is nothing to take, so a sleeping
+-- machine stays as it is
+-- proved by sleeper-stays, proofs/Laws
+pub record SleeperStays : Type 0 where
+  pub by-step :
+      (image : List ℕ) (m : Machine) → isImage (length image) ≡ true → isWellFormed m ≡ true →
+      m .control .asleep ≡ true → stepOf image m 0 ≡ doneOf m 0
+  pub by-steps :
+      (image : List ℕ) (m : Machine) → isImage (length image) ≡ true → isWellFormed m ≡ true →
+      m .control .asleep ≡ true → (n : ℕ) → stepsOf image [] m n ≡ runAt m n 0 (done tt)

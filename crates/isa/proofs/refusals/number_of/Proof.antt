@@ -69,6 +69,12 @@ enum-told-12 c = search needs
 enum-told-13 : tie.Need-enum-told-13
 enum-told-13 c = search needs
 
+enum-told-14 : tie.Need-enum-told-14
+enum-told-14 c = search needs
+
+enum-told-15 : tie.Need-enum-told-15
+enum-told-15 c = search needs
+
 returns : tie.Need-returns
 returns c = rw (c .enum-told .given .1)
 
@@ -135,6 +141,12 @@ returns-21 c = rw (c .enum-told12 .given .1)
 returns-22 : tie.Need-returns-22
 returns-22 c = rw (c .enum-told13 .given .1)
 
+returns-23 : tie.Need-returns-23
+returns-23 c = rw (c .enum-told14 .given .1)
+
+returns-24 : tie.Need-returns-24
+returns-24 c = rw (c .enum-told15 .given .1)
+
 pub number-of-spec : {M : Type 1} → statement M
 number-of-spec =
     tie.close
@@ -161,6 +173,8 @@ number-of-spec =
     enum-told-11
     enum-told-12
     enum-told-13
+    enum-told-14
+    enum-told-15
     returns
     returns-2
     returns-3
@@ -182,4 +196,6 @@ number-of-spec =
     returns-19
     returns-20
     returns-21
-    returns-22)
+    returns-22
+    returns-23
+    returns-24)

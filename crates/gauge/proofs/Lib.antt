@@ -1,0 +1,6 @@
+pub mod Steps
+pub mod Sleeper
+pub mod NeverStops
+pub mod Search
+pub mod Runs
+pub mod Outcomes

@@ -1,0 +1,79 @@
+-- What follows where a step without requests is done, or refused with 11 at most.
+use Prim.Native.Nat.{ℕ, _≤_}
+use mathlib.Core.Path.{_≡_, refl, sym, ap, _∙_}
+use mathlib.Core.Logic.{_⊎_, inl, inr}
+use mathlib.Core.Bool.{Bool, true, false, false≢true}
+use mathlib.Core.List.{List, []}
+use native.Mathlib.Omega.{arith}
+use lib.ListN.{length}
+use Rattle.isa.specs.Refusals.{Numbered, plain, located, Answer, done, refused}
+use Rattle.isa.specs.Rom.{isImage}
+use Rattle.machine.specs.declared.Machine.{Machine}
+use Rattle.machine.specs.State.{isWellFormed}
+use Rattle.machine.specs.Step.{Step, stepOf, refusedOf}
+use Rattle.machine.specs.Run.{stepsOf, runOf}
+use Rattle.machine.specs.Refusals as why
+use Rattle.machine.specs.Laws.{IsStop}
+use Rattle.machine.proofs.Refusals.{step-refusals, run-refusals}
+use Rattle.machine.proofs.StepDoes.{numbered-stop}
+use Rattle.bench.specs.Session.{StepRefused, StepDone}
+
+-- demand 3's promise of a step without requests
+abbrev pub StepKept : (image : List ℕ) → Machine → Type 0
+StepKept image m = StepRefused m 11 (stepOf image m 0) ⊎ StepDone (stepOf image m 0)
+
+-- neither done nor refused with 11
+other : (image : List ℕ) (m : Machine) (n : ℕ) → n ≤ 2 → stepOf image m 0 ≡ refusedOf m (plain n) → StepKept image m → ⊥
+other image m n h e (inl r) =
+    let x : _≡_ {A = Answer ℕ} (refused (plain n)) (refused (plain 11)) =
+    sym (ap (λ (s : Step). s .answer) e) ∙ r .refusal in
+    let y : n ≡ 11 = cc in
+    omega arith
+other image m n h e (inr r) =
+    let x : _≡_ {A = Answer ℕ} (refused (plain n)) (done (r .cycles)) =
+    sym (ap (λ (s : Step). s .answer) e) ∙ r .answer in
+    let y : _≡_ {A = ℕ} 0 1 = cc in
+    omega arith
+
+-- so image and machine are such that a step is not refused with 1 or 2
+pub record Fits (image : List ℕ) (m : Machine) : Type 0 where
+  pub size : isImage (length image) ≡ true
+  pub formed : isWellFormed m ≡ true
+
+pub fits : (image : List ℕ) (m : Machine) → StepKept image m → Fits image m
+fits image m kept = go (isImage (length image)) (isWellFormed m) refl refl
+  where
+    go : (i w : Bool) → isImage (length image) ≡ i → isWellFormed m ≡ w → Fits image m
+    go true true i w = record { size = i; formed = w }
+    go true false i w = absurd (other image m 2 (omega arith) (step-refusals .given image m 0 _ (why.ill-formed i w)) kept)
+    go false w i f = absurd (other image m 1 (omega arith) (step-refusals .given image m 0 _ (why.image-length i)) kept)
+
+-- a step without requests is not refused with 11
+pub is-done : (image : List ℕ) (m : Machine) → StepKept image m → StepDone (stepOf image m 0)
+is-done image m (inr d) = d
+is-done image m (inl r) =
+    absurd (by-reason (plain 11) refl (step-refusals .only image m 0 (plain 11) (r .refusal)))
+  where
+    f : Fits image m
+    f = fits image m (inl r)
+
+    by-reason : (n : Numbered) → n ≡ plain 11 → why.StepRefused image m 0 n → ⊥
+    by-reason _ e (why.image-length i) = let y : _≡_ {A = ℕ} 1 11 = cc in omega arith
+    by-reason _ e (why.ill-formed i w) = let y : _≡_ {A = ℕ} 2 11 = cc in omega arith
+    by-reason _ e (why.unknown-source i w names) = false≢true (sym names)
+    by-reason n e (why.stops _ i w names stop) =
+        let s : IsStop n = numbered-stop image m 0 i w n stop in
+        let x : plain 11 ≡ located (s .number) (s .address) = sym e ∙ s .is in
+        let y : _≡_ {A = ℕ} 0 1 = cc in
+        omega arith
+
+-- a run without requests on such a machine is not refused
+pub run-is-steps-of :
+    (image : List ℕ) (m : Machine) → Fits image m → (n : ℕ) → n ≤ 65535 → runOf image m [] n ≡ stepsOf image [] m n
+run-is-steps-of image m f n h = run-refusals .steps-else image m [] n by-reason
+  where
+    by-reason : (r : Numbered) → why.RunRefused image m [] n r → ⊥
+    by-reason _ (why.image-length i) = false≢true (sym i ∙ f .size)
+    by-reason _ (why.ill-formed i w) = false≢true (sym w ∙ f .formed)
+    by-reason _ (why.step-count i w more) = omega arith
+    by-reason _ (why.unknown-source k i w less l names) = false≢true (sym names)

@@ -1,0 +1,3 @@
+pub mod Sleep
+pub mod Width
+pub mod Outcomes
