@@ -172,3 +172,7 @@ pub fn job(job: &[u8], line: &mut [u8]) -> u64 {
     }
     answer
 }
+
+pub fn width(image: &[u8], certificate: &[u8], count: u32) -> u64 {
+    boundary::width(image, certificate, count)
+}
