@@ -19,6 +19,7 @@ WORKS = [
     ("check 2K with six marks, a byte", "sparse-2k", 64, 2048),
     ("check 4K with six marks, a byte", "sparse-4k", 64, 4096),
     ("decode", "decode", 10, 256),
+    ("width after 61,047 steps, a step", "width", 1, 61047),
 ]
 
 

@@ -4,6 +4,7 @@
 pub mod boundary;
 pub mod check;
 pub mod chip;
+pub mod gauge;
 pub mod generate;
 pub mod job;
 #[macro_use]
@@ -26,7 +27,8 @@ pub use mock as proved;
 mod cases;
 
 /// Why an operation was turned down, or where a step stopped. The numbers
-/// are those of document 01, "What each operation turns down".
+/// are those of document 01, "What each operation turns down", and of the
+/// requests of document 02.
 #[derive(Clone, Copy, PartialEq, Eq, Debug)]
 pub enum Refusal {
     ImageLength,
@@ -51,6 +53,8 @@ pub enum Refusal {
     JobShort,
     JobVersion,
     JobLength,
+    NotAccepted,
+    NoSleep,
 }
 
 impl Refusal {
@@ -79,6 +83,8 @@ impl Refusal {
             JobShort => 20,
             JobVersion => 21,
             JobLength => 22,
+            NotAccepted => 23,
+            NoSleep => 24,
         }
     }
 

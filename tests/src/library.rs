@@ -16,6 +16,7 @@ macro_rules! functions {
                 report: &mut [u8]);
             st62_check check(image: &[u8], certificate: &[u8], wired: u32);
             st62_job job(job: &[u8], line: &mut [u8]);
+            st62_width width(image: &[u8], certificate: &[u8], count: u32);
         }
     };
 }

@@ -3,10 +3,11 @@
 //! the comparison find it.
 
 use crate::boundary;
+use crate::gauge::Gauged;
 use std::sync::OnceLock;
 
 /// The faults that can be injected.
-pub const FAULTS: [&str; 17] = [
+pub const FAULTS: [&str; 22] = [
     "decode-bit",      // bit numbers unreversed
     "com-carry",       // COM leaves C clear
     "rlc-low",         // RLC shifts in 0
@@ -24,6 +25,11 @@ pub const FAULTS: [&str; 17] = [
     "check-need",      // a CALL's need may equal its target's
     "check-levels",    // seven levels are accepted
     "job-case",        // addresses in lower case
+    "width-bytes",     // the low byte of the width first
+    "width-steps",     // the gauge counts one step too many
+    "width-limit",     // the gauge gives up one step early
+    "width-number",    // the gauge gives the check's number in place of 23
+    "width-order",     // the gauge looks at the count after the check
 ];
 
 fn fault() -> Option<&'static str> {
@@ -171,4 +177,18 @@ pub fn job(job: &[u8], line: &mut [u8]) -> u64 {
         line[..boundary::value(answer) as usize].make_ascii_lowercase();
     }
     answer
+}
+
+pub fn width(image: &[u8], certificate: &[u8], count: u32) -> u64 {
+    let answer = boundary::width(image, certificate, count);
+    let refused = || boundary::number(boundary::check(image, certificate, 0));
+    let Gauged { width, steps } = boundary::gauged(answer);
+    match (fault(), boundary::number(answer)) {
+        (Some("width-bytes"), 0) => (steps as u64) << 40 | (width.swap_bytes() as u64) << 24,
+        (Some("width-steps"), 0) => answer + (1 << 40),
+        (Some("width-limit"), 0) if steps == u16::MAX => 24,
+        (Some("width-number"), 23) => refused() as u64,
+        (Some("width-order"), 8) if refused() != 0 => 23,
+        _ => answer,
+    }
 }

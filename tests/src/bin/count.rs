@@ -2,12 +2,13 @@
 //! counts instructions: what n and 2n times take, subtracted, is the work's
 //! own, without the start of the program. `benches/instructions.py` does that.
 
-use second::workload::{Checks, Decodes, Runs, Side, Steps, Work};
+use second::workload::{Checks, Decodes, Runs, Side, Steps, Widths, Work};
 use std::process::exit;
 
 const USAGE: &str = "\
 count WORK SIDE N
-  WORK  run (65535 steps), step, check-2k, check-4k, sparse-2k, sparse-4k, decode (256 opcodes)
+  WORK  run (65535 steps), step, check-2k, check-4k, sparse-2k, sparse-4k, decode (256 opcodes),
+        width
   SIDE  proved, second, packed
   N     how often";
 
@@ -20,6 +21,7 @@ fn work(name: &str) -> Option<Box<dyn Work>> {
         "sparse-2k" => Box::new(Checks::sparse(2048)),
         "sparse-4k" => Box::new(Checks::sparse(4096)),
         "decode" => Box::new(Decodes::default()),
+        "width" => Box::new(Widths::default()),
         _ => return None,
     })
 }

@@ -1,7 +1,9 @@
 //! Measures the time of the proved library and of the second emulator on the
 //! same inputs, in the same process, in turns.
 
-use second::workload::{Checks, Decodes, Runs, Side, Steps, Work, IMAGES, OPCODES, RUN, SIDES};
+use second::workload::{
+    Checks, Decodes, Runs, Side, Steps, Widths, Work, IMAGES, OPCODES, RUN, SIDES, WIDTH_STEPS,
+};
 
 /// Many short rounds: other work on the same cores then spoils only some.
 const ROUNDS: usize = 61;
@@ -145,6 +147,19 @@ fn decodes() {
     print("decode of all opcodes", "decodes", (passes * OPCODES) as f64, &times);
 }
 
+/// Widths, and the proved library's runs of as many steps in the same rounds.
+fn widths() {
+    let per_round = 3;
+    let mut widths = Widths::default();
+    let times = race(SIDES.len() + 1, |contestant| match SIDES.get(contestant) {
+        Some(&(side, _)) => widths.work(side, per_round),
+        None => widths.proved_runs(per_round),
+    });
+    let title = format!("widths of a program that sleeps after {WIDTH_STEPS} steps");
+    print(&title, "steps", (per_round * WIDTH_STEPS as usize) as f64, &times);
+    print_ratio("time of proved width / run of as many steps:", &times[0], &times[SIDES.len()]);
+}
+
 fn main() {
     println!(
         "{ROUNDS} rounds, in turns, in processor time. `second` is the emulator by itself,\n\
@@ -155,4 +170,5 @@ fn main() {
     checks("marked throughout", Checks::throughout, IMAGES);
     checks("with six marks", Checks::sparse, 32 * IMAGES);
     decodes();
+    widths();
 }

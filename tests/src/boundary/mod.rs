@@ -10,6 +10,7 @@ mod state;
 
 use crate::check::check as check_certificate;
 use crate::chip::{self, SIZES};
+use crate::gauge::{gauge, Gauged};
 use crate::{job as jobs, Refusal};
 use fields::{fields, instruction};
 
@@ -121,4 +122,19 @@ pub fn job(job: &[u8], line: &mut [u8]) -> u64 {
         }
         None => Err(Refusal::Buffer),
     })
+}
+
+/// The value has the width in its low half and the steps in its high half.
+pub fn width(image: &[u8], certificate: &[u8], count: u32) -> u64 {
+    answer((|| {
+        let count = byte(count, Refusal::Operand)?;
+        let Gauged { width, steps } = gauge(image, certificate, count)?;
+        Ok((steps as u32) << 16 | width as u32)
+    })())
+}
+
+/// The width and the steps of an answer of [`width`].
+pub fn gauged(answer: u64) -> Gauged {
+    let value = value(answer);
+    Gauged { width: value as u16, steps: (value >> 16) as u16 }
 }

@@ -2,6 +2,7 @@
 
 use super::*;
 use crate::check::check;
+use crate::gauge::gauge;
 use crate::generate::*;
 use crate::Refusal::*;
 
@@ -35,6 +36,29 @@ fn marked_throughout_and_sparsely() {
     }
     let p = crate::generate::p11(2048);
     assert_eq!((p.image, p.certificate), super::p11());
+}
+
+/// Those that sleep use the count, and some never do.
+#[test]
+fn sizing_programs_are_accepted() {
+    let mut rng = Rng::new(7);
+    let (mut asleep, mut awake, mut by_count) = (0, 0, 0);
+    for _ in 0..2000 {
+        let p = sizing(&mut rng);
+        assert_eq!((check(&p.image, &p.certificate, 0).err(), p.wired), (None, 0));
+        let answers = [1, 100, 254].map(|count| gauge(&p.image, &p.certificate, count));
+        by_count += (answers[0] != answers[1] || answers[1] != answers[2]) as u32;
+        for answer in answers {
+            match answer {
+                Ok(_) => asleep += 1,
+                Err(refusal) => {
+                    assert_eq!(refusal, NoSleep);
+                    awake += 1;
+                }
+            }
+        }
+    }
+    assert!(asleep > 3000 && awake > 100 && by_count > 1000, "{asleep} {awake} {by_count}");
 }
 
 /// Demand 3, tried out: no stop, and no more levels than the check says.

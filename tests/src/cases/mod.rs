@@ -3,6 +3,7 @@
 
 mod bench;
 mod certificate;
+mod gauge;
 mod generator;
 mod manual;
 mod map;

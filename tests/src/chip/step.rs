@@ -59,6 +59,20 @@ impl Machine {
         Ok(report)
     }
 
+    /// Steps without requests until the machine sleeps, but no more than
+    /// `most`; gives how many it took, or nothing if it is still awake.
+    pub fn run_to_sleep(&mut self, image: &[u8], most: u32) -> Result<Option<u32>, Refusal> {
+        let rom = Rom::new(image)?;
+        self.well_formed()?;
+        for steps in 1..=most {
+            self.advance(&rom, 0)?;
+            if self.asleep {
+                return Ok(Some(steps));
+            }
+        }
+        Ok(None)
+    }
+
     /// A step of a well-formed machine with a good request byte. A stop
     /// leaves the machine as it was.
     #[inline(always)]

@@ -77,17 +77,28 @@ pub fn sparse(rng: &mut Rng, length: usize) -> Program {
 /// service of NMI.
 fn six_marks(length: usize, start: u16, subroutine: u16) -> Program {
     use Instruction::*;
-    let mut program = Program { image: vec![0; length], certificate: vec![0; length], wired: 0x01 };
-    for (address, instruction, mark) in [
+    let code = [
         (start, Reti, 0x11),
         (start + 1, Call(subroutine), 0x21),
         (start + 3, Jp(start + 1), 0x21),
         (subroutine, Ret, 0x40),
         (VECTORS[0], Reti, 0x30),
         (RESET_VECTOR, Jp(start), 0x11),
-    ] {
+    ];
+    Program { wired: 0x01, ..written(length, &code) }
+}
+
+/// A program of instructions with their addresses and marks, nothing wired.
+/// In 4K an instruction may run over the end.
+pub fn written(length: usize, code: &[(u16, Instruction, u8)]) -> Program {
+    let mut program = Program { image: vec![0; length], certificate: vec![0; length], wired: 0 };
+    for &(address, instruction, mark) in code {
         let index = address as usize - (0x1000 - length);
-        write(instruction, &mut program.image[index..]).expect("a good instruction in ROM");
+        let mut bytes = [0; 3];
+        let size = write(instruction, &mut bytes).expect("a good instruction");
+        for (offset, &byte) in bytes[..size].iter().enumerate() {
+            program.image[(index + offset) % length] = byte;
+        }
         program.certificate[index] = mark;
     }
     program

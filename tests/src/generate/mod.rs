@@ -6,11 +6,15 @@ mod marked;
 mod program;
 mod rng;
 mod routine;
+mod sizing;
+mod timed;
 
 pub use machine::{ill_formed, machine, request, requests, spoil};
-pub use marked::{dense, p11, sparse};
+pub use marked::{dense, p11, sparse, written};
 pub use program::program;
 pub use rng::{Rng, EDGES};
+pub use sizing::sizing;
+pub use timed::{soonest, timed};
 
 /// An image with a certificate and the sources that are wired.
 #[derive(Clone)]

@@ -2,12 +2,12 @@
 //! certificates.
 
 use super::routine::{Builder, End, Routine};
-use super::{image_length, Program, Rng};
+use super::{Program, Rng};
 use crate::chip::{decode_at, Instruction, Rom, IOR, RESET_VECTOR, SIZES, VECTORS};
 use Instruction::*;
 
 /// Subroutines by the levels that they need.
-type Subroutines = Vec<Vec<u16>>;
+pub(super) type Subroutines = Vec<Vec<u16>>;
 
 /// The levels that the parts of a program may need.
 struct Needs {
@@ -19,21 +19,18 @@ struct Needs {
 /// A program with its certificate. Most are accepted; some need more than six
 /// levels.
 pub fn program(rng: &mut Rng) -> Program {
-    let length = image_length(rng);
-    let base = 0x1000 - length;
-    let mut image = vec![0; length];
-    if rng.chance(50) {
-        rng.fill(&mut image);
-    }
-    let wired = if rng.chance(15) { 0 } else { rng.byte() & 0x1F };
-    let program = Program { image, certificate: vec![0; length], wired };
-    let cursor = base + rng.below(0x100) + if length == 4096 { rng.below(0xA00) } else { 0 };
-    let mut b = Builder { rng, program, base, cursor };
-
+    let mut b = Builder::new(rng);
+    let wired = if b.rng.chance(15) { 0 } else { b.rng.byte() & 0x1F };
+    b.program.wired = wired;
     let needs = needs(b.rng, wired);
     let subroutines = subroutines(&mut b, needs.main.max(needs.sources).max(needs.nmi));
     start_and_main(&mut b, needs.main, &subroutines);
     services(&mut b, &needs, &subroutines);
+    finished(b)
+}
+
+/// The program, in half of the cases with the least needs.
+pub(super) fn finished(b: Builder) -> Program {
     let tight = b.rng.chance(50);
     let mut program = b.program;
     if tight {
@@ -58,7 +55,7 @@ fn needs(rng: &mut Rng, wired: u8) -> Needs {
     Needs { main, sources, nmi }
 }
 
-fn subroutines(b: &mut Builder, deepest: u8) -> Subroutines {
+pub(super) fn subroutines(b: &mut Builder, deepest: u8) -> Subroutines {
     let mut subroutines = Subroutines::new();
     for need in 0..deepest {
         let mut same_need = Vec::new();

@@ -1,8 +1,9 @@
 //! Routines: code of one kind that ends in one way, put into an image and
 //! marked.
 
-use super::{Program, Rng};
+use super::{image_length, Program, Rng};
 use crate::chip::{write, Instruction, Operand};
+use crate::gauge::{COUNT, WIDTH};
 use Instruction::*;
 
 #[derive(Clone, Copy, PartialEq)]
@@ -29,12 +30,27 @@ pub(super) struct Builder<'r> {
     pub base: usize,
     /// Where the next routine may start.
     pub cursor: usize,
+    /// Whether the code is to use the gauge's cells, and may sleep anywhere.
+    pub sizing: bool,
 }
 
 /// Code stays below the vectors.
 const CODE_END: usize = 0xFF0;
 
-impl Builder<'_> {
+impl<'r> Builder<'r> {
+    /// An image of either length with nothing wired and nothing marked.
+    pub fn new(rng: &'r mut Rng) -> Self {
+        let length = image_length(rng);
+        let base = 0x1000 - length;
+        let mut image = vec![0; length];
+        if rng.chance(50) {
+            rng.fill(&mut image);
+        }
+        let program = Program { image, certificate: vec![0; length], wired: 0 };
+        let cursor = base + rng.below(0x100) + if length == 4096 { rng.below(0xA00) } else { 0 };
+        Builder { rng, program, base, cursor, sizing: false }
+    }
+
     pub fn put(&mut self, address: usize, instruction: Instruction) -> usize {
         let place = &mut self.program.image[address - self.base..];
         write(instruction, place).expect("a good instruction in ROM")
@@ -45,6 +61,9 @@ impl Builder<'_> {
     }
 
     fn data_address(&mut self) -> u8 {
+        if self.sizing && self.rng.chance(40) {
+            return self.rng.pick(&[COUNT, WIDTH[0], WIDTH[1]]);
+        }
         match self.rng.below(10) {
             0..=3 => self.rng.below(0x40) as u8,
             4 => 0x40 + self.rng.below(0x40) as u8,
@@ -64,7 +83,7 @@ impl Builder<'_> {
     }
 
     /// An instruction that goes on at the next address.
-    fn straight(&mut self) -> Instruction {
+    pub fn straight(&mut self) -> Instruction {
         match self.rng.below(18) {
             0 => LdA(self.operand(true)),
             1 => LdTo(self.operand(true)),
@@ -85,6 +104,15 @@ impl Builder<'_> {
             16 => Res { bit: self.rng.below(8) as u8, address: self.data_address() },
             _ => Set { bit: self.rng.below(8) as u8, address: self.data_address() },
         }
+    }
+
+    /// Places instructions as they are, from where the next routine may start.
+    pub fn place(&mut self, code: &[Instruction], kind: u8, need: u8) {
+        for &instruction in code {
+            self.mark(self.cursor, kind, need);
+            self.cursor += self.put(self.cursor, instruction);
+        }
+        assert!(self.cursor <= CODE_END, "the code is too long");
     }
 
     /// Places a routine; gives its address.
@@ -110,7 +138,7 @@ impl Builder<'_> {
 
     /// The instructions of a routine, jumps not yet aimed.
     fn body(&mut self, wanted: &Routine) -> Vec<Instruction> {
-        let sleepy = wanted.kind != 4 && self.rng.chance(15);
+        let sleepy = (wanted.kind != 4 || self.sizing) && self.rng.chance(15);
         let mut body: Vec<Instruction> = Vec::new();
         for _ in 0..self.rng.below(14) {
             body.push(match self.rng.below(10) {

@@ -18,6 +18,7 @@ pub enum Call<'a> {
     Run { image: Bytes<'a>, state: Bytes<'a>, requests: Bytes<'a>, n: u32, report: usize },
     Check { image: Bytes<'a>, certificate: Bytes<'a>, wired: u32 },
     Job { job: Bytes<'a>, line: usize },
+    Width { image: Bytes<'a>, certificate: Bytes<'a>, count: u32 },
 }
 
 impl Call<'_> {
@@ -32,44 +33,46 @@ impl Call<'_> {
             Call::Run { .. } => 5,
             Call::Check { .. } => 6,
             Call::Job { .. } => 7,
+            Call::Width { .. } => 8,
         }
     }
 
+    /// What is lent to the call: the state, and the buffer that it writes.
+    fn lent(&self) -> (Lent, Lent) {
+        let state = match self {
+            Call::Reset { state }
+            | Call::Store { state, .. }
+            | Call::Step { state, .. }
+            | Call::Run { state, .. } => Lent::holding(state),
+            _ => Lent::none(),
+        };
+        let out = match self {
+            Call::Decode { out: length, .. }
+            | Call::Write { out: length, .. }
+            | Call::Run { report: length, .. }
+            | Call::Job { line: length, .. } => Lent::of_length(*length),
+            _ => Lent::none(),
+        };
+        (state, out)
+    }
+
     pub fn play(&self, library: &Library) -> Outcome {
-        let mut state = Lent::none();
-        let mut out = Lent::none();
+        let (mut state, mut out) = self.lent();
         let answer = match self {
-            Call::Decode { image, address, out: length } => {
-                out = Lent::of_length(*length);
-                (library.decode)(image, *address, out.buffer())
-            }
-            Call::Write { fields, out: length } => {
-                out = Lent::of_length(*length);
-                (library.write)(fields, out.buffer())
-            }
-            Call::Reset { state: before } => {
-                state = Lent::holding(before);
-                (library.reset)(state.buffer())
-            }
-            Call::Store { state: before, address, value } => {
-                state = Lent::holding(before);
-                (library.store)(state.buffer(), *address, *value)
-            }
-            Call::Step { image, state: before, request } => {
-                state = Lent::holding(before);
-                (library.step)(image, state.buffer(), *request)
-            }
-            Call::Run { image, state: before, requests, n, report } => {
-                state = Lent::holding(before);
-                out = Lent::of_length(*report);
+            Call::Decode { image, address, .. } => (library.decode)(image, *address, out.buffer()),
+            Call::Write { fields, .. } => (library.write)(fields, out.buffer()),
+            Call::Reset { .. } => (library.reset)(state.buffer()),
+            Call::Store { address, value, .. } => (library.store)(state.buffer(), *address, *value),
+            Call::Step { image, request, .. } => (library.step)(image, state.buffer(), *request),
+            Call::Run { image, requests, n, .. } => {
                 (library.run)(image, state.buffer(), requests, *n, out.buffer())
             }
             Call::Check { image, certificate, wired } => {
                 (library.check)(image, certificate, *wired)
             }
-            Call::Job { job, line } => {
-                out = Lent::of_length(*line);
-                (library.job)(job, out.buffer())
+            Call::Job { job, .. } => (library.job)(job, out.buffer()),
+            Call::Width { image, certificate, count } => {
+                (library.width)(image, certificate, *count)
             }
         };
         Outcome { answer, state, out }
@@ -110,6 +113,9 @@ impl Call<'_> {
                 Call::Check { image: own(image), certificate: own(certificate), wired }
             }
             Call::Job { job, line } => Call::Job { job: own(job), line },
+            Call::Width { image, certificate, count } => {
+                Call::Width { image: own(image), certificate: own(certificate), count }
+            }
         }
     }
 
@@ -123,7 +129,9 @@ impl Call<'_> {
             Call::Run { image, state, requests, .. } => {
                 vec![requests.to_mut(), state.to_mut(), image.to_mut()]
             }
-            Call::Check { image, certificate, .. } => vec![certificate.to_mut(), image.to_mut()],
+            Call::Check { image, certificate, .. } | Call::Width { image, certificate, .. } => {
+                vec![certificate.to_mut(), image.to_mut()]
+            }
             Call::Job { job, .. } => vec![job.to_mut()],
         }
     }
@@ -136,6 +144,7 @@ impl Call<'_> {
             Call::Step { request, .. } => vec![request],
             Call::Run { n, .. } => vec![n],
             Call::Check { wired, .. } => vec![wired],
+            Call::Width { count, .. } => vec![count],
             Call::Write { .. } | Call::Reset { .. } | Call::Job { .. } => vec![],
         }
     }

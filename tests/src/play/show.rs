@@ -23,6 +23,16 @@ fn show(f: &mut fmt::Formatter, name: &str, bytes: &[u8], base: usize) -> fmt::R
     }
 }
 
+fn show_state(f: &mut fmt::Formatter, state: &[u8], image: &[u8]) -> fmt::Result {
+    show(f, "state", state, 0)?;
+    show(f, "image", image, base(image))
+}
+
+fn show_certificate(f: &mut fmt::Formatter, certificate: &[u8], image: &[u8]) -> fmt::Result {
+    show(f, "certificate", certificate, base(certificate))?;
+    show(f, "image", image, base(image))
+}
+
 fn base(image: &[u8]) -> usize {
     0x1000usize.saturating_sub(image.len())
 }
@@ -45,23 +55,24 @@ impl fmt::Display for Call<'_> {
             }
             Call::Step { image, state, request } => {
                 write!(f, " with request {request:X}h")?;
-                show(f, "state", state, 0)?;
-                show(f, "image", image, base(image))
+                show_state(f, state, image)
             }
             Call::Run { image, state, requests, n, report } => {
                 write!(f, " of {n} steps, report of {report} bytes")?;
                 show(f, "requests", requests, 0)?;
-                show(f, "state", state, 0)?;
-                show(f, "image", image, base(image))
+                show_state(f, state, image)
             }
             Call::Check { image, certificate, wired } => {
                 write!(f, " with wired {wired:X}h")?;
-                show(f, "certificate", certificate, base(certificate))?;
-                show(f, "image", image, base(image))
+                show_certificate(f, certificate, image)
             }
             Call::Job { job, line } => {
                 write!(f, " with a line of {line} bytes")?;
                 show(f, "job", job, 0)
+            }
+            Call::Width { image, certificate, count } => {
+                write!(f, " with count {count:X}h")?;
+                show_certificate(f, certificate, image)
             }
         }
     }

@@ -54,9 +54,10 @@ pub fn difference(second: &Outcome, proved: &Outcome) -> String {
         let answer = outcome.answer;
         let _ = writeln!(
             text,
-            "  {name}: number {}, address {:03X}h, value {}{}",
+            "  {name}: number {}, address {:03X}h, value {} ({:X}h){}",
             boundary::number(answer),
             boundary::address(answer),
+            boundary::value(answer),
             boundary::value(answer),
             if answer >> 56 == 0 { "" } else { ", and bits above 55" },
         );

@@ -1,12 +1,13 @@
 //! Counts what was compared, and prints it.
 
+use crate::width_counts::WidthCounts;
 use second::boundary::{self, FIELDS, FORMS, FORM_NAMES};
 use second::chip::Rom;
 use second::library::KINDS;
 use second::play::{report, Call, Outcome};
 
 /// The greatest number of a refusal.
-const NUMBERS: usize = 22;
+const NUMBERS: usize = 24;
 
 pub struct Counts {
     calls: [u64; KINDS.len()],
@@ -24,6 +25,7 @@ pub struct Counts {
     levels: [u64; 7],
     /// By the number that a job's line gives; 0 is accepted.
     lines: [u64; NUMBERS + 1],
+    pub widths: WidthCounts,
     pub unused_differ: u64,
     pub demand3_calls: u64,
     form_of: [Option<u8>; 256],
@@ -43,6 +45,7 @@ impl Counts {
             idle: 0,
             levels: [0; 7],
             lines: [0; NUMBERS + 1],
+            widths: WidthCounts::new(),
             unused_differ: 0,
             demand3_calls: 0,
             form_of: forms_by_opcode(),
@@ -58,6 +61,9 @@ impl Counts {
         match call {
             Call::Run { image, state, requests, n, .. } if matches!(number, 0 | 4..=7) => {
                 self.trace(image, state, requests, *n, outcome);
+            }
+            Call::Width { image, certificate, .. } => {
+                self.widths.add(image, certificate, outcome.answer);
             }
             _ if number != 0 => {}
             Call::Decode { .. } => self.decoded_forms[outcome.out.bytes()[0] as usize] += 1,
@@ -134,6 +140,7 @@ impl Counts {
         let mut refused = self.lines;
         refused[0] = 0;
         println!("lines of jobs: accepted {accepted}; refused{}", listed(&refused));
+        self.widths.print();
         println!("calls that demand 3 speaks of, all as it says: {}", self.demand3_calls);
         println!("calls that differ only in return addresses not in use: {}", self.unused_differ);
         self.print_not_met();
@@ -154,6 +161,7 @@ impl Counts {
         if !missing.is_empty() {
             println!("NOT MET: numbers {missing:?}");
         }
+        self.widths.print_not_met();
     }
 }
 
@@ -184,7 +192,7 @@ fn line_number(line: &[u8]) -> usize {
 }
 
 /// The counts that aren't 0, each with its number.
-fn listed(counts: &[u64]) -> String {
+pub fn listed(counts: &[u64]) -> String {
     let counted = counts.iter().enumerate().filter(|(_, &count)| count > 0);
     counted.map(|(number, count)| format!(" {number}:{count}")).collect()
 }

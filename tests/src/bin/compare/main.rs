@@ -8,6 +8,8 @@ mod jobs;
 mod machines;
 mod programs;
 mod refusals;
+mod width_counts;
+mod widths;
 
 use harness::Harness;
 use std::process::exit;
@@ -76,6 +78,7 @@ fn main() {
     part("checks", &mut |h| certificates::checks(h, options.checks));
     part("jobs", &mut |h| jobs::jobs(h, options.checks as usize / 10));
     part("programs", &mut |h| programs::programs(h, options.steps));
+    part("widths", &mut |h| widths::widths(h, scale(300)));
     h.counts.print();
     println!("\nno difference, in {:.1} s", start.elapsed().as_secs_f64());
 }

@@ -6,7 +6,7 @@ use second::play::Call;
 use std::borrow::Cow::Owned;
 
 /// Lengths about those that an image may have.
-const LENGTHS: [usize; 8] = [0, 1, 2047, 2049, 4095, 4097, 2048, 4096];
+pub const LENGTHS: [usize; 8] = [0, 1, 2047, 2049, 4095, 4097, 2048, 4096];
 
 pub fn refusals(h: &mut Harness, count: usize) {
     let mut valid = program(&mut h.rng);

@@ -1,10 +1,14 @@
 //! What is measured: `speed` takes its time and `count` its instructions.
 
+mod widths;
+
 use crate::check::check;
 use crate::chip::{decode, write, Instruction, Machine, Operand, SIZES};
 use crate::generate::{dense, sparse, Program, Rng};
 use crate::{boundary, proved};
 use std::hint::black_box;
+
+pub use widths::{Widths, STEPS as WIDTH_STEPS};
 
 /// Who works: the proved library, the second emulator by itself, or the same
 /// behind the library's boundary of bytes.
