@@ -4,3 +4,4 @@ pub mod NeverStops
 pub mod Search
 pub mod Runs
 pub mod Outcomes
+pub mod Cases

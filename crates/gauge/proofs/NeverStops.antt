@@ -1,25 +1,25 @@
 -- Demand 3 for the gauge: an accepted image is ready to be measured, with any count.
-use Prim.Native.Nat.{ℕ, _<_, _≤_}
-use mathlib.Core.Path.{_≡_, refl, sym, ap, _∙_}
-use mathlib.Core.Bool.{true, false}
+use Prim.Native.Nat.{ℕ}
+use mathlib.Core.Path.{_≡_, sym, ap, _∙_}
+use mathlib.Core.Bool.{true, false, false≢true}
 use mathlib.Core.List.{List, [], _∷_}
 use native.Mathlib.Omega.{arith}
-use lib.ListN.{replicate, length}
-use Rattle.isa.specs.Rom.{isImage}
-use Rattle.control.specs.WellFormed.{addressesFit, wellFormed}
-use Rattle.machine.specs.declared.Machine.{Machine}
-use Rattle.machine.specs.State.{machineOf, isWellFormed, resetControl, clearedPairs, resetOf, freshOf, hostStoreOf}
-use Rattle.machine.specs.Step.{stepOf}
-use Rattle.machine.specs.Run.{Run, stepsOf, runOf}
+use lib.ListN.{replicate}
+use Rattle.isa.specs.Refusals.{Numbered}
+use Rattle.machine.specs.State.{machineOf, isWellFormed, resetControl, clearedPairs, resetOf, freshOf, HostStore}
+use Rattle.machine.specs.Refusals as why
+use Rattle.machine.specs.Refusals.{StoreRefused}
+use Rattle.machine.specs.Run.{runOf}
+use Rattle.machine.proofs.Refusals.{store-refusals}
 use Rattle.machine.proofs.StaysWellFormed.{stays-well-formed}
 use Rattle.certificate.specs.Check.{checkOf, accepted}
 use Rattle.bench.specs.Calls.{Call, step, run, store, leaves}
-use Rattle.bench.specs.Session.{StepDone, AllKeep}
+use Rattle.bench.specs.Session.{AllKeep}
 use Rattle.bench.proofs.Session.{never-stops}
 use Rattle.bench.proofs.Unrolled.{none-asks}
 use Rattle.gauge.specs.Sleep.{machineAfter, AllDone, Ready}
 use Rattle.gauge.specs.Width.{startOf}
-use Rattle.gauge.proofs.Steps.{StepKept, Fits, fits, is-done, run-is-steps-of}
+use Rattle.gauge.proofs.Steps.{StepKept, Fits, fits, is-done, run-as-steps}
 
 module _ (image certificate : List ℕ) (levels : ℕ) (accepts : checkOf image certificate 0 ≡ accepted levels)
     (count : ℕ) where
@@ -48,11 +48,18 @@ module _ (image certificate : List ℕ) (levels : ℕ) (accepts : checkOf image 
   all-done : AllDone image (startOf count) 65535
   all-done n h =
       is-done image (machineAfter image (startOf count) n)
-      (rw (run-is-steps-of image (startOf count) start-fits n (omega arith)) at (after-run n))
+      (rw (run-as-steps image (startOf count) start-fits n (omega arith)) at (after-run n))
+
+  -- the store is done: a fresh machine is well formed, and 0C0h lies outside the window
+  stored : (r : Numbered) → StoreRefused freshOf 0xC0 r → ⊥
+  unfolding freshOf
+  stored _ (why.ill-formed w) = false≢true (sym w ∙ stays-well-formed .by-reset _)
+  stored _ (why.window-address w low high) = omega arith
 
   start-awake : startOf count .control .asleep ≡ false
-  unfolding startOf freshOf hostStoreOf resetOf wellFormed addressesFit
-  start-awake = refl
+  unfolding startOf freshOf resetOf
+  start-awake =
+      ap (λ (s : HostStore). s .machine .control .asleep) (store-refusals .done-else freshOf 0xC0 count stored)
 
   pub ready : Ready image (startOf count)
   ready = record { awake = start-awake; all-done = all-done }

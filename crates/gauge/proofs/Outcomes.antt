@@ -1,5 +1,5 @@
 -- Exactly one of three: a width, 23 or 24.
-use Prim.Native.Nat.{ℕ, zero, suc, _+_, _-_, _<_, _≤_}
+use Prim.Native.Nat.{ℕ, zero, suc, _+_, _-_, _<_}
 use mathlib.Core.Path.{_≡_, refl, sym, ap, _∙_}
 use mathlib.Core.Logic.{_⊎_, inl, inr}
 use mathlib.Core.List.{List}
@@ -7,10 +7,18 @@ use native.Mathlib.Omega.{arith}
 use Rattle.isa.specs.Refusals.{Numbered, plain, Answer, done, refused}
 use Rattle.machine.specs.Run.{stepsOf}
 use Rattle.certificate.specs.Check.{Verdict, checkOf, accepted}
-use Rattle.gauge.specs.Sleep.{machineAfter, asleepAfter, AwakeAfter, AllDone, Ready, widthShown, Size, sizeAs, sizeOf}
-use Rattle.gauge.specs.Width.{startOf, widthBy, widthOf}
+use Rattle.gauge.specs.Sleep.{
+  machineAfter,
+  asleepAfter,
+  AwakeAfter,
+  Ready,
+  widthShown,
+  Size,
+  sizeAs,
+  sizeOf,
+}
+use Rattle.gauge.specs.Width.{startOf, widthOf}
 use Rattle.gauge.specs.Outcomes.{
-  Accepted,
   NotChecked,
   Measured,
   NeverSlept,
@@ -23,7 +31,7 @@ use Rattle.gauge.specs.Outcomes.{
   ExactlyOne,
 }
 use Rattle.gauge.proofs.NeverStops.{ready}
-use Rattle.gauge.proofs.Search.{AwakeFrom, FirstFrom, finds, finds-none, search-from}
+use Rattle.gauge.proofs.Search.{AwakeFrom, FirstFrom, sizeAt, finds, finds-none, search-from}
 
 widthIn : Answer Size → ℕ
 widthIn (done s) = s .width
@@ -44,7 +52,7 @@ module _ (image certificate : List ℕ) (count : ℕ) where
   unfolding widthOf
   measures width steps x =
       let whole : 1 + (steps - 1) ≡ steps = omega (arith, x .least) in
-      let found : sizeOf image (startOf count) ≡ done (sizeAs (widthShown (machineAfter image (startOf count) steps)) steps) =
+      let found : sizeOf image (startOf count) ≡ sizeAt image (startOf count) steps =
       rw whole at
       (finds image (startOf count) 1 65535 (steps - 1) (omega (arith, x .least, x .most))
       (λ d h. x .awake (1 + d) (omega arith)) (rw whole (x .asleep))) in
@@ -146,9 +154,9 @@ module _ (image certificate : List ℕ) (count : ℕ) where
 
   no-other : NoOther image certificate count
   no-other = record {
-    not-both = λ w s x y. not-done (sizeAs w s) (plain 23) (sym (refuses-23 y) ∙ measures w s x);
-    slept = λ w s x y. not-done (sizeAs w s) (plain 24) (sym (refuses-24 y) ∙ measures w s x);
-    checked = λ x y. apart 23 24 (omega arith) (sym (refuses-23 x) ∙ refuses-24 y);
+    measured-is-checked = λ w s x y. not-done (sizeAs w s) (plain 23) (sym (refuses-23 y) ∙ measures w s x);
+    measured-slept = λ w s x y. not-done (sizeAs w s) (plain 24) (sym (refuses-24 y) ∙ measures w s x);
+    awake-is-checked = λ x y. apart 23 24 (omega arith) (sym (refuses-23 y) ∙ refuses-24 x);
     one-size = λ w s w′ s′ x y. one-size (sym (measures w s x) ∙ measures w′ s′ y);
   }
 

@@ -6,16 +6,15 @@ use mathlib.Core.List.{List, []}
 use native.Mathlib.Omega.{arith}
 use borrow.Author.Tests.{leb-true, leb-false}
 use lib.Dec.{leb}
-use Rattle.isa.specs.Refusals.{plain, Answer, done, refused}
+use Rattle.isa.specs.Refusals.{plain, done, refused}
 use Rattle.machine.specs.declared.Machine.{Machine}
-use Rattle.machine.specs.Run.{Run, stepsOf, runOf}
+use Rattle.machine.specs.Run.{Run, runOf}
 use Rattle.gauge.specs.Sleep.{
   machineAfter,
   asleepAfter,
   AsleepAfter,
   AwakeAfter,
   widthShown,
-  Size,
   sizeAs,
   sizeOf,
   Ready,

@@ -2,22 +2,21 @@
 use Prim.Native.Nat.{ℕ, zero, suc, _+_, _-_, _<_, _≤_}
 use mathlib.Core.Path.{_≡_, refl, sym, ap, _∙_}
 use mathlib.Core.Logic.{inr}
-use mathlib.Core.Bool.{Bool, true, false, false≢true}
+use mathlib.Core.Bool.{Bool, true, false, not, false≢true}
 use mathlib.Core.List.{List, []}
 use native.Mathlib.Omega.{arith}
 use native.Mathlib.Nat.{add-zero}
 use native.Mathlib.Numerals.{add-one}
-use borrow.Author.Tests.{ltb-true, ltb-false}
+use borrow.Author.Tests.{ltb-true, ltb-false, not-true}
 use lib.Dec.{ltb}
 use lib.ListN.{drop}
 use Rattle.isa.specs.Refusals.{Answer, Ended, done, refused}
 use Rattle.machine.specs.declared.Machine.{Machine}
-use Rattle.machine.specs.Step.{stepOf}
+use Rattle.machine.specs.Step.{Step, stepOf}
 use Rattle.machine.specs.Run.{Run, joinedBy, continuedBy, continuedOf, stepsOf, runOf}
 use Rattle.machine.proofs.Laws.{run-is-steps, sleeper-stays}
-use Rattle.bench.specs.Session.{StepDone}
 use Rattle.gauge.specs.Sleep.{machineAfter, asleepAfter, AsleepAfter, AwakeAfter, AllDone, SleepsWithin}
-use Rattle.gauge.proofs.Steps.{Fits, fits, run-is-steps-of}
+use Rattle.gauge.proofs.Steps.{Fits, fits, run-as-steps}
 
 no-requests : (n : ℕ) → drop {A = ℕ} n [] ≡ []
 no-requests zero = refl
@@ -58,9 +57,10 @@ module _ (image : List ℕ) (m : Machine) (most : ℕ) (all : AllDone image m mo
 
   -- a run of them
   pub run-further :
-      (n k : ℕ) → n < most → k ≤ 65535 → runOf image (machineAfter image m n) [] k .machine ≡ machineAfter image m (n + k)
+      (n k : ℕ) → n < most → k ≤ 65535
+      → runOf image (machineAfter image m n) [] k .machine ≡ machineAfter image m (n + k)
   run-further n k h l =
-      ap (λ (r : Run). r .machine) (run-is-steps-of image (machineAfter image m n) (fits-after n h) k l)
+      ap (λ (r : Run). r .machine) (run-as-steps image (machineAfter image m n) (fits-after n h) k l)
       ∙ further n k (omega arith)
 
   -- the rest of the steps is done too
@@ -89,7 +89,13 @@ module _ (image : List ℕ) (m : Machine) (most : ℕ) (all : AllDone image m mo
           let later : AsleepAfter image m k = rw whole at (asleep-on n (k - n) (omega arith) a) in
           sym later ∙ e
 
--- a machine that sleeps within so many steps has not taken them all while it is awake
+-- what the program finds of the machine that it holds is so after n steps
+pub found-after :
+    (image : List ℕ) (m held : Machine) (n : ℕ) (asleep : Bool) → held ≡ machineAfter image m n
+    → asleep ≡ held .control .asleep → asleepAfter image m n ≡ asleep
+found-after image m held n asleep e a = sym (a ∙ ap (λ (x : Machine). x .control .asleep) e)
+
+-- a machine that is still awake has not taken all the steps within which it sleeps
 pub not-yet :
     (image : List ℕ) (m : Machine) (most : ℕ) → SleepsWithin image m most → (n : ℕ) → n ≤ most → AwakeAfter image m n
     → n < most
@@ -101,8 +107,23 @@ not-yet image m most sleeps n h e = go (ltb n most) refl
         let same : n ≡ most = omega (arith, ltb-false n most t) in
         absurd (false≢true (sym e ∙ ap (asleepAfter image m) same ∙ sleeps .asleep))
 
--- what the program finds of the machine that it holds is so after n steps
-pub found-after :
-    (image : List ℕ) (m held : Machine) (n : ℕ) (asleep : Bool) → held ≡ machineAfter image m n
-    → asleep ≡ held .control .asleep → asleepAfter image m n ≡ asleep
-found-after image m held n asleep e a = sym (a ∙ ap (λ (x : Machine). x .control .asleep) e)
+-- the step after n, where the test finds the machine awake
+pub record StillAwake (image : List ℕ) (m : Machine) (most n : ℕ) (after : Machine) : Type 0 where
+  pub awake : AwakeAfter image m n
+  pub left : n < most
+  pub next : after ≡ machineAfter image m (n + 1)
+
+pub still-awake :
+    (image : List ℕ) (m : Machine) (most : ℕ) → SleepsWithin image m most → (held : Machine) (n : ℕ) (asleep : Bool)
+    → n ≤ most → held ≡ machineAfter image m n → asleep ≡ held .control .asleep → not asleep ≡ true
+    → (s : Step) → s ≡ stepOf image held 0 → StillAwake image m most n (s .machine)
+still-awake image m most sleeps held n asleep h is a t s e =
+    let awake : AwakeAfter image m n = found-after image m held n asleep is a ∙ not-true asleep t in
+    let left : n < most = not-yet image m most sleeps n h awake in
+    record {
+      awake = awake;
+      left = left;
+      next =
+          ap (λ (x : Step). x .machine) e ∙ ap (λ (x : Machine). stepOf image x 0 .machine) is
+          ∙ one-further image m most (sleeps .all-done) n left ∙ ap (machineAfter image m) (sym (add-one n));
+    }

@@ -10,7 +10,7 @@ use Rattle.isa.specs.Refusals.{Numbered, plain, located, Answer, done, refused}
 use Rattle.isa.specs.Rom.{isImage}
 use Rattle.machine.specs.declared.Machine.{Machine}
 use Rattle.machine.specs.State.{isWellFormed}
-use Rattle.machine.specs.Step.{Step, stepOf, refusedOf}
+use Rattle.machine.specs.Step.{Step, stepOf}
 use Rattle.machine.specs.Run.{stepsOf, runOf}
 use Rattle.machine.specs.Refusals as why
 use Rattle.machine.specs.Laws.{IsStop}
@@ -22,16 +22,16 @@ use Rattle.bench.specs.Session.{StepRefused, StepDone}
 abbrev pub StepKept : (image : List ℕ) → Machine → Type 0
 StepKept image m = StepRefused m 11 (stepOf image m 0) ⊎ StepDone (stepOf image m 0)
 
--- neither done nor refused with 11
-other : (image : List ℕ) (m : Machine) (n : ℕ) → n ≤ 2 → stepOf image m 0 ≡ refusedOf m (plain n) → StepKept image m → ⊥
-other image m n h e (inl r) =
+-- a step that is refused with 1 or 2 is neither done nor refused with 11
+neither : (image : List ℕ) (m : Machine) (n : ℕ) → n ≤ 2 → why.StepRefused image m 0 (plain n) → StepKept image m → ⊥
+neither image m n h why (inl r) =
     let x : _≡_ {A = Answer ℕ} (refused (plain n)) (refused (plain 11)) =
-    sym (ap (λ (s : Step). s .answer) e) ∙ r .refusal in
+    sym (ap (λ (s : Step). s .answer) (step-refusals .given image m 0 (plain n) why)) ∙ r .refusal in
     let y : n ≡ 11 = cc in
     omega arith
-other image m n h e (inr r) =
-    let x : _≡_ {A = Answer ℕ} (refused (plain n)) (done (r .cycles)) =
-    sym (ap (λ (s : Step). s .answer) e) ∙ r .answer in
+neither image m n h why (inr d) =
+    let x : _≡_ {A = Answer ℕ} (refused (plain n)) (done (d .cycles)) =
+    sym (ap (λ (s : Step). s .answer) (step-refusals .given image m 0 (plain n) why)) ∙ d .answer in
     let y : _≡_ {A = ℕ} 0 1 = cc in
     omega arith
 
@@ -45,8 +45,8 @@ fits image m kept = go (isImage (length image)) (isWellFormed m) refl refl
   where
     go : (i w : Bool) → isImage (length image) ≡ i → isWellFormed m ≡ w → Fits image m
     go true true i w = record { size = i; formed = w }
-    go true false i w = absurd (other image m 2 (omega arith) (step-refusals .given image m 0 _ (why.ill-formed i w)) kept)
-    go false w i f = absurd (other image m 1 (omega arith) (step-refusals .given image m 0 _ (why.image-length i)) kept)
+    go true false i w = absurd (neither image m 2 (omega arith) (why.ill-formed i w) kept)
+    go false b i w = absurd (neither image m 1 (omega arith) (why.image-length i) kept)
 
 -- a step without requests is not refused with 11
 pub is-done : (image : List ℕ) (m : Machine) → StepKept image m → StepDone (stepOf image m 0)
@@ -54,9 +54,6 @@ is-done image m (inr d) = d
 is-done image m (inl r) =
     absurd (by-reason (plain 11) refl (step-refusals .only image m 0 (plain 11) (r .refusal)))
   where
-    f : Fits image m
-    f = fits image m (inl r)
-
     by-reason : (n : Numbered) → n ≡ plain 11 → why.StepRefused image m 0 n → ⊥
     by-reason _ e (why.image-length i) = let y : _≡_ {A = ℕ} 1 11 = cc in omega arith
     by-reason _ e (why.ill-formed i w) = let y : _≡_ {A = ℕ} 2 11 = cc in omega arith
@@ -68,9 +65,9 @@ is-done image m (inl r) =
         omega arith
 
 -- a run without requests on such a machine is not refused
-pub run-is-steps-of :
+pub run-as-steps :
     (image : List ℕ) (m : Machine) → Fits image m → (n : ℕ) → n ≤ 65535 → runOf image m [] n ≡ stepsOf image [] m n
-run-is-steps-of image m f n h = run-refusals .steps-else image m [] n by-reason
+run-as-steps image m f n h = run-refusals .steps-else image m [] n by-reason
   where
     by-reason : (r : Numbered) → why.RunRefused image m [] n r → ⊥
     by-reason _ (why.image-length i) = false≢true (sym i ∙ f .size)

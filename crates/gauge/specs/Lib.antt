@@ -1,3 +1,4 @@
 pub mod Sleep
 pub mod Width
 pub mod Outcomes
+pub mod Cases

@@ -64,10 +64,11 @@ pub data Outcome (image certificate : List ℕ) (count : ℕ) : Type 0 where
 
 -- .. and no second one, nor another width or other steps
 pub record NoOther (image certificate : List ℕ) (count : ℕ) : Type 0 where
-  pub not-both : (width steps : ℕ) → Measured image certificate count width steps → NotChecked image certificate → ⊥
-  pub slept :
+  pub measured-is-checked :
+      (width steps : ℕ) → Measured image certificate count width steps → NotChecked image certificate → ⊥
+  pub measured-slept :
       (width steps : ℕ) → Measured image certificate count width steps → NeverSlept image certificate count → ⊥
-  pub checked : NotChecked image certificate → NeverSlept image certificate count → ⊥
+  pub awake-is-checked : NeverSlept image certificate count → NotChecked image certificate → ⊥
   pub one-size :
       (width steps width′ steps′ : ℕ) → Measured image certificate count width steps
       → Measured image certificate count width′ steps′ → (width ≡ width′) × (steps ≡ steps′)

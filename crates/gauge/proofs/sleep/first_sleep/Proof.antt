@@ -1,17 +1,14 @@
--- `sleep::first_sleep` meets its contract. The loop's invariant: the machine held is the one after so many steps, and it
--- was awake before each of them. It ends, since the machine is known to sleep.
-use Prim.Native.Nat.{ℕ, _<_, _≤_, _-_, _+_}
-use mathlib.Core.Path.{_≡_, refl, sym, ap, _∙_}
+-- `sleep::first_sleep` meets its contract. The loop's invariant: the machine held is the one after so many steps, and
+-- it was awake before each of them. It ends, since the machine is known to sleep.
+use Prim.Native.Nat.{ℕ, _<_, _≤_, _-_}
+use mathlib.Core.Path.{_≡_, refl, ap, _∙_}
 use native.Mathlib.Omega.{arith}
-use native.Mathlib.Numerals.{add-one}
 use borrow.Author.Count.{below-more}
 use borrow.Author.Needs.{needs}
-use borrow.Author.Tests.{not-true, not-false}
-use Rattle.machine.specs.declared.Machine.{Machine}
-use Rattle.machine.specs.Step.{Step, stepOf}
+use borrow.Author.Tests.{not-false}
 use Rattle.machine.specs.Run.{stepsOf}
 use Rattle.gauge.specs.Sleep.{machineAfter, AwakeAfter, widthShown}
-use Rattle.gauge.proofs.Sleeper.{one-further, not-yet, found-after}
+use Rattle.gauge.proofs.Sleeper.{found-after, still-awake}
 use Rattle.gauge.proofs.sleep.first_sleep.Statement.{statement}
 use Rattle.gauge.proofs.sleep.first_sleep.Tie as tie
 
@@ -41,32 +38,20 @@ loop-less c =
     let asleep = c .before .before .before .is-asleep in
     let loop = c .before .before .before .before .loop in
     let start = c .before .before .before .before .before .before in
-    let awake : AwakeAfter (start .args .image .now) (start .args .m) (loop .steps) =
-    found-after (start .args .image .now) (start .args .m) (loop .held) (loop .steps) (asleep .result) (loop .inv .1)
-    (asleep .ensures)
-    ∙ not-true (asleep .result) (c .before .before .if1 .taken) in
-    let left : loop .steps < 255 =
-    not-yet (start .args .image .now) (start .args .m) 255 (start .pre) (loop .steps) (loop .inv .0) awake in
-    omega (arith, left)
+    let still =
+    still-awake (start .args .image .now) (start .args .m) 255 (start .pre) (loop .held) (loop .steps) (asleep .result)
+    (loop .inv .0) (loop .inv .1) (asleep .ensures) (c .before .before .if1 .taken) _ (c .before .step .ensures) in
+    omega (arith, still .left)
 
 loop-again : tie.Need-loop-again Inv-loop μ-loop
 loop-again c =
     let asleep = c .before .before .before .is-asleep in
     let loop = c .before .before .before .before .loop in
     let start = c .before .before .before .before .before .before in
-    let awake : AwakeAfter (start .args .image .now) (start .args .m) (loop .steps) =
-    found-after (start .args .image .now) (start .args .m) (loop .held) (loop .steps) (asleep .result) (loop .inv .1)
-    (asleep .ensures)
-    ∙ not-true (asleep .result) (c .before .before .if1 .taken) in
-    let left : loop .steps < 255 =
-    not-yet (start .args .image .now) (start .args .m) 255 (start .pre) (loop .steps) (loop .inv .0) awake in (
-      omega (arith, left),
-      ap (λ (x : Step). x .machine) (c .before .step .ensures)
-          ∙ ap (λ (x : Machine). stepOf (start .args .image .now) x 0 .machine) (loop .inv .1)
-          ∙ one-further (start .args .image .now) (start .args .m) 255 (start .pre .all-done) (loop .steps) left
-          ∙ ap (machineAfter (start .args .image .now) (start .args .m)) (sym (add-one (loop .steps))),
-      below-more _ _ (loop .inv .2) awake,
-    )
+    let still =
+    still-awake (start .args .image .now) (start .args .m) 255 (start .pre) (loop .held) (loop .steps) (asleep .result)
+    (loop .inv .0) (loop .inv .1) (asleep .ensures) (c .before .before .if1 .taken) _ (c .before .step .ensures) in
+    (omega (arith, still .left), still .next, below-more _ _ (loop .inv .2) (still .awake))
 
 width-shown-requires : tie.Need-width-shown-requires Inv-loop μ-loop
 width-shown-requires c κs = search needs

@@ -1,11 +1,10 @@
 -- `sleep::measure` meets its contract. The loop's invariant: the machine held is the one after i runs, and it is awake.
-use Prim.Native.Nat.{ℕ, _<_, _≤_, _-_, _+_, _*_}
+use Prim.Native.Nat.{_≤_, _-_, _+_, _*_}
 use mathlib.Core.Path.{_≡_, refl, sym, ap, _∙_}
 use native.Mathlib.Omega.{arith}
 use borrow.Author.Needs.{needs}
-use Rattle.machine.specs.declared.Machine.{Machine}
 use Rattle.machine.specs.Run.{ranOf, stepsOf}
-use Rattle.gauge.specs.Sleep.{machineAfter, asleepAfter, AwakeAfter, AsleepAfter}
+use Rattle.gauge.specs.Sleep.{machineAfter, asleepAfter, AwakeAfter}
 use Rattle.gauge.proofs.Runs.{never, run-on, asleep-then, sleeps-within, found}
 use Rattle.gauge.proofs.sleep.measure.Statement.{statement}
 use Rattle.gauge.proofs.sleep.measure.Tie as tie

@@ -16,8 +16,9 @@ host-store-requires c κs = search needs
 returns : tie.Need-returns
 unfolding startOf
 returns c =
+    let count = c .before .before .before .args .count in
     ap (λ (s : HostStore). s .machine) (c .before .host-store .ensures)
-    ∙ ap (λ (m : Machine). hostStoreOf m 0xC0 (c .before .before .before .args .count) .machine) (c .before .before .fresh .ensures)
+    ∙ ap (λ (m : Machine). hostStoreOf m 0xC0 count .machine) (c .before .before .fresh .ensures)
 
 pub start-spec : {M : Type 1} → statement M
 start-spec = tie.close (tie.spec fresh-requires host-store-requires returns)

@@ -1,10 +1,9 @@
 -- `width::width` meets its contract. That no step of an accepted image stops is demand 3.
-use mathlib.Core.Path.{_≡_, sym, ap, _∙_}
+use mathlib.Core.Path.{sym, ap, _∙_}
 use borrow.Author.Needs.{needs}
-use Rattle.isa.specs.Refusals.{Answer, done}
-use Rattle.certificate.specs.Check.{answered, checkOf, accepted}
-use Rattle.gauge.specs.Sleep.{Size, sizeOf}
-use Rattle.gauge.specs.Width.{startOf, widthOf}
+use Rattle.certificate.specs.Check.{answered}
+use Rattle.gauge.specs.Sleep.{sizeOf}
+use Rattle.gauge.specs.Width.{widthOf}
 use Rattle.gauge.proofs.NeverStops.{ready}
 use Rattle.gauge.proofs.width.width.Statement.{statement}
 use Rattle.gauge.proofs.width.width.Tie as tie
