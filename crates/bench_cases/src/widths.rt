@@ -5,7 +5,6 @@ use crate::sizing::sizing;
 use gauge::Sizing;
 use gauge::width::width;
 use printing::put;
-use printing::put_byte;
 use printing::put_number;
 use printing::put_refusal;
 
@@ -26,7 +25,7 @@ fn put_sizing(sizing: Sizing) {
 fn put_width(what: &[u8], image: &[u8], certificate: &[u8], count: u8) {
     put(what);
     put(b", count ");
-    put_byte(count);
+    put_number(count as u32);
     put(b": ");
     put_sizing(width(image, certificate, count));
 }
@@ -44,7 +43,7 @@ fn shows(sizing: Sizing, expected: u32) -> bool {
     }
 }
 
-// How many of the 256 counts show it.
+// How many of the 256 counts show the formula's width.
 fn right_widths(image: &[u8], certificate: &[u8]) -> u32 {
     let mut right: u32 = 0;
     for i in 0..256u32 {

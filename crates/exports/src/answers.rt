@@ -16,7 +16,8 @@ ghost use Rattle.machine.specs.State.{endedOf};
 ghost use Rattle.machine.specs.Step.{answerOf};
 ghost use Rattle.certificate.specs.Check.{answered};
 ghost use Rattle.gauge.specs.Sleep.{sizingOf};
-ghost use Rattle.exports.specs.Answers.{word, refusalWord, invalidWord, answerWord, sizeWord, endedWord, isRefusedRun};
+ghost use Rattle.exports.specs.Answers.{word, refusalWord, invalidWord, answerWord, sizeWord, endedWord};
+ghost use Rattle.exports.specs.Answers.{isRefusedRun};
 
 // What is done, with its value.
 pub fn done(value: u32) -> u64
@@ -95,7 +96,7 @@ pub fn write_word(written: Written) -> u64
 }
 
 // The width in the low 16 bits of the value, the steps above it.
-pub fn width_word(sizing: Sizing) -> u64
+pub fn sizing_word(sizing: Sizing) -> u64
     ensures { λ r. ⌜ r ≡ sizeWord (sizingOf sizing) ⌝ }
 {
     match sizing {

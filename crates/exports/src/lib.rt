@@ -13,8 +13,8 @@ use answers::ending_word;
 use answers::invalid_state;
 use answers::is_refused;
 use answers::refused;
+use answers::sizing_word;
 use answers::step_word;
-use answers::width_word;
 use answers::write_word;
 use certificate::check::check;
 use clamp::clamp_address;
@@ -169,7 +169,7 @@ pub extern "C" fn st62_width(image: &[u8], certificate: &[u8], count: u32) -> u6
     if 255 < count {
         return refused(Refusal::OperandRange);
     }
-    width_word(width(image, certificate, count as u8))
+    sizing_word(width(image, certificate, count as u8))
 }
 
 // Answers a job with its line, written into `line`.

@@ -15,7 +15,7 @@ use Rattle.machine.specs.Run.{stepsOf, runOf}
 use Rattle.machine.specs.Refusals as why
 use Rattle.machine.specs.Laws.{IsStop}
 use Rattle.machine.proofs.Refusals.{step-refusals, run-refusals}
-use Rattle.machine.proofs.StepDoes.{numbered-stop}
+use Rattle.machine.proofs.StepDoes.{stops-numbered}
 use Rattle.bench.specs.Session.{StepRefused, StepDone}
 
 -- demand 3's promise of a step without requests
@@ -59,7 +59,7 @@ is-done image m (inl r) =
     by-reason _ e (why.ill-formed i w) = let y : _≡_ {A = ℕ} 2 11 = cc in omega arith
     by-reason _ e (why.unknown-source i w names) = false≢true (sym names)
     by-reason n e (why.stops _ i w names stop) =
-        let s : IsStop n = numbered-stop image m 0 i w n stop in
+        let s : IsStop n = stops-numbered image m 0 i w n stop in
         let x : plain 11 ≡ located (s .number) (s .address) = sym e ∙ s .is in
         let y : _≡_ {A = ℕ} 0 1 = cc in
         omega arith

@@ -1,5 +1,5 @@
--- Three small programs, so that W-201's claim is no claim about nothing: each of the three answers is given, for every
--- count.
+-- Two small programs, so that W-201's claim is no claim about nothing: with them each of the three answers is given,
+-- for every count.
 use Prim.Native.Nat.{ℕ}
 use mathlib.Core.Path.{_≡_}
 use mathlib.Core.List.{List, [], _∷_}
@@ -27,6 +27,7 @@ copyingCertificate =
 abbrev pub endlessImage : List ℕ
 endlessImage = put 0xFFE (0xE9 ∷ 0xFF ∷ []) blank
 
+-- start-up code
 abbrev pub endlessCertificate : List ℕ
 endlessCertificate = put 0xFFE (0x10 ∷ []) blank
 
@@ -36,5 +37,5 @@ pub record WidthCases : Type 0 where
   pub measured : (count : ℕ) → widthOf copyingImage copyingCertificate count ≡ done (sizeAs count 4)
   -- without its marks the program is refused
   pub not-checked : (count : ℕ) → widthOf copyingImage blank count ≡ refused (plain 23)
-  -- it never sleeps
+  -- the program that jumps to itself never sleeps
   pub never-slept : (count : ℕ) → widthOf endlessImage endlessCertificate count ≡ refused (plain 24)

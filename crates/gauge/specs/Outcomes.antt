@@ -42,7 +42,8 @@ pub record NeverSlept (image certificate : List ℕ) (count : ℕ) : Type 0 wher
   pub awake : (n : ℕ) → n ≤ 65535 → AwakeAfter image (startOf count) n
   pub all-done : AllDone image (startOf count) 65535
 
--- the gauge answers with a width, 23 or 24 exactly where the paper says so
+-- the gauge answers with a width, 23 or 24 exactly where the paper says so: only there (`measured`, `refused-23`,
+-- `refused-24`), and always there (`measures`, `refuses-23`, `refuses-24`)
 pub record Answers (image certificate : List ℕ) (count : ℕ) : Type 0 where
   pub measured :
       (width steps : ℕ) → widthOf image certificate count ≡ done (sizeAs width steps)

@@ -16,6 +16,7 @@ use Rattle.gauge.specs.declared.Sizing.the-variants.{Measured, Refused}
 abbrev pub machineAfter : (image : List ℕ) → Machine → (n : ℕ) → Machine
 machineAfter image m n = stepsOf image [] m n .machine
 
+-- "until the machine sleeps": whether it sleeps after n steps
 abbrev pub asleepAfter : (image : List ℕ) → Machine → (n : ℕ) → Bool
 asleepAfter image m n = machineAfter image m n .control .asleep
 
@@ -38,6 +39,7 @@ pub record Size : Type 0 where
   pub width : ℕ
   pub steps : ℕ
 
+-- a width and steps as the answer
 abbrev pub sizeAs : (width steps : ℕ) → Size
 sizeAs width steps = record { width = width; steps = steps }
 
@@ -55,6 +57,8 @@ sizeFrom image m n (suc left) =
 -- "runs without requests until the machine sleeps", and "with 24 when 65,535 steps pass without sleep"
 abbrev pub sizeOf : (image : List ℕ) → Machine → Answer Size
 sizeOf image m = sizeFrom image m 1 65535
+
+-- What the functions inside the crate ask for and promise (`sleep::measure`, `sleep::first_sleep`); no claim uses it.
 
 -- a machine to be run until it sleeps: it is awake, and no step of it stops
 pub record Ready (image : List ℕ) (m : Machine) : Type 0 where

@@ -13,10 +13,10 @@ const RUNS: u16 = 257;
 
 const RUN_STEPS: u16 = 255;
 
-// The width's high byte; the low one follows it.
+// The data address of the width's high byte; the low byte follows it.
 const WIDTH: usize = 0x84;
 
-// When the machine first slept: after so many steps, and the width that it shows since.
+// A machine's first sleep: the steps until then, and the width that it then shows.
 struct Slept {
     width: u16,
     steps: u16,

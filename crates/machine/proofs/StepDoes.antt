@@ -62,7 +62,7 @@ use Rattle.machine.specs.Refusals.{
   ill-formed,
   unknown-source,
 }
-use Rattle.machine.specs.Laws.{IsStop, Does, stops, takes, idles, executes, StepDoes}
+use Rattle.machine.specs.Laws.{IsStop, StopsNumbered, Does, stops, takes, idles, executes, StepDoes}
 use Rattle.machine.proofs.Stops.{MayStop, is-call, is-ret, is-reti, goes-on, may-stop}
 
 never : {P : Type 0} → _≡_ {A = Bool} false true → P
@@ -170,6 +170,9 @@ module _ (image : List ℕ) (m : Machine) (request : ℕ) (size : isImage (lengt
   numbered-stop _ (ret-empty bytes cycles none awake at l) = is-stop 7 (m .control .pc) (omega arith) (omega arith)
   numbered-stop _ (reti-empty bytes cycles none awake at l mode) =
       is-stop 7 (m .control .pc) (omega arith) (omega arith)
+
+pub stops-numbered : StopsNumbered
+stops-numbered image m request size formed r stop = numbered-stop image m request size formed r stop
 
 -- a step: refused for one of three reasons, or as above
 pub data Tested (image : List ℕ) (m : Machine) (request : ℕ) : Step → Type 0 where

@@ -37,6 +37,13 @@ pub record IsStop (r : Numbered) : Type 0 where
   pub least : 4 ≤ number
   pub most : number ≤ 7
 
+-- .. of every case in which a step stops
+-- proved by stops-numbered, proofs/StepDoes
+abbrev pub StopsNumbered : Type 0
+StopsNumbered =
+    (image : List ℕ) (m : Machine) (request : ℕ) → isImage (length image) ≡ true → isWellFormed m ≡ true →
+    (r : Numbered) → StepStops image m request r → IsStop r
+
 -- What a step that is not refused does: it stops and leaves the machine as it was, or takes a request in one cycle,
 -- or is idle in none, or executes the instruction at PC in the cycles of the table
 pub data Does (image : List ℕ) (m : Machine) (request : ℕ) : Step → Type 0 where

@@ -9,11 +9,11 @@ use std::hint::black_box;
 use Instruction::*;
 use Operand::*;
 
-/// The steps of the program with [`SLIDES`].
+/// The steps of the program with [`SLIDE_COUNT`].
 pub const STEPS: u32 = 61_047;
 
 /// The count that it is given.
-const SLIDES: u8 = 37;
+const SLIDE_COUNT: u8 = 37;
 
 pub struct Widths {
     program: Program,
@@ -25,12 +25,12 @@ pub struct Widths {
 impl Default for Widths {
     fn default() -> Self {
         let program = program();
-        let Gauged { width, steps } = gauge(&program.image, &program.certificate, SLIDES)
+        let Gauged { width, steps } = gauge(&program.image, &program.certificate, SLIDE_COUNT)
             .expect("the program is accepted and sleeps");
         assert_eq!(steps as u32, STEPS);
         let mut start = vec![0; boundary::STATE];
         assert_eq!(boundary::reset(&mut start), 0);
-        assert_eq!(boundary::store(&mut start, COUNT as u32, SLIDES as u32), 0);
+        assert_eq!(boundary::store(&mut start, COUNT as u32, SLIDE_COUNT as u32), 0);
         let expected = (steps as u64) << 40 | (width as u64) << 24;
         Widths { program, start, expected }
     }
@@ -52,7 +52,7 @@ impl Widths {
     fn widths(&self, times: usize, width: impl Fn(&[u8], &[u8], u32) -> u64) {
         for _ in 0..times {
             let Program { image, certificate, .. } = black_box(&self.program);
-            assert_eq!(width(image, certificate, SLIDES as u32), self.expected);
+            assert_eq!(width(image, certificate, SLIDE_COUNT as u32), self.expected);
         }
     }
 }
@@ -64,7 +64,7 @@ impl Work for Widths {
             Side::Second => {
                 for _ in 0..times {
                     let Program { image, certificate, .. } = black_box(&self.program);
-                    let answer = gauge(image, certificate, SLIDES).expect("it sleeps");
+                    let answer = gauge(image, certificate, SLIDE_COUNT).expect("it sleeps");
                     assert_eq!(answer, boundary::gauged(self.expected));
                 }
             }

@@ -18,14 +18,14 @@ cast-width c = search needs
 width-requires : tie.Need-width-requires
 width-requires c κs = search needs
 
-width-word-requires : tie.Need-width-word-requires
-width-word-requires c κs = search needs
+sizing-word-requires : tie.Need-sizing-word-requires
+sizing-word-requires c κs = search needs
 
 returns-2 : tie.Need-returns-2
 returns-2 c =
-    rw (le-leb _ _ (c .before .before .if1 .left)) (c .width-word .ensures ∙ ap sizeWord (c .before .width .ensures))
+    rw (le-leb _ _ (c .before .before .if1 .left)) (c .sizing-word .ensures ∙ ap sizeWord (c .before .width .ensures))
 
 pub st62-width-spec : {M : Type 1} → statement M
 st62-width-spec =
     tie.close
-    (tie.spec refused-requires returns cast-width width-requires width-word-requires returns-2)
+    (tie.spec refused-requires returns cast-width width-requires sizing-word-requires returns-2)

@@ -76,7 +76,7 @@ fn accepted(h: &mut Harness, program: &Program, index: usize) {
     }
 }
 
-/// A program with every count, or with fewer if it hardly ever sleeps.
+/// A program with every count, up to the fourth that does not end in sleep.
 fn every_count(h: &mut Harness, program: &Program) {
     let mut awake = 0;
     for count in 0..=255 {
@@ -103,13 +103,14 @@ fn at_once(h: &mut Harness) {
 /// Programs that sleep at the last chance, or just miss it.
 fn limits(h: &mut Harness, count: usize) {
     for _ in 0..count {
-        let slides = any_count(&mut h.rng);
+        let slide_count = any_count(&mut h.rng);
         for steps in [MOST_STEPS - 1, MOST_STEPS, MOST_STEPS + 1] {
-            let program = timed(&mut h.rng, slides, steps);
-            let answer = width_and_play(h, &program, slides);
+            let program = timed(&mut h.rng, slide_count, steps);
+            let answer = width_and_play(h, &program, slide_count);
             expect(answer, (steps <= MOST_STEPS).then_some(steps));
             // With these it sleeps a little sooner or later.
-            for other in [slides ^ 1, slides.wrapping_add(1), slides.wrapping_sub(1)] {
+            for other in [slide_count ^ 1, slide_count.wrapping_add(1), slide_count.wrapping_sub(1)]
+            {
                 width(h, &program, other as u32);
             }
         }
@@ -142,7 +143,8 @@ fn lengths(h: &mut Harness) {
 }
 
 /// A small program with one byte and its mark changed, so that the check
-/// gives each of its numbers but those of the lengths.
+/// gives each of its numbers but those of the lengths (in 2K; the same in 4K
+/// is compared too).
 fn each_refusal(h: &mut Harness) {
     let code = [(0xFFE, Jp(0x999), 0x10), (0x999, Stop, 0x10), (0x99A, Jp(0x999), 0x10)];
     for (address, byte, mark, number) in [
@@ -175,13 +177,12 @@ fn turned_down(h: &mut Harness, count: usize) {
     let mut valid = program(&mut h.rng);
     let mut marked = dense(&mut h.rng, 2048);
     for index in 0..count {
-        if index % 8 == 0 {
-            valid = sizing(&mut h.rng);
-        }
         if index % 64 == 0 {
             valid = program(&mut h.rng);
             let length = image_length(&mut h.rng);
             marked = dense(&mut h.rng, length);
+        } else if index % 8 == 0 {
+            valid = sizing(&mut h.rng);
         }
         let mut program = checked_program(&mut h.rng, &valid, &marked);
         if h.rng.chance(30) {
@@ -193,11 +194,11 @@ fn turned_down(h: &mut Harness, count: usize) {
         if h.rng.chance(10) {
             program.certificate.resize(h.rng.pick(&LENGTHS), 0);
         }
-        let slides = any_count(&mut h.rng);
+        let slide_count = any_count(&mut h.rng);
         match h.rng.below(10) {
             0 => width(h, &program, BEYOND[index % BEYOND.len()]),
-            1 => width_and_play(h, &program, slides),
-            _ => width(h, &program, slides as u32),
+            1 => width_and_play(h, &program, slide_count),
+            _ => width(h, &program, slide_count as u32),
         };
     }
 }

@@ -1,8 +1,8 @@
--- `sizing::put_at` is safe and ends. The loop's invariant: `i` is at most the part's length.
+-- `sizing::place` is safe and ends. The loop's invariant: `i` is at most the part's length.
 use Prim.Native.Nat.{_≤_, _-_}
 use borrow.Author.Needs.{needs}
-use Rattle.bench_cases.proofs.sizing.put_at.Statement.{statement}
-use Rattle.bench_cases.proofs.sizing.put_at.Tie as tie
+use Rattle.bench_cases.proofs.sizing.place.Statement.{statement}
+use Rattle.bench_cases.proofs.sizing.place.Tie as tie
 
 abbrev Inv-loop : tie.InvT-loop
 Inv-loop bytes₀ start part at₀ i₀ i-end bytes at i = i ≤ i-end
@@ -34,8 +34,8 @@ loop-again c = search needs
 returns : tie.Need-returns Inv-loop μ-loop
 returns c = search needs
 
-pub put-at-spec : {M : Type 1} → statement M
-put-at-spec =
+pub place-spec : {M : Type 1} → statement M
+place-spec =
     tie.close
     (tie.spec
     Inv-loop

@@ -1,7 +1,7 @@
--- `answers::width_word` meets its contract.
+-- `answers::sizing_word` meets its contract.
 use borrow.Author.Needs.{needs}
-use Rattle.exports.proofs.answers.width_word.Statement.{statement}
-use Rattle.exports.proofs.answers.width_word.Tie as tie
+use Rattle.exports.proofs.answers.sizing_word.Statement.{statement}
+use Rattle.exports.proofs.answers.sizing_word.Tie as tie
 
 enum-known-sizing : tie.Need-enum-known-sizing
 enum-known-sizing c = search needs
@@ -33,8 +33,8 @@ returns c = rw (c .before .before .sizing .given .1) (c .done .ensures)
 returns-2 : tie.Need-returns-2
 returns-2 c = rw (c .before .before .sizing2 .given .1) (c .refused .ensures)
 
-pub width-word-spec : {M : Type 1} → statement M
-width-word-spec =
+pub sizing-word-spec : {M : Type 1} → statement M
+sizing-word-spec =
     tie.close
     (tie.spec
     enum-known-sizing
