@@ -1,7 +1,10 @@
 // The gauge: a sizing program with every count, and what is refused.
-use crate::sizing::delay;
-use crate::sizing::endless;
-use crate::sizing::sizing;
+use crate::sizing::delay_certificate;
+use crate::sizing::delay_image;
+use crate::sizing::endless_certificate;
+use crate::sizing::endless_image;
+use crate::sizing::sizing_certificate;
+use crate::sizing::sizing_image;
 use gauge::Sizing;
 use gauge::width::width;
 use printing::put;
@@ -63,9 +66,8 @@ fn put_formula(image: &[u8], certificate: &[u8]) {
 }
 
 fn put_sizes() {
-    let program = sizing();
-    let image = program.image;
-    let certificate = program.certificate;
+    let image = sizing_image();
+    let certificate = sizing_certificate();
     put_formula(&image, &certificate);
     put_width(b"sizing", &image, &certificate, 0x00);
     put_width(b"sizing", &image, &certificate, 0x55);
@@ -73,25 +75,22 @@ fn put_sizes() {
 }
 
 fn put_late() {
-    let program = delay();
-    let image = program.image;
-    let certificate = program.certificate;
+    let image = delay_image();
+    let certificate = delay_certificate();
     put_width(b"asleep after 65535 steps", &image, &certificate, 0x54);
     put_width(b"asleep after 65536 steps", &image, &certificate, 0x55);
 }
 
 fn put_endless() {
-    let program = endless();
-    let image = program.image;
-    let certificate = program.certificate;
+    let image = endless_image();
+    let certificate = endless_certificate();
     put_width(b"never asleep", &image, &certificate, 0x55);
 }
 
 // What the check refuses, its own 18, 13 and 1, the gauge refuses with 23.
 fn put_refused() {
-    let program = sizing();
-    let image = program.image;
-    let mut certificate = program.certificate;
+    let image = sizing_image();
+    let mut certificate = sizing_certificate();
     let short = [0u8; 2047];
     certificate[0x7FE] = 0;
     put_width(b"no mark at FFEh", &image, &certificate, 0x55);
