@@ -6,6 +6,8 @@ mod harness;
 mod instructions;
 mod jobs;
 mod machines;
+mod make_counts;
+mod makes;
 mod programs;
 mod refusals;
 mod width_counts;
@@ -79,6 +81,7 @@ fn main() {
     part("jobs", &mut |h| jobs::jobs(h, options.checks as usize / 10));
     part("programs", &mut |h| programs::programs(h, options.steps));
     part("widths", &mut |h| widths::widths(h, scale(300)));
+    part("makes", &mut |h| makes::makes(h, scale(1000)));
     h.counts.print();
     println!("\nno difference, in {:.1} s", start.elapsed().as_secs_f64());
 }
