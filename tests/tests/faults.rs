@@ -9,6 +9,10 @@ use std::thread;
 fn compare(fault: Option<&str>) -> Output {
     let mut command = Command::new(env!("CARGO_BIN_EXE_compare"));
     command.args(["--steps", "1000000", "--checks", "20000"]);
+    // The last part is the one that finds them.
+    if fault.is_some_and(|fault| fault.starts_with("make-")) {
+        command.args(["--part", "makes"]);
+    }
     match fault {
         Some(fault) => command.env("ST62_MOCK_FAULT", fault),
         None => command.env_remove("ST62_MOCK_FAULT"),
