@@ -10,7 +10,7 @@ import sys
 
 PROGRAM = "tests/target/release/count"
 SIDES = ("proved", "second", "packed")
-# Title, work, how often, and how many of the title's units one time has. 64 checks are one of each image.
+# Title, work, how often, and how many of the title's units one time has. 64 checks or makes are one of each image.
 WORKS = [
     ("run of 65,535 steps, a step", "run", 1, 65535),
     ("single step", "step", 5000, 1),
@@ -20,6 +20,11 @@ WORKS = [
     ("check 4K with six marks, a byte", "sparse-4k", 64, 4096),
     ("decode", "decode", 10, 256),
     ("width after 61,047 steps, a step", "width", 1, 61047),
+    ("make 2K reached throughout, a byte", "make-2k", 64, 2048),
+    ("make 4K reached throughout, a byte", "make-4k", 64, 4096),
+    ("make 2K with six marks, a byte", "make-sparse-2k", 64, 2048),
+    ("make 4K with six marks, a byte", "make-sparse-4k", 64, 4096),
+    ("make 4K, six zigzag chains, a byte", "make-zigzag", 2, 4096),
 ]
 
 

@@ -3,11 +3,12 @@
 use crate::chip::{decode_at, Instruction, Rom, NO_SOURCE, RESET_VECTOR, VECTORS};
 use crate::Refusal;
 
-const START_UP: u8 = 1;
-const MAIN: u8 = 2;
-const SERVICE: u8 = 3;
-const SUBROUTINE: u8 = 4;
-const MOST_LEVELS: u8 = 6;
+pub(crate) const START_UP: u8 = 1;
+pub(crate) const MAIN: u8 = 2;
+pub(crate) const SERVICE: u8 = 3;
+pub(crate) const SUBROUTINE: u8 = 4;
+pub(crate) const MOST_NEED: u8 = 6;
+pub(crate) const MOST_LEVELS: u8 = 6;
 
 /// A well-formed mark that isn't 00h.
 #[derive(Clone, Copy)]
@@ -19,7 +20,8 @@ struct Mark {
 impl Mark {
     fn new(byte: u8) -> Option<Mark> {
         let (kind, need) = (byte >> 4, byte & 0x0F);
-        ((START_UP..=SUBROUTINE).contains(&kind) && need <= 6).then_some(Mark { kind, need })
+        let good = (START_UP..=SUBROUTINE).contains(&kind) && need <= MOST_NEED;
+        good.then_some(Mark { kind, need })
     }
 }
 
@@ -90,7 +92,7 @@ fn check_address(rom: &Rom, certificate: &[u8], address: u16, mark: Mark) -> Res
 
 /// The length of an instruction that goes on at the next address.
 #[inline]
-fn length(instruction: Instruction) -> u16 {
+pub(crate) fn length(instruction: Instruction) -> u16 {
     use crate::chip::Operand::Direct;
     use Instruction::*;
     match instruction {

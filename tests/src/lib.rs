@@ -9,6 +9,7 @@ pub mod generate;
 pub mod job;
 #[macro_use]
 pub mod library;
+pub mod maker;
 
 #[cfg(feature = "mock")]
 pub mod mock;
@@ -55,6 +56,8 @@ pub enum Refusal {
     JobLength,
     NotAccepted,
     NoSleep,
+    CertificateBuffer,
+    NoCertificate,
 }
 
 impl Refusal {
@@ -85,6 +88,8 @@ impl Refusal {
             JobLength => 22,
             NotAccepted => 23,
             NoSleep => 24,
+            CertificateBuffer => 25,
+            NoCertificate => 26,
         }
     }
 

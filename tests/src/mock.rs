@@ -1,13 +1,17 @@
 //! Stands in for the proved library: the same functions, on this crate's own
-//! emulator. `ST62_MOCK_FAULT` names a fault to inject, so that one can see
-//! the comparison find it.
+//! emulator; only its certificate maker is another one. `ST62_MOCK_FAULT`
+//! names a fault to inject, so that one can see the comparison find it.
+
+mod make;
 
 use crate::boundary;
 use crate::gauge::Gauged;
 use std::sync::OnceLock;
 
+pub use make::make;
+
 /// The faults that can be injected.
-pub const FAULTS: [&str; 22] = [
+pub const FAULTS: [&str; 38] = [
     "decode-bit",      // bit numbers unreversed
     "com-carry",       // COM leaves C clear
     "rlc-low",         // RLC shifts in 0
@@ -30,6 +34,22 @@ pub const FAULTS: [&str; 22] = [
     "width-limit",     // the gauge gives up one step early
     "width-number",    // the gauge gives the check's number in place of 23
     "width-order",     // the gauge looks at the count after the check
+    "make-call-level", // a CALL needs no more levels than its target
+    "make-after-call", // the address after a CALL isn't followed
+    "make-taken",      // a branch is only followed where it jumps
+    "make-not-taken",  // a branch is only followed where it doesn't jump
+    "make-reti",       // after RETI start-up goes on as start-up
+    "make-end",        // code that goes on from FFFh at 000h is refused
+    "make-vectors",    // wired vectors aren't marked
+    "make-kinds",      // of two kinds the first is kept
+    "make-six",        // a need of six is refused
+    "make-levels",     // seven levels are accepted
+    "make-raised",     // a raised need isn't carried further
+    "make-rounds",     // refused after as many raises as the image has bytes
+    "make-list",       // the list of addresses to look at is too short
+    "make-order",      // 25 before 11
+    "make-writes",     // the buffer is written with 26
+    "make-keeps",      // the buffer keeps what isn't reachable
 ];
 
 fn fault() -> Option<&'static str> {

@@ -4,12 +4,12 @@ use jobs::answer::answer;
 use printing::put;
 
 // A 2K job: version 1, the count 4097, the wired byte, then image and certificate, whose first bytes stand at 800h.
-const IMAGE: usize = 4;
+pub const IMAGE: usize = 4;
 
-const MARKS: usize = 2052;
+pub const MARKS: usize = 2052;
 
 // P11 of document 01.
-fn p11() -> [u8; 4100] {
+pub fn p11() -> [u8; 4100] {
     let mut job = [0u8; 4100];
     job[0] = 1;
     job[1] = 0x10;

@@ -1,10 +1,11 @@
 // Runs what no proof repeats: the manual's worked examples beside document 01's P1 to P12 (which
 // specs/BenchCases.antt has, proved), small programs step by step and as a run, keys pressed on one machine, the lines
-// that jobs print, and the widths of programs for the gauge.
+// that jobs print, the widths of programs for the gauge, and certificates as they are made.
 mod examples;
 mod jumps;
 mod keys;
 mod lines;
+mod making;
 mod programs;
 mod sample;
 mod sizing;
@@ -19,4 +20,5 @@ fn main() {
     keys::put_keys();
     lines::put_lines();
     widths::put_widths();
+    making::put_making();
 }

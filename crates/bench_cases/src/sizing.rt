@@ -101,3 +101,10 @@ pub fn endless_image() -> [u8; 2048] {
 pub fn endless_certificate() -> [u8; 2048] {
     certificate_of(b"\x20")
 }
+
+// 881h CALL 8B0h; JP 881h. 8B0h CALL 8B0h; RET: no number of levels suffices.
+pub fn recursive_image() -> [u8; 2048] {
+    let mut image = image_of(b"\x01\x8B\x19\x88");
+    place(&mut image, 0x0B0, b"\x01\x8B\xCD");
+    image
+}

@@ -58,7 +58,7 @@ fn right_widths(image: &[u8], certificate: &[u8]) -> u32 {
     right
 }
 
-fn put_formula(image: &[u8], certificate: &[u8]) {
+pub fn put_formula(image: &[u8], certificate: &[u8]) {
     let right = right_widths(image, certificate);
     put(b"sizing: 1000 + 3 x count + count / 2 + count % 7 for ");
     put_number(right);

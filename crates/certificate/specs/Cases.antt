@@ -8,7 +8,7 @@ use Rattle.isa.specs.Refusals.{plain, located, refused}
 use Rattle.certificate.specs.Check.{accepted, checkOf}
 
 -- a 2K image or certificate of 00h
-abbrev blank : List ℕ
+abbrev pub blank : List ℕ
 blank = replicate 2048 0x00
 
 -- bytes put at a program address of a 2K image or certificate

@@ -2,8 +2,8 @@
 pub mod check;
 mod findings;
 mod levels;
-mod marks;
-mod successors;
+pub mod marks;
+pub mod successors;
 mod vectors;
 
 use isa::Refusal;

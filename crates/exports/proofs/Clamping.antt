@@ -1,13 +1,14 @@
 -- A number beyond its range is refused as the one that stands in for it.
 use Prim.Native.Nat.{ℕ}
 use mathlib.Core.Path.{_≡_, refl}
+use mathlib.Core.Logic.{inl, inr}
 use mathlib.Core.Bool.{Bool, true, false, cond}
 use mathlib.Core.List.{List}
 use native.Mathlib.Omega.{arith}
 use borrow.Author.Tests.{ltb-false, le-ltb}
 use lib.Dec.{eqb, ltb}
 use lib.ListN.{length}
-use Rattle.isa.specs.Refusals.{plain, unless}
+use Rattle.isa.specs.Refusals.{plain, Answer, done, refused, unless}
 use Rattle.isa.specs.Rom.{isImage}
 use Rattle.isa.specs.Decode.{decodeAt}
 use Rattle.machine.specs.declared.Machine.{Machine}
@@ -15,6 +16,8 @@ use Rattle.machine.specs.Step.{stepOf}
 use Rattle.certificate.specs.Levels.{levelsOf}
 use Rattle.certificate.specs.Findings.{fault}
 use Rattle.certificate.specs.Check.{verdict, checkOf}
+use Rattle.maker.specs.Make.{Makes}
+use Rattle.exports.specs.Lent.{Lent, MakeLent}
 
 step-by : (image : List ℕ) (m : Machine) (n : ℕ) (b : Bool) → ltb n 256 ≡ b
     → stepOf image m (cond b n 255) ≡ stepOf image m n
@@ -56,3 +59,22 @@ decode-by image a false e = rw e
 
 pub decode-clamped : (image : List ℕ) (a : ℕ) → decodeAt image (cond (ltb a 4096) a 4096) ≡ decodeAt image a
 decode-clamped image a = decode-by image a (ltb a 4096) refl
+
+-- the maker: 255 names no source alone, and neither does a greater number
+make-by : (image : List ℕ) (n : ℕ) (out after : List ℕ) (a : Answer ℕ) (b : Bool) → ltb n 256 ≡ b
+    → Makes image (cond b n 255) out after a → Makes image n out after a
+make-by image n out after a true e m = m
+make-by image n out after (done levels) false e m = absurd (m .0 .1 .0 refl)
+make-by image n out after (refused r) false e (inl one, kept) = (inl one, kept)
+make-by image n out after (refused r) false e (inr (not-one, inl eleven), kept) =
+    (inr (not-one, inl (le-ltb n 32 (omega (arith, ltb-false n 256 e)), eleven .1)), kept)
+make-by image n out after (refused r) false e (inr (not-one, inr (not-eleven, more)), kept) = absurd (not-eleven refl)
+
+pub make-clamped : {image : List ℕ} {n : ℕ} {out : List ℕ} {l : Lent} → MakeLent image (cond (ltb n 256) n 255) out l
+    → MakeLent image n out l
+make-clamped {image} {n} {out} {l} m =
+    record {
+      made = m .made;
+      makes = make-by image n out (l .buffer) (m .made) (ltb n 256) refl (m .makes);
+      answer-is = m .answer-is;
+    }

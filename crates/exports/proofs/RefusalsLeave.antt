@@ -19,6 +19,7 @@ use Rattle.machine.specs.declared.Machine.{Machine}
 use Rattle.data.specs.Space.{inWindow}
 use Rattle.machine.specs.State.{isWellFormed, hostStored, withByte, hostStoreOf}
 use Rattle.machine.specs.Step.{stepOf}
+use Rattle.maker.specs.Make.{Makes}
 use Rattle.jobs.specs.CheckJob.{jobOf}
 use Rattle.jobs.specs.Line.{lineOf}
 use Rattle.jobs.specs.Answer.{fits}
@@ -38,6 +39,11 @@ done-number : (v : ℕ) → word 0 0 v % 0x100 ≡ 0
 done-number v = omega arith
 
 module _ (out : List ℕ) where
+  made : (image : List ℕ) (wired : ℕ) (after : List ℕ) (answer : ℕ) (a : Answer ℕ) → answer ≡ answerWord a
+      → Makes image wired out after a → Leaves out (lent answer after)
+  made image wired after answer (done levels) e m k = absurd (k (rw e (done-number levels)))
+  made image wired after answer (refused r) e m k = m .1
+
   with-room : (b : Bool) (n : ℕ) (after : List ℕ)
       → Leaves out (cond b (lent (word 0 0 n) after) (lent (refusalWord (plain 9)) out))
   with-room true n after k = absurd (k (done-number n))
@@ -107,4 +113,5 @@ refusals-leave = record {
   by-step = λ image s bytes request. by-state s bytes image request (unpacked s) refl;
   by-run = run-leaves;
   by-job = λ job line. with-room line (fits (lineOf (jobOf job)) line) (length (lineOf (jobOf job))) _;
+  by-make = λ image wired out l m. made out image wired (l .buffer) (l .answer) (m .made) (m .answer-is) (m .makes);
 }

@@ -22,7 +22,7 @@ refusalWord (located n a) = word n a 0
 abbrev pub invalidWord : (image : List ℕ) → ℕ
 invalidWord image = refusalWord (cond (isImage (length image)) (plain 2) (plain 1))
 
--- a step's cycles, the check's levels, the length of a written instruction
+-- a step's cycles, the check's levels and the maker's, the length of a written instruction
 abbrev pub answerWord : Answer ℕ → ℕ
 answerWord (done value) = word 0 0 value
 answerWord (refused r) = refusalWord r

@@ -34,6 +34,7 @@ use Rattle.exports.specs.Lent.{
   stepLent,
   runLent,
   jobLent,
+  MakeLent,
 }
 
 -- the program's arrays have these lengths
@@ -157,3 +158,5 @@ pub record RefusalsLeave : Type 0 where
       (image s requests report : List ℕ) → Bytes image → (n : ℕ) →
       RunLeaves image s requests report (runLent image s requests n report)
   pub by-job : (job line : List ℕ) → Leaves line (jobLent job line)
+  pub by-make :
+      (image : List ℕ) (wired : ℕ) (out : List ℕ) (l : Lent) → MakeLent image wired out l → Leaves out l

@@ -1,5 +1,6 @@
 -- What each exported function answers, and what it leaves in the buffers that it is lent.
 use Prim.Native.Nat.{ℕ, _/_, _%_}
+use mathlib.Core.Path.{_≡_}
 use mathlib.Core.Bool.{cond, _&&_}
 use mathlib.Core.List.{List, [], _∷_, _++_}
 use lib.ListN.{length, drop}
@@ -12,6 +13,7 @@ use Rattle.isa.specs.Encode.{encodeOf}
 use Rattle.machine.specs.State.{HostStore, resetOf, hostStoreOf}
 use Rattle.machine.specs.Step.{Step, stepOf}
 use Rattle.machine.specs.Run.{Run, runOf}
+use Rattle.maker.specs.Make.{Makes}
 use Rattle.jobs.specs.CheckJob.{jobOf}
 use Rattle.jobs.specs.Line.{lineOf}
 use Rattle.jobs.specs.Answer.{fits}
@@ -116,3 +118,9 @@ lineLent line buffer =
 
 unfoldable pub jobLent : (job buffer : List ℕ) → Lent
 jobLent job buffer = lineLent (lineOf (jobOf job)) buffer
+
+-- W-202: the maker's answer, with what the buffer then holds. There is one (the maker's `OneAnswer`)
+pub record MakeLent (image : List ℕ) (wired : ℕ) (out : List ℕ) (l : Lent) : Type 0 where
+  pub made : Answer ℕ
+  pub makes : Makes image wired out (l .buffer) made
+  pub answer-is : l .answer ≡ answerWord made

@@ -9,12 +9,14 @@ use isa::refusals::number_of;
 use isa::rom::is_image_length;
 use machine::Ending;
 use machine::StepAnswer;
+use maker::Made;
 ghost use mathlib.Core.Path.{_≡_};
 ghost use Rattle.isa.specs.Refusals.{numbered};
 ghost use Rattle.isa.specs.Write.{outcomeOf};
 ghost use Rattle.machine.specs.State.{endedOf};
 ghost use Rattle.machine.specs.Step.{answerOf};
 ghost use Rattle.certificate.specs.Check.{answered};
+ghost use Rattle.maker.specs.Make.{madeOf};
 ghost use Rattle.gauge.specs.Sleep.{sizingOf};
 ghost use Rattle.exports.specs.Answers.{word, refusalWord, invalidWord, answerWord, sizeWord, endedWord};
 ghost use Rattle.exports.specs.Answers.{isRefusedRun};
@@ -96,6 +98,15 @@ pub fn write_word(written: Written) -> u64
 }
 
 // The width in the low 16 bits of the value, the steps above it.
+pub fn made_word(made: Made) -> u64
+    ensures { λ r. ⌜ r ≡ answerWord (madeOf made) ⌝ }
+{
+    match made {
+        Made::Written(levels) => done(levels as u32),
+        Made::Refused(refusal) => refused(refusal),
+    }
+}
+
 pub fn sizing_word(sizing: Sizing) -> u64
     ensures { λ r. ⌜ r ≡ sizeWord (sizingOf sizing) ⌝ }
 {

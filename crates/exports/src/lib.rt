@@ -12,6 +12,7 @@ use answers::done;
 use answers::ending_word;
 use answers::invalid_state;
 use answers::is_refused;
+use answers::made_word;
 use answers::refused;
 use answers::sizing_word;
 use answers::step_word;
@@ -34,6 +35,7 @@ use machine::run::run;
 use machine::state::host_store;
 use machine::state::reset;
 use machine::step::step;
+use maker::make::make;
 use packing::pack;
 use packing::report_bytes;
 use states::is_valid;
@@ -42,7 +44,7 @@ ghost use mathlib.Core.Path.{_≡_};
 ghost use Rattle.certificate.specs.Check.{checkOf};
 ghost use Rattle.exports.specs.Answers.{answerWord, widthWord};
 ghost use Rattle.exports.specs.Lent.{lent, lentRun, decodeLent, writeLent, resetLent, storeLent, stepLent};
-ghost use Rattle.exports.specs.Lent.{runLent, jobLent};
+ghost use Rattle.exports.specs.Lent.{runLent, jobLent, MakeLent};
 
 // Decodes at an address of the image into `out`.
 #[no_mangle]
@@ -159,6 +161,14 @@ pub extern "C" fn st62_check(image: &[u8], certificate: &[u8], wired: u32) -> u6
     ensures { λ r. ⌜ r ≡ answerWord (checkOf (now (image .entry)) (now (certificate .entry)) wired) ⌝ }
 {
     check_word(check(image, certificate, clamp_byte(wired)))
+}
+
+// Makes the least certificate of an image and its wired sources into `out`.
+#[no_mangle]
+pub extern "C" fn st62_make(image: &[u8], wired: u32, out: &mut [u8]) -> u64
+    ensures { λ r. ⌜ MakeLent (now (image .entry)) wired (now (out .entry)) (lent r (now (out .exit))) ⌝ }
+{
+    made_word(make(image, clamp_byte(wired), out))
 }
 
 // The width that the gauge would show for a count.

@@ -39,6 +39,9 @@ numbered R.JobLength = plain 22
 -- pass without sleep."
 numbered R.CheckRefused = plain 23
 numbered R.NoSleep = plain 24
+-- W-202: "25 when the buffer isn't the image's length, then 26 exactly when no certificate would be accepted"
+numbered R.CertificateBuffer = plain 25
+numbered R.NoCertificate = plain 26
 
 -- the program's number of a refusal
 abbrev pub asNumbered : Number → Numbered

@@ -67,7 +67,7 @@ pub enum Form {
     Undefined,
 }
 
-// Why an operation was refused or stopped, in the order of the papers' numbers 1 to 24, with the address where they
+// Why an operation was refused or stopped, in the order of the papers' numbers 1 to 26, with the address where they
 // give one.
 pub enum Refusal {
     ImageLength,
@@ -94,6 +94,8 @@ pub enum Refusal {
     JobLength,
     CheckRefused,
     NoSleep,
+    CertificateBuffer,
+    NoCertificate,
 }
 
 // A refusal's number, alone or with an address.

@@ -33,5 +33,7 @@ pub fn number_of(refusal: Refusal) -> Number
         Refusal::JobLength => Number::Plain(22),
         Refusal::CheckRefused => Number::Plain(23),
         Refusal::NoSleep => Number::Plain(24),
+        Refusal::CertificateBuffer => Number::Plain(25),
+        Refusal::NoCertificate => Number::Plain(26),
     }
 }

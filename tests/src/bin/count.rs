@@ -2,13 +2,14 @@
 //! counts instructions: what n and 2n times take, subtracted, is the work's
 //! own, without the start of the program. `benches/instructions.py` does that.
 
-use second::workload::{Checks, Decodes, Runs, Side, Steps, Widths, Work};
+use second::generate::Order;
+use second::workload::{Checks, Decodes, Makes, Runs, Side, Steps, Widths, Work};
 use std::process::exit;
 
 const USAGE: &str = "\
 count WORK SIDE N
   WORK  run (65535 steps), step, check-2k, check-4k, sparse-2k, sparse-4k, decode (256 opcodes),
-        width
+        width, make-2k, make-4k, make-sparse-2k, make-sparse-4k, make-zigzag
   SIDE  proved, second, packed
   N     how often";
 
@@ -22,6 +23,11 @@ fn work(name: &str) -> Option<Box<dyn Work>> {
         "sparse-4k" => Box::new(Checks::sparse(4096)),
         "decode" => Box::new(Decodes::default()),
         "width" => Box::new(Widths::default()),
+        "make-2k" => Box::new(Makes::throughout(2048)),
+        "make-4k" => Box::new(Makes::throughout(4096)),
+        "make-sparse-2k" => Box::new(Makes::sparse(2048)),
+        "make-sparse-4k" => Box::new(Makes::sparse(4096)),
+        "make-zigzag" => Box::new(Makes::chains(Order::Zigzag, 6, false)),
         _ => return None,
     })
 }

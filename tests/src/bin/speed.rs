@@ -2,11 +2,14 @@
 //! same inputs, in the same process, in turns.
 
 use second::workload::{
-    Checks, Decodes, Runs, Side, Steps, Widths, Work, IMAGES, OPCODES, RUN, SIDES, WIDTH_STEPS,
+    worst, Checks, Decodes, Makes, Runs, Side, Steps, Widths, Work, IMAGES, OPCODES, RUN, SIDES,
+    WIDTH_STEPS,
 };
 
 /// Many short rounds: other work on the same cores then spoils only some.
 const ROUNDS: usize = 61;
+/// Fewer where the second emulator takes long.
+const LONG_ROUNDS: usize = 21;
 
 /// Seconds of processor time that this thread has had.
 #[cfg(target_os = "linux")]
@@ -61,12 +64,16 @@ type Times = Vec<Vec<f64>>;
 
 /// Lets the contestants work in turns, the first of a round changing. Each is
 /// called with its number.
-fn race(contestants: usize, mut work: impl FnMut(usize)) -> Times {
+fn race(contestants: usize, work: impl FnMut(usize)) -> Times {
+    race_rounds(ROUNDS, contestants, work)
+}
+
+fn race_rounds(rounds: usize, contestants: usize, mut work: impl FnMut(usize)) -> Times {
     for contestant in 0..contestants {
         work(contestant); // warm up
     }
     let mut times = vec![Vec::new(); contestants];
-    for round in 0..ROUNDS {
+    for round in 0..rounds {
         for turn in 0..contestants {
             let contestant = (round + turn) % contestants;
             times[contestant].push(time(|| work(contestant)));
@@ -160,6 +167,38 @@ fn widths() {
     print_ratio("time of proved width / run of as many steps:", &times[0], &times[SIDES.len()]);
 }
 
+/// Makes of 2K and of 4K images, all in the same rounds, and the proved
+/// library's checks of what was made.
+fn makes(name: &str, of: fn(usize) -> Makes, per_round: usize) {
+    const EACH: usize = 3;
+    let mut sizes = [of(2048), of(4096)];
+    let times = race(EACH * sizes.len(), |contestant| {
+        let makes = &mut sizes[contestant / EACH];
+        match contestant % EACH {
+            0 => makes.work(Side::Proved, per_round),
+            1 => makes.work(Side::Second, per_round),
+            _ => makes.proved_checks(per_round),
+        }
+    });
+    for (size, times) in ["2K", "4K"].into_iter().zip(times.chunks(EACH)) {
+        let title = format!("makes of {size} {name}, {IMAGES} images in turn");
+        print(&title, "makes", per_round as f64, &times[..2]);
+        print_ratio("time of proved make / check of what was made:", &times[0], &times[2]);
+    }
+}
+
+/// Makes of the images that take longest.
+fn worst_makes() {
+    println!("makes of the worst 4K images, proved: milliseconds, and time of proved / second");
+    for (name, mut makes) in worst() {
+        let times = race_rounds(LONG_ROUNDS, 2, |side| makes.work(SIDES[side].0, 1));
+        let Spread { median, most, .. } =
+            spread(times[0].iter().map(|seconds| 1000.0 * seconds).collect());
+        let ratio = ratio(&times[0], &times[1]).median;
+        println!("  {name:34} median {median:.3} ms, max {most:.3} ms;  ratio {ratio:.3}");
+    }
+}
+
 fn main() {
     println!(
         "{ROUNDS} rounds, in turns, in processor time. `second` is the emulator by itself,\n\
@@ -171,4 +210,7 @@ fn main() {
     checks("with six marks", Checks::sparse, 32 * IMAGES);
     decodes();
     widths();
+    makes("reached throughout", Makes::throughout, IMAGES);
+    makes("with six marks", Makes::sparse, 2 * IMAGES);
+    worst_makes();
 }

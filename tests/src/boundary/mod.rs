@@ -11,6 +11,7 @@ mod state;
 use crate::check::check as check_certificate;
 use crate::chip::{self, SIZES};
 use crate::gauge::{gauge, Gauged};
+use crate::maker::make as make_certificate;
 use crate::{job as jobs, Refusal};
 use fields::{fields, instruction};
 
@@ -105,10 +106,13 @@ pub fn run(image: &[u8], state: &mut [u8], requests: &[u8], n: u32, report: &mut
     })())
 }
 
+/// A wired byte beyond its byte is as bad as any with bit 7.
+fn wired_byte(wired: u32) -> u8 {
+    u8::try_from(wired).unwrap_or(0xFF)
+}
+
 pub fn check(image: &[u8], certificate: &[u8], wired: u32) -> u64 {
-    // A wired byte beyond its byte is as bad as any with bit 7.
-    let wired = u8::try_from(wired).unwrap_or(0xFF);
-    answer(check_certificate(image, certificate, wired).map(u32::from))
+    answer(check_certificate(image, certificate, wired_byte(wired)).map(u32::from))
 }
 
 /// The line is written whether the job was accepted or refused, and the
@@ -131,6 +135,11 @@ pub fn width(image: &[u8], certificate: &[u8], count: u32) -> u64 {
         let Gauged { width, steps } = gauge(image, certificate, count)?;
         Ok((steps as u32) << 16 | width as u32)
     })())
+}
+
+/// The value is what the check answers for the made certificate.
+pub fn make(image: &[u8], wired: u32, out: &mut [u8]) -> u64 {
+    answer(make_certificate(image, wired_byte(wired), out).map(u32::from))
 }
 
 /// The width and the steps of an answer of [`width`].

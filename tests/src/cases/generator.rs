@@ -2,8 +2,10 @@
 
 use super::*;
 use crate::check::check;
+use crate::chip::Instruction::Jrz;
 use crate::gauge::gauge;
 use crate::generate::*;
+use crate::maker::{reason, Reason};
 use crate::Refusal::*;
 
 #[test]
@@ -59,6 +61,56 @@ fn sizing_programs_are_accepted() {
         }
     }
     assert!(asleep > 3000 && awake > 100 && by_count > 1000, "{asleep} {awake} {by_count}");
+}
+
+/// Chains have their certificate unless they are too deep or recursive.
+#[test]
+fn chains_by_order_and_depth() {
+    let mut rng = Rng::new(7);
+    for length in [2048, 4096] {
+        for order in ORDERS {
+            for (depth, recursive) in (0..9).map(|n| (n, false)).chain([(1, true), (5, true)]) {
+                let p = chains(&mut rng, Chains { length, order, depth, recursive });
+                let levels = check(&p.image, &p.certificate, p.wired).ok();
+                assert_eq!(levels, (depth <= 6 && !recursive).then_some(depth as u8));
+                let unmarked = p.certificate.iter().filter(|&&mark| mark == 0).count();
+                assert!(unmarked < length / 2 + 100, "{order:?} {depth}: {unmarked} unmarked");
+            }
+        }
+        let p = straight(length);
+        assert_eq!(check(&p.image, &p.certificate, p.wired), Ok(0));
+        let p = repeated_calls(length);
+        assert_eq!(check(&p.image, &p.certificate, p.wired), Ok(6));
+        for step in [Jrz(0), Jrz(-2)] {
+            let p = long_recursion(length, step);
+            assert_eq!(reason(&p.image, p.wired), Some(Reason::Need));
+        }
+    }
+}
+
+/// Mazes are accepted unless they call themselves; call graphs have a
+/// certificate, or none, for all reasons of calls.
+#[test]
+fn mazes_and_call_graphs() {
+    let mut rng = Rng::new(7);
+    let mut refused = 0;
+    for length in [2048, 4096] {
+        for _ in 0..200 {
+            let p = maze(&mut rng, length, false);
+            check(&p.image, &p.certificate, p.wired).unwrap();
+            let p = maze(&mut rng, length, true);
+            refused += (reason(&p.image, p.wired) == Some(Reason::Need)) as u32;
+        }
+    }
+    assert!(refused > 200, "{refused}");
+    let mut reasons = [0; 7];
+    for _ in 0..2000 {
+        let p = call_graph(&mut rng);
+        reasons[reason(&p.image, p.wired).map_or(6, |reason| reason as usize)] += 1;
+    }
+    let [undefined, outside, kinds, misplaced, need, levels, none] = reasons;
+    assert_eq!([undefined, outside, kinds, misplaced], [0; 4]);
+    assert!(need > 100 && levels > 50 && none > 1000, "{reasons:?}");
 }
 
 /// Demand 3, tried out: no stop, and no more levels than the check says.

@@ -5,6 +5,7 @@ mod bench;
 mod certificate;
 mod gauge;
 mod generator;
+mod maker;
 mod manual;
 mod map;
 mod modes;

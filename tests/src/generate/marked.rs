@@ -88,6 +88,24 @@ fn six_marks(length: usize, start: u16, subroutine: u16) -> Program {
     Program { wired: 0x01, ..written(length, &code) }
 }
 
+/// A 4K program with branches from its end to its beginning, and back.
+pub fn round_the_end() -> Program {
+    use Instruction::*;
+    let (bit, address) = (0, 0);
+    let code = [
+        (0x000, Jrc(-16), 0x10),                                 // to FF1h
+        (0x001, Jrs { bit, address, displacement: -128 }, 0x10), // to F83h
+        (0x004, Jp(0x004), 0x10),
+        (0x073, Jp(0x073), 0x10),
+        (0xF83, Jp(0xF83), 0x10),
+        (0xFF1, Jrz(15), 0x10),                                 // to 001h
+        (0xFF2, Jrr { bit, address, displacement: 127 }, 0x10), // to 073h
+        (0xFF5, Jp(0xFF5), 0x10),
+        (RESET_VECTOR, Jp(0x000), 0x10),
+    ];
+    written(4096, &code)
+}
+
 /// A program of instructions with their addresses and marks, nothing wired.
 /// In 4K an instruction may run over the end.
 pub fn written(length: usize, code: &[(u16, Instruction, u8)]) -> Program {

@@ -1,16 +1,22 @@
 //! Random inputs: machines, requests, images, and structured programs with
 //! their certificates.
 
+mod chains;
+mod graph;
 mod machine;
 mod marked;
+mod maze;
 mod program;
 mod rng;
 mod routine;
 mod sizing;
 mod timed;
 
+pub use chains::{chains, long_recursion, repeated_calls, straight, Chains, Order, ORDERS};
+pub use graph::call_graph;
 pub use machine::{ill_formed, machine, request, requests, spoil};
-pub use marked::{dense, p11, sparse, written};
+pub use marked::{dense, p11, round_the_end, sparse, written};
+pub use maze::maze;
 pub use program::program;
 pub use rng::{Rng, EDGES};
 pub use sizing::sizing;

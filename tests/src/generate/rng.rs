@@ -35,6 +35,12 @@ impl Rng {
         list[self.below(list.len())]
     }
 
+    pub fn shuffle<T>(&mut self, list: &mut [T]) {
+        for index in (1..list.len()).rev() {
+            list.swap(index, self.below(index + 1));
+        }
+    }
+
     pub fn edge(&mut self) -> u8 {
         self.pick(&EDGES)
     }

@@ -7,7 +7,8 @@ use std::borrow::Cow;
 type Bytes<'a> = Cow<'a, [u8]>;
 
 /// One call, with everything it is given. Buffers that are only written are
-/// given by their lengths.
+/// given by their lengths, but for a certificate's, which are written whole or
+/// not at all.
 #[derive(Clone)]
 pub enum Call<'a> {
     Decode { image: Bytes<'a>, address: u32, out: usize },
@@ -19,6 +20,7 @@ pub enum Call<'a> {
     Check { image: Bytes<'a>, certificate: Bytes<'a>, wired: u32 },
     Job { job: Bytes<'a>, line: usize },
     Width { image: Bytes<'a>, certificate: Bytes<'a>, count: u32 },
+    Make { image: Bytes<'a>, wired: u32, out: Bytes<'a> },
 }
 
 impl Call<'_> {
@@ -34,6 +36,7 @@ impl Call<'_> {
             Call::Check { .. } => 6,
             Call::Job { .. } => 7,
             Call::Width { .. } => 8,
+            Call::Make { .. } => 9,
         }
     }
 
@@ -51,6 +54,7 @@ impl Call<'_> {
             | Call::Write { out: length, .. }
             | Call::Run { report: length, .. }
             | Call::Job { line: length, .. } => Lent::of_length(*length),
+            Call::Make { out, .. } => Lent::holding(out),
             _ => Lent::none(),
         };
         (state, out)
@@ -74,6 +78,7 @@ impl Call<'_> {
             Call::Width { image, certificate, count } => {
                 (library.width)(image, certificate, *count)
             }
+            Call::Make { image, wired, .. } => (library.make)(image, *wired, out.buffer()),
         };
         Outcome { answer, state, out }
     }
@@ -116,6 +121,9 @@ impl Call<'_> {
             Call::Width { image, certificate, count } => {
                 Call::Width { image: own(image), certificate: own(certificate), count }
             }
+            Call::Make { image, wired, out } => {
+                Call::Make { image: own(image), wired, out: own(out) }
+            }
         }
     }
 
@@ -133,6 +141,7 @@ impl Call<'_> {
                 vec![certificate.to_mut(), image.to_mut()]
             }
             Call::Job { job, .. } => vec![job.to_mut()],
+            Call::Make { image, out, .. } => vec![out.to_mut(), image.to_mut()],
         }
     }
 
@@ -143,7 +152,7 @@ impl Call<'_> {
             Call::Store { address, value, .. } => vec![address, value],
             Call::Step { request, .. } => vec![request],
             Call::Run { n, .. } => vec![n],
-            Call::Check { wired, .. } => vec![wired],
+            Call::Check { wired, .. } | Call::Make { wired, .. } => vec![wired],
             Call::Width { count, .. } => vec![count],
             Call::Write { .. } | Call::Reset { .. } | Call::Job { .. } => vec![],
         }

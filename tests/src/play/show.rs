@@ -28,8 +28,14 @@ fn show_state(f: &mut fmt::Formatter, state: &[u8], image: &[u8]) -> fmt::Result
     show(f, "image", image, base(image))
 }
 
-fn show_certificate(f: &mut fmt::Formatter, certificate: &[u8], image: &[u8]) -> fmt::Result {
-    show(f, "certificate", certificate, base(certificate))?;
+/// A certificate, or the buffer for one.
+fn show_certificate(
+    f: &mut fmt::Formatter,
+    name: &str,
+    certificate: &[u8],
+    image: &[u8],
+) -> fmt::Result {
+    show(f, name, certificate, base(certificate))?;
     show(f, "image", image, base(image))
 }
 
@@ -37,43 +43,42 @@ fn base(image: &[u8]) -> usize {
     0x1000usize.saturating_sub(image.len())
 }
 
+impl Call<'_> {
+    /// The numbers that it is given.
+    fn heading(&self) -> String {
+        match self {
+            Call::Decode { address, out, .. } => format!(" at {address:X}h, out of {out} bytes"),
+            Call::Write { fields, out } => format!(" fields {fields:02X?}, out of {out} bytes"),
+            Call::Reset { .. } => String::new(),
+            Call::Store { address, value, .. } => format!(" {value:X}h at {address:X}h"),
+            Call::Step { request, .. } => format!(" with request {request:X}h"),
+            Call::Run { n, report, .. } => format!(" of {n} steps, report of {report} bytes"),
+            Call::Check { wired, .. } | Call::Make { wired, .. } => {
+                format!(" with wired {wired:X}h")
+            }
+            Call::Job { line, .. } => format!(" with a line of {line} bytes"),
+            Call::Width { count, .. } => format!(" with count {count:X}h"),
+        }
+    }
+}
+
 impl fmt::Display for Call<'_> {
     fn fmt(&self, f: &mut fmt::Formatter) -> fmt::Result {
-        write!(f, "{}", KINDS[self.kind()])?;
+        write!(f, "{}{}", KINDS[self.kind()], self.heading())?;
         match self {
-            Call::Decode { image, address, out } => {
-                write!(f, " at {address:X}h, out of {out} bytes")?;
-                show(f, "image", image, base(image))
-            }
-            Call::Write { fields, out } => {
-                write!(f, " fields {fields:02X?}, out of {out} bytes")
-            }
-            Call::Reset { state } => show(f, "state", state, 0),
-            Call::Store { state, address, value } => {
-                write!(f, " {value:X}h at {address:X}h")?;
-                show(f, "state", state, 0)
-            }
-            Call::Step { image, state, request } => {
-                write!(f, " with request {request:X}h")?;
-                show_state(f, state, image)
-            }
-            Call::Run { image, state, requests, n, report } => {
-                write!(f, " of {n} steps, report of {report} bytes")?;
+            Call::Decode { image, .. } => show(f, "image", image, base(image)),
+            Call::Write { .. } => Ok(()),
+            Call::Reset { state } | Call::Store { state, .. } => show(f, "state", state, 0),
+            Call::Step { image, state, .. } => show_state(f, state, image),
+            Call::Run { image, state, requests, .. } => {
                 show(f, "requests", requests, 0)?;
                 show_state(f, state, image)
             }
-            Call::Check { image, certificate, wired } => {
-                write!(f, " with wired {wired:X}h")?;
-                show_certificate(f, certificate, image)
+            Call::Check { image, certificate, .. } | Call::Width { image, certificate, .. } => {
+                show_certificate(f, "certificate", certificate, image)
             }
-            Call::Job { job, line } => {
-                write!(f, " with a line of {line} bytes")?;
-                show(f, "job", job, 0)
-            }
-            Call::Width { image, certificate, count } => {
-                write!(f, " with count {count:X}h")?;
-                show_certificate(f, certificate, image)
-            }
+            Call::Job { job, .. } => show(f, "job", job, 0),
+            Call::Make { image, out, .. } => show_certificate(f, "buffer", out, image),
         }
     }
 }

@@ -10,7 +10,7 @@ pub struct Outcome {
     pub answer: u64,
     /// The state, where there is one.
     pub state: Lent,
-    /// The report, the written bytes, the fields or the line.
+    /// The report, the written bytes, the fields, the line or the certificate.
     pub out: Lent,
 }
 
@@ -47,6 +47,9 @@ pub fn verdict(a: &Outcome, b: &Outcome) -> Verdict {
     Verdict::Differ
 }
 
+/// How many bytes of a buffer are printed, at most.
+const PRINTED: usize = 32;
+
 /// Where two outcomes differ.
 pub fn difference(second: &Outcome, proved: &Outcome) -> String {
     let mut text = String::new();
@@ -65,9 +68,13 @@ pub fn difference(second: &Outcome, proved: &Outcome) -> String {
     for (name, a, b) in [("state", &second.state, &proved.state), ("out", &second.out, &proved.out)]
     {
         let length = a.bytes().len() as isize;
-        for (index, a, b) in a.differences(b) {
+        let more = a.differences(b).count().saturating_sub(PRINTED);
+        for (index, a, b) in a.differences(b).take(PRINTED) {
             let outside = if (0..length).contains(&index) { "" } else { " (outside it)" };
             let _ = writeln!(text, "  {name}[{index}]{outside}: second {a:02X}, proved {b:02X}");
+        }
+        if more > 0 {
+            let _ = writeln!(text, "  and {more} more bytes of {name}");
         }
     }
     text

@@ -1,5 +1,6 @@
 //! What is measured: `speed` takes its time and `count` its instructions.
 
+mod makes;
 mod widths;
 
 use crate::check::check;
@@ -8,6 +9,7 @@ use crate::generate::{dense, sparse, Program, Rng};
 use crate::{boundary, proved};
 use std::hint::black_box;
 
+pub use makes::{worst, Makes};
 pub use widths::{Widths, STEPS as WIDTH_STEPS};
 
 /// Who works: the proved library, the second emulator by itself, or the same

@@ -1,5 +1,6 @@
 //! Counts what was compared, and prints it.
 
+use crate::make_counts::MakeCounts;
 use crate::width_counts::WidthCounts;
 use second::boundary::{self, FIELDS, FORMS, FORM_NAMES};
 use second::chip::Rom;
@@ -7,7 +8,7 @@ use second::library::KINDS;
 use second::play::{report, Call, Outcome};
 
 /// The greatest number of a refusal.
-const NUMBERS: usize = 24;
+const NUMBERS: usize = 26;
 
 pub struct Counts {
     calls: [u64; KINDS.len()],
@@ -26,6 +27,7 @@ pub struct Counts {
     /// By the number that a job's line gives; 0 is accepted.
     lines: [u64; NUMBERS + 1],
     pub widths: WidthCounts,
+    pub makes: MakeCounts,
     pub unused_differ: u64,
     pub demand3_calls: u64,
     form_of: [Option<u8>; 256],
@@ -46,6 +48,7 @@ impl Counts {
             levels: [0; 7],
             lines: [0; NUMBERS + 1],
             widths: WidthCounts::new(),
+            makes: MakeCounts::new(),
             unused_differ: 0,
             demand3_calls: 0,
             form_of: forms_by_opcode(),
@@ -65,6 +68,7 @@ impl Counts {
             Call::Width { image, certificate, .. } => {
                 self.widths.add(image, certificate, outcome.answer);
             }
+            Call::Make { image, wired, .. } => self.makes.add(image, *wired, outcome.answer),
             _ if number != 0 => {}
             Call::Decode { .. } => self.decoded_forms[outcome.out.bytes()[0] as usize] += 1,
             Call::Write { fields, .. } => self.written_forms[fields[0] as usize] += 1,
@@ -141,6 +145,7 @@ impl Counts {
         refused[0] = 0;
         println!("lines of jobs: accepted {accepted}; refused{}", listed(&refused));
         self.widths.print();
+        self.makes.print();
         println!("calls that demand 3 speaks of, all as it says: {}", self.demand3_calls);
         println!("calls that differ only in return addresses not in use: {}", self.unused_differ);
         self.print_not_met();
@@ -162,6 +167,7 @@ impl Counts {
             println!("NOT MET: numbers {missing:?}");
         }
         self.widths.print_not_met();
+        self.makes.print_not_met();
     }
 }
 

@@ -6,6 +6,8 @@ mod harness;
 mod instructions;
 mod jobs;
 mod machines;
+mod make_counts;
+mod makes;
 mod programs;
 mod refusals;
 mod width_counts;
@@ -19,18 +21,21 @@ struct Options {
     seed: u64,
     steps: u64,
     checks: u64,
+    part: Option<String>,
     strict: bool,
 }
 
 const USAGE: &str = "\
-compare [--seed N] [--steps N] [--checks N] [--strict]
+compare [--seed N] [--steps N] [--checks N] [--part NAME] [--strict]
   --seed N    the seed of all random choices (default 1)
   --steps N   steps in runs of programs; the other parts grow with it (default 20000000)
   --checks N  certificates checked (default 120000)
+  --part NAME only this part, by the name that is printed
   --strict    return addresses that aren't in use must agree too";
 
 fn options() -> Options {
-    let mut options = Options { seed: 1, steps: 20_000_000, checks: 120_000, strict: false };
+    let mut options =
+        Options { seed: 1, steps: 20_000_000, checks: 120_000, part: None, strict: false };
     let mut arguments = std::env::args().skip(1);
     while let Some(argument) = arguments.next() {
         let mut number = || {
@@ -44,6 +49,7 @@ fn options() -> Options {
             "--seed" => options.seed = number(),
             "--steps" => options.steps = number(),
             "--checks" => options.checks = number(),
+            "--part" => options.part = Some(arguments.next().unwrap_or_default()),
             "--strict" => options.strict = true,
             _ => {
                 eprintln!("{USAGE}");
@@ -54,15 +60,17 @@ fn options() -> Options {
     options
 }
 
-fn main() {
-    let options = options();
-    println!("seed {}, steps {}, checks {}", options.seed, options.steps, options.checks);
-    let mut h = Harness::new(options.seed, options.strict);
+/// The parts that are wanted, each with its time; gives how many there were.
+fn run_parts(h: &mut Harness, options: &Options) -> usize {
     let scale = |per_million: u64| (options.steps * per_million / 1_000_000).max(10) as usize;
-    let start = Instant::now();
+    let mut parts = 0;
     let mut part = |name: &str, work: &mut dyn FnMut(&mut Harness)| {
+        if options.part.as_ref().is_some_and(|only| only != name) {
+            return;
+        }
+        parts += 1;
         let before = Instant::now();
-        work(&mut h);
+        work(h);
         println!("{name:12} {:6.2} s", before.elapsed().as_secs_f64());
     };
     part("bench cases", &mut jobs::bench_cases);
@@ -79,6 +87,19 @@ fn main() {
     part("jobs", &mut |h| jobs::jobs(h, options.checks as usize / 10));
     part("programs", &mut |h| programs::programs(h, options.steps));
     part("widths", &mut |h| widths::widths(h, scale(300)));
+    part("makes", &mut |h| makes::makes(h, scale(1000)));
+    parts
+}
+
+fn main() {
+    let options = options();
+    println!("seed {}, steps {}, checks {}", options.seed, options.steps, options.checks);
+    let mut h = Harness::new(options.seed, options.strict);
+    let start = Instant::now();
+    if run_parts(&mut h, &options) == 0 {
+        eprintln!("there is no such part\n{USAGE}");
+        exit(2)
+    }
     h.counts.print();
     println!("\nno difference, in {:.1} s", start.elapsed().as_secs_f64());
 }

@@ -75,6 +75,12 @@ enum-told-14 c = search needs
 enum-told-15 : tie.Need-enum-told-15
 enum-told-15 c = search needs
 
+enum-told-16 : tie.Need-enum-told-16
+enum-told-16 c = search needs
+
+enum-told-17 : tie.Need-enum-told-17
+enum-told-17 c = search needs
+
 returns : tie.Need-returns
 returns c = rw (c .enum-told .given .1)
 
@@ -147,6 +153,12 @@ returns-23 c = rw (c .enum-told14 .given .1)
 returns-24 : tie.Need-returns-24
 returns-24 c = rw (c .enum-told15 .given .1)
 
+returns-25 : tie.Need-returns-25
+returns-25 c = rw (c .enum-told16 .given .1)
+
+returns-26 : tie.Need-returns-26
+returns-26 c = rw (c .enum-told17 .given .1)
+
 pub number-of-spec : {M : Type 1} → statement M
 number-of-spec =
     tie.close
@@ -175,6 +187,8 @@ number-of-spec =
     enum-told-13
     enum-told-14
     enum-told-15
+    enum-told-16
+    enum-told-17
     returns
     returns-2
     returns-3
@@ -198,4 +212,6 @@ number-of-spec =
     returns-21
     returns-22
     returns-23
-    returns-24)
+    returns-24
+    returns-25
+    returns-26)

@@ -1,0 +1,134 @@
+-- Edges are noted while addresses are explored, and needs rise over them.
+use Prim.Native.Nat.{ℕ, zero, suc, _+_, _-_, _*_, _/_, _%_, _≤_, _<_}
+use native.Mathlib.Omega.{arith}
+use mathlib.Core.Path.{_≡_, refl, _∙_}
+use mathlib.Core.Logic.{_≢_}
+use mathlib.Core.Bool.{Bool, true, false}
+use mathlib.Core.List.{List, [], _∷_}
+use lib.Dec.{eqb}
+use lib.ListN.{getD, set, replicate}
+use lib.Seq.{getD-set-other}
+use borrow.Author.Tests.{eqb-true, eqb-false}
+use Rattle.certificate.specs.Marks.{markAt, kindAt, needAt}
+use Rattle.maker.specs.declared.Progress.{Progress}
+use Rattle.maker.specs.declared.Progress.the-variants.{Same}
+use Rattle.maker.specs.Reach.{along}
+use Rattle.maker.specs.Progress.{Sound, Kept, Stepped, joined, Demanded, Edge, Known}
+use Rattle.maker.specs.Progress.{Explored, Raised, Spread}
+use Rattle.maker.proofs.Rising.{then, by}
+use Rattle.maker.proofs.Reached.{goes-bounded, has-mark}
+use Rattle.maker.proofs.Following.{takes-need, kind-most}
+use Rattle.maker.proofs.Final.{only-reachable}
+use Rattle.maker.proofs.Answering.{zeros}
+
+pub kind-at-most : (marks : List ℕ) (a : ℕ) → kindAt marks a ≤ 4
+unfolding kindAt
+kind-at-most marks a = kind-most (markAt marks a)
+
+-- an edge leads to an address that has a kind, and takes at most one level
+edge-bounded : {image marks : List ℕ} {from to levels : ℕ} → Edge image marks from to levels
+    → (1 ≤ kindAt marks to) × (levels ≤ 1)
+edge-bounded {marks = marks} {from} {to} {levels} e =
+    let b =
+    goes-bounded (kindAt marks from) _ _ to (kindAt marks to) levels (e .kind-least) (kind-at-most marks from)
+    (e .leads .goes-on) in
+    (b .0, b .2)
+
+-- it stays one while kinds stay
+edge-kept : {image before after : List ℕ} {from to levels : ℕ} → Kept before after
+    → Edge image before from to levels → Edge image after from to levels
+edge-kept {from = from} {to} kept e =
+    let f = kept from (e .kind-least) in
+    let t = kept to (edge-bounded e .0) in
+    record { kind-least = rw f (e .kind-least); leads = rw (f, t) (e .leads) }
+
+known-kept : {image before after links : List ℕ} → Kept before after → Known image before links
+    → Known image after links
+known-kept kept known = record { edge = λ e n. edge-kept kept (known .edge e n) }
+
+-- what is set is read again
+set-here : (l : List ℕ) (i v : ℕ) → getD (set l i v) i 0 ≢ 0 → getD (set l i v) i 0 ≡ v
+set-here [] i v n = absurd (n refl)
+set-here (m ∷ l) zero v n = refl
+set-here (m ∷ l) (suc i) v n = set-here l i v n
+
+-- an edge is noted
+pub recorded-one : (links : List ℕ) (from place edge to levels v : ℕ) → from < 4096 → edge ≡ from * 2 + place % 2
+    → v ≡ to * 2 + levels % 2 + 1 → (image marks : List ℕ) → Known image marks links
+    → Edge image marks from to levels × Unit {0} → Known image marks (set links edge v)
+recorded-one links from place edge to levels v low edge-is v-is image marks known each =
+    record { edge = λ e n. go e n (eqb e edge) refl }
+  where
+    go : (e : ℕ) → getD (set links edge v) e 0 ≢ 0 → (t : Bool) → eqb e edge ≡ t
+        → Edge image marks (e / 2) ((getD (set links edge v) e 0 - 1) / 2) ((getD (set links edge v) e 0 - 1) % 2)
+    go e n true p =
+        let same = eqb-true e edge p in
+        let most = edge-bounded (each .0) .1 in
+        let half : edge / 2 ≡ from = omega arith in
+        let to-is : (v - 1) / 2 ≡ to = omega arith in
+        let levels-are : (v - 1) % 2 ≡ levels = omega arith in
+        rw (same, set-here links edge v (rw same at n), half, to-is, levels-are) (each .0)
+    go e n false p =
+        let other = getD-set-other links edge e v 0 (eqb-false e edge p) in
+        rw other (known .edge e (λ z. n (other ∙ z)))
+
+-- then another
+pub recorded-two : {before middle after : List ℕ} {P Q : List ℕ → List ℕ → Type 0}
+    → ((image marks : List ℕ) → Known image marks before → P image marks × Unit {0} → Known image marks middle)
+    → ((image marks : List ℕ) → Known image marks middle → Q image marks × Unit {0} → Known image marks after)
+    → (image marks : List ℕ) → Known image marks before → P image marks × (Q image marks × Unit {0})
+    → Known image marks after
+recorded-two f g image marks known each = g image marks (f image marks known (each .0, tt)) (each .1)
+
+-- addresses are explored
+pub explored-none : {image marks links : List ℕ} → Explored image marks marks links links Same
+explored-none wired s known = (record { sound = s; told = (refl, tt); kept = λ b h. refl }, known)
+
+-- an address is visited, and the edges that leave it are noted
+pub explored-one : {image before after links links′ : List ℕ} {p : Progress} {Q : List ℕ → Type 0}
+    {P : List ℕ → List ℕ → Type 0}
+    → ((image marks : List ℕ) → Known image marks links → P image marks → Known image marks links′)
+    → ((wired : ℕ) → Sound image wired before → Stepped image wired Q before after p × P image after)
+    → Explored image before after links links′ p
+explored-one {image} {after = after} r v wired s known =
+    let t = v wired s in
+    (by (λ z. tt) (t .0), r image after (known-kept (t .0 .kept) known) (t .1))
+
+pub explored-more : {image before middle after links links′ links″ : List ℕ} {p q : Progress}
+    → Explored image before middle links links′ p → Explored image middle after links′ links″ q
+    → Explored image before after links links″ (joined p q)
+explored-more f g wired s known =
+    let t = f wired s known in
+    let u = g wired (t .0 .sound) (t .1) in
+    (by (λ z. tt) (then (t .0) (u .0)), u .1)
+
+-- needs are raised
+pub raised-none : {links marks : List ℕ} → Raised links marks marks Same
+raised-none image wired s known = record { sound = s; told = (refl, tt); kept = λ b h. refl }
+
+pub raised-one : {links before after : List ℕ} {p : Progress} (number link : ℕ)
+    → link ≡ getD links number 0 → link ≢ 0
+    → Demanded before after (number / 2) (kindAt before (number / 2))
+    (needAt before ((link - 1) / 2) + (link - 1) % 2) p
+    → Raised links before after p
+raised-one {before = before} number link e n d image wired s known =
+    let edge = rw (← e) at (known .edge number (λ z. n (e ∙ z))) in
+    let from = number / 2 in
+    let to = (link - 1) / 2 in
+    let r = only-reachable s from (has-mark before from (kindAt before from) refl (edge .kind-least)) in
+    let t = takes-need to (kindAt before to) s refl (edge-bounded edge .0) in
+    by (λ z. tt) (d image wired s r (along (edge .leads) t) .0)
+
+pub raised-more : {links before middle after : List ℕ} {p q : Progress} → Raised links before middle p
+    → Raised links middle after q → Raised links before after (joined p q)
+raised-more f g image wired s known =
+    let t = f image wired s known in
+    by (λ z. tt) (then t (g image wired (t .sound) (known-kept (t .kept) known)))
+
+-- addresses are explored where no edge is noted yet, then needs are raised
+pub spreads : {image before middle after links : List ℕ} {p q : Progress}
+    → Explored image before middle (replicate 8192 0) links p → Raised links middle after q
+    → Spread image before after (joined p q)
+spreads {image} f g wired s =
+    let t = f wired s (record { edge = λ e n. absurd (n (zeros 8192 e)) }) in
+    by (λ z. tt) (then (t .0) (g image wired (t .0 .sound) (t .1)))

@@ -1,0 +1,11 @@
+pub mod Reached
+pub mod Refuted
+pub mod Rising
+pub mod Demands
+pub mod Following
+pub mod Sweeps
+pub mod Final
+pub mod Answering
+pub mod Edges
+pub mod Outcomes
+pub mod Cases

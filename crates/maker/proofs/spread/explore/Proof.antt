@@ -1,0 +1,72 @@
+-- `spread::explore` meets its contract.
+use mathlib.Core.Path.{_≡_}
+use lib.ListN.{length}
+use Rattle.maker.specs.Progress.{Explored}
+use Rattle.maker.proofs.Edges.{explored-none, explored-more}
+use borrow.Author.Needs.{needs}
+use Rattle.maker.proofs.spread.explore.Statement.{statement}
+use Rattle.maker.proofs.spread.explore.Tie as tie
+
+abbrev Inv-loop : tie.InvT-loop
+Inv-loop table image marks₀ links₀ notes₀ progress₀ left₀ marks links notes progress left =
+    (length marks ≡ length marks₀)
+    × Explored image marks₀ marks links₀ links progress
+
+abbrev μ-loop : tie.MeasureT-loop
+μ-loop table image marks₀ links₀ notes₀ progress₀ left₀ marks links notes progress left = left
+
+loop-holds : tie.Need-loop-holds Inv-loop μ-loop
+loop-holds c = (search needs, explored-none)
+
+is-empty-requires : tie.Need-is-empty-requires Inv-loop μ-loop
+is-empty-requires c κs = search needs
+
+same-length : tie.Need-same-length Inv-loop μ-loop
+same-length c = search needs
+
+returns : tie.Need-returns Inv-loop μ-loop
+returns c = c .before .before .before .before .loop .inv .1
+
+explore-one-requires : tie.Need-explore-one-requires Inv-loop μ-loop
+explore-one-requires c κs = search needs
+
+join-requires : tie.Need-join-requires Inv-loop μ-loop
+join-requires c κs = search needs
+
+sub-left : tie.Need-sub-left Inv-loop μ-loop
+sub-left c = search needs
+
+loop-less : tie.Need-loop-less Inv-loop μ-loop
+loop-less c = search needs
+
+loop-again : tie.Need-loop-again Inv-loop μ-loop
+loop-again c =
+    let at-explore-one = c .before .before .before in
+    let at-loop = at-explore-one .before .before .before .before .before .before .before .before in (
+      search needs,
+      rw (c .join .ensures) (explored-more (at-loop .loop .inv .1) (at-explore-one .explore-one .ensures)),
+    )
+
+same-length-2 : tie.Need-same-length-2 Inv-loop μ-loop
+same-length-2 c = search needs
+
+returns-2 : tie.Need-returns-2 Inv-loop μ-loop
+returns-2 c = c .before .loop .inv .1
+
+pub explore-spec : {M : Type 1} → statement M
+explore-spec =
+    tie.close
+    (tie.spec
+    Inv-loop
+    μ-loop
+    loop-holds
+    is-empty-requires
+    same-length
+    returns
+    explore-one-requires
+    join-requires
+    sub-left
+    loop-less
+    loop-again
+    same-length-2
+    returns-2)

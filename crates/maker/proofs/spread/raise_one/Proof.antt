@@ -1,0 +1,86 @@
+-- `spread::raise_one` meets its contract.
+use native.Mathlib.Omega.{arith}
+use mathlib.Core.Path.{refl}
+use Rattle.certificate.proofs.SourceLevels.{need-most}
+use Rattle.maker.proofs.Edges.{kind-at-most, raised-one}
+use borrow.Author.Needs.{needs}
+use Rattle.maker.proofs.spread.raise_one.Statement.{statement}
+use Rattle.maker.proofs.spread.raise_one.Tie as tie
+
+cast-link : tie.Need-cast-link
+cast-link c = search needs
+
+mul-link : tie.Need-mul-link
+mul-link c = search needs
+
+element-copy-out-link : tie.Need-element-copy-out-link
+element-copy-out-link c = search needs
+
+returns : tie.Need-returns
+returns c = search needs
+
+sub-need-at : tie.Need-sub-need-at
+sub-need-at c = search needs
+
+need-at-requires : tie.Need-need-at-requires
+need-at-requires c κs = search needs
+
+sub-need : tie.Need-sub-need
+sub-need c = search needs
+
+cast-need : tie.Need-cast-need
+cast-need c = search needs
+
+add-need : tie.Need-add-need
+add-need c = omega (arith, need-most _ _ (c .need-at .ensures))
+
+need-at-requires-2 : tie.Need-need-at-requires-2
+need-at-requires-2 c κs = search needs
+
+same-length : tie.Need-same-length
+same-length c = search needs
+
+returns-2 : tie.Need-returns-2
+returns-2 c = search needs
+
+push-requires : tie.Need-push-requires
+push-requires c κs = search needs
+
+kind-at-requires : tie.Need-kind-at-requires
+kind-at-requires c κs = search needs
+
+demand-requires : tie.Need-demand-requires
+demand-requires c κs = rw (c .kind-at .ensures) (kind-at-most _ _)
+
+same-length-2 : tie.Need-same-length-2
+same-length-2 c = search needs
+
+returns-3 : tie.Need-returns-3
+returns-3 c =
+    let at-kind-at = c .before .before .before in
+    let at-need-at = at-kind-at .before .before .before .before .before .before .before .before in
+    let at-if1 = at-need-at .before .before in
+    raised-one _ _ refl (at-if1 .if1 .left)
+    (rw (at-kind-at .kind-at .ensures, at-need-at .need-at .ensures) at (c .before .before .demand .ensures))
+
+pub raise-one-spec : {M : Type 1} → statement M
+raise-one-spec =
+    tie.close
+    (tie.spec
+    cast-link
+    mul-link
+    element-copy-out-link
+    returns
+    sub-need-at
+    need-at-requires
+    sub-need
+    cast-need
+    add-need
+    need-at-requires-2
+    same-length
+    returns-2
+    push-requires
+    kind-at-requires
+    demand-requires
+    same-length-2
+    returns-3)

@@ -1,0 +1,168 @@
+-- What holds while a certificate is made, for the contracts of the functions inside: every mark is forced, and each
+-- part of the work tells whether it changed the marks.
+use Prim.Native.Nat.{ℕ, _+_, _-_, _/_, _%_, _≤_, _<_}
+use mathlib.Core.Path.{_≡_}
+use mathlib.Core.Logic.{_⊎_, _≢_}
+use mathlib.Core.Bool.{true}
+use mathlib.Core.List.{List, [], _∷_}
+use lib.ListN.{length, getD}
+use Rattle.isa.specs.Sources.{isNamed, vectorOf}
+use Rattle.isa.specs.declared.Source.{Source}
+use Rattle.certificate.specs.declared.successors.Successor.{Successor}
+use Rattle.certificate.specs.Marks.{markAt, Marked, WellFormed, kindAt, needAt}
+use Rattle.certificate.specs.Links.{Link, Every}
+use Rattle.certificate.specs.Rules.{Lawful}
+use Rattle.maker.specs.declared.Progress.{Progress}
+use Rattle.maker.specs.declared.Progress.the-variants.{Same, Changed, Impossible}
+use Rattle.maker.specs.Reach.{Leads, Reachable, Takes}
+use Rattle.maker.specs.Least.{NoneAccepted}
+
+-- a mark that no accepted certificate can do without: its kind is that of a reachable address, its need what a path
+-- takes
+pub record Forced (image : List ℕ) (wired a mark : ℕ) : Type 0 where
+  pub formed : WellFormed mark
+  pub reached : Reachable image wired a (mark / 16)
+  pub takes : Takes image a (mark / 16) (mark % 16)
+
+-- every mark is forced
+pub record Sound (image : List ℕ) (wired : ℕ) (marks : List ℕ) : Type 0 where
+  pub image-length : (length image ≡ 2048) ⊎ (length image ≡ 4096)
+  pub size : length marks ≡ length image
+  pub forced : (a : ℕ) → Marked marks a → Forced image wired a (markAt marks a)
+
+-- how far the marks can still rise: it falls with each change
+unfoldable pub room : List ℕ → ℕ
+room [] = 0
+room (m ∷ marks) = (255 - m) + room marks
+
+-- what a part of the work tells of the marks before and after: they are the same, and something holds of them; or some
+-- have risen; or no certificate is accepted
+abbrev pub Told :
+    (image : List ℕ) → (wired : ℕ) → (Holds : List ℕ → Type 0) → (before after : List ℕ) → Progress → Type 0
+Told image wired Holds before after Same = (after ≡ before) × Holds before
+Told image wired Holds before after Changed = room after < room before
+Told image wired Holds before after Impossible = NoneAccepted image wired
+
+-- a kind that was marked stays
+abbrev pub Kept : (before after : List ℕ) → Type 0
+Kept before after = (b : ℕ) → 1 ≤ kindAt before b → kindAt after b ≡ kindAt before b
+
+-- .. and every mark is forced afterwards, and its kind stays
+pub record Stepped (image : List ℕ) (wired : ℕ) (Holds : List ℕ → Type 0) (before after : List ℕ) (p : Progress)
+    : Type 0 where
+  pub sound : Sound image wired after
+  pub told : Told image wired Holds before after p
+  pub kept : Kept before after
+
+-- one part of the work, then another
+abbrev pub joined : Progress → Progress → Progress
+joined Same second = second
+joined Changed Same = Changed
+joined Changed Changed = Changed
+joined Changed Impossible = Impossible
+joined Impossible second = Impossible
+
+-- an address has a kind, and at least a need
+pub record Meets (a kind need : ℕ) (marks : List ℕ) : Type 0 where
+  pub kind-is : kindAt marks a ≡ kind
+  pub need-least : need ≤ needAt marks a
+
+-- a kind and a need are demanded at a reachable address from which some path takes that need; what can be met is met
+abbrev pub Demanded : (before after : List ℕ) → (a kind need : ℕ) → Progress → Type 0
+Demanded before after a kind need p =
+    (image : List ℕ) (wired : ℕ) → Sound image wired before → Reachable image wired a kind → Takes image a kind need
+    → Stepped image wired (Meets a kind need) before after p × ((p ≡ Impossible → ⊥) → Meets a kind need after)
+
+-- a successor of code: its kind is one of the four, and it takes at most one level
+pub record Small (s : Successor) : Type 0 where
+  pub kind-least : 1 ≤ s .kind
+  pub kind-most : s .kind ≤ 4
+  pub levels-most : s .levels ≤ 1
+
+-- the instruction at a leads to a successor
+abbrev pub LeadsTo : (image : List ℕ) → (a kind : ℕ) → Successor → Type 0
+LeadsTo image a kind s = Leads image a kind (s .address) (s .kind) (s .levels)
+
+-- a successor has its kind
+abbrev pub HasKind : (marks : List ℕ) → Successor → Type 0
+HasKind marks s = kindAt marks (s .address) ≡ s .kind
+
+-- the successors of a reachable address are followed, and then have their kinds
+abbrev pub Followed : (before after : List ℕ) → (a kind : ℕ) → List Successor → Progress → Type 0
+Followed before after a kind successors p =
+    (image : List ℕ) (wired : ℕ) → Sound image wired before → Reachable image wired a kind
+    → Every (LeadsTo image a kind) successors
+    → Stepped image wired (λ marks. Every (Link marks a) successors) before after p
+    × ((p ≡ Impossible → ⊥) → Every (HasKind after) successors)
+
+-- an edge of the program, between addresses that have kinds
+pub record Edge (image marks : List ℕ) (from to levels : ℕ) : Type 0 where
+  pub kind-least : 1 ≤ kindAt marks from
+  pub leads : Leads image from (kindAt marks from) to (kindAt marks to) levels
+
+-- .. to a successor
+abbrev pub EdgeTo : (image marks : List ℕ) → (a : ℕ) → Successor → Type 0
+EdgeTo image marks a s = Edge image marks a (s .address) (s .levels)
+
+-- every link that is noted is an edge: its number is twice the address that it leaves, plus its place there; it says
+-- twice the address to which it leads, and the levels, plus 1
+pub record Known (image marks links : List ℕ) : Type 0 where
+  pub edge :
+      (e : ℕ) → getD links e 0 ≢ 0 → Edge image marks (e / 2) ((getD links e 0 - 1) / 2) ((getD links e 0 - 1) % 2)
+
+-- edges are noted
+abbrev pub Recorded : (before after : List ℕ) → (from : ℕ) → List Successor → Type 0
+Recorded before after from successors =
+    (image marks : List ℕ) → Known image marks before → Every (EdgeTo image marks from) successors
+    → Known image marks after
+
+-- where an address is marked, document 01's rules hold there
+abbrev pub LawfulAt : (image : List ℕ) → (a : ℕ) → (marks : List ℕ) → Type 0
+LawfulAt image a marks = Marked marks a → Lawful image marks a
+
+-- an address is visited, and edges lead from it to the successors
+abbrev pub Visited : (image before after : List ℕ) → (a : ℕ) → Progress → List Successor → Type 0
+Visited image before after a p successors =
+    (wired : ℕ) → Sound image wired before
+    → Stepped image wired (LawfulAt image a) before after p × Every (EdgeTo image after a) successors
+
+-- .. addresses that are found, and their edges noted
+abbrev pub Explored : (image before after links links′ : List ℕ) → Progress → Type 0
+Explored image before after links links′ p =
+    (wired : ℕ) → Sound image wired before → Known image before links
+    → Stepped image wired (λ marks. Unit) before after p × Known image after links′
+
+-- needs are raised over the edges that are noted
+abbrev pub Raised : (links before after : List ℕ) → Progress → Type 0
+Raised links before after p =
+    (image : List ℕ) (wired : ℕ) → Sound image wired before → Known image before links
+    → Stepped image wired (λ marks. Unit) before after p
+
+-- addresses are visited in any order
+abbrev pub Spread : (image before after : List ℕ) → Progress → Type 0
+Spread image before after p =
+    (wired : ℕ) → Sound image wired before → Stepped image wired (λ marks. Unit) before after p
+
+-- .. all addresses
+abbrev pub Swept : (image before after : List ℕ) → Progress → Type 0
+Swept image before after p =
+    (wired : ℕ) → Sound image wired before
+    → Stepped image wired (λ marks. (a : ℕ) → LawfulAt image a marks) before after p
+
+-- a source's vector is a service where the source is wired
+abbrev pub SourceKind : (wired : ℕ) → Source → (marks : List ℕ) → Type 0
+SourceKind wired s marks = isNamed wired s ≡ true → kindAt marks (vectorOf s) ≡ 3
+
+-- FFEh is start-up code, and the vectors of the wired sources are services
+pub record Seeded (wired : ℕ) (marks : List ℕ) : Type 0 where
+  pub start-up : kindAt marks 0xFFE ≡ 1
+  pub vectors : (s : Source) → SourceKind wired s marks
+
+-- vectors are demanded, whatever the image
+abbrev pub Seeds : (wired : ℕ) → (Holds : List ℕ → Type 0) → (before after : List ℕ) → Progress → Type 0
+Seeds wired Holds before after p =
+    (image : List ℕ) → Sound image wired before → Stepped image wired Holds before after p
+
+-- all rules hold but the number of levels
+abbrev pub Finished : (image : List ℕ) → (wired : ℕ) → (marks : List ℕ) → Type 0
+Finished image wired marks = Seeded wired marks × ((a : ℕ) → LawfulAt image a marks)

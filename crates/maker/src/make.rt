@@ -1,0 +1,53 @@
+// Makes the least certificate.
+use crate::Made;
+use crate::Progress;
+use crate::join::join;
+use crate::sources::seed;
+use crate::spread::spread;
+use crate::sweep::settle;
+use isa::Refusal;
+use isa::rom::is_image_length;
+use isa::sources::names_only_sources;
+use isa::table::timings;
+ghost use mathlib.Core.Path.{_≡_};
+ghost use mathlib.Core.Bool.{true};
+ghost use Rattle.isa.specs.Sources.{namesOnlySources};
+ghost use Rattle.maker.specs.Progress.{Sound};
+ghost use Rattle.maker.specs.Make.{madeOf, Completed, Makes};
+
+// Raises the marks to the least certificate, where there is one: from the vectors along the program's paths, until the
+// check accepts them.
+fn complete(image: &[u8], marks: &mut [u8], wired: u8) -> Made
+    requires { ⌜ Sound (now image) wired (now marks) × (namesOnlySources wired ≡ true) ⌝ }
+    ensures { λ r. ⌜ Completed (now (image .entry)) wired (now (marks .exit)) (madeOf r) ⌝ }
+{
+    let table = timings();
+    let seeded = seed(marks, wired);
+    if let Progress::Impossible = join(seeded, spread(&table, image, marks)) {
+        return Made::Refused(Refusal::NoCertificate);
+    }
+    settle(&table, image, marks, wired)
+}
+
+// Writes the least certificate of an image and its wired sources into a buffer, or refuses and leaves the buffer as it
+// was.
+pub fn make(image: &[u8], wired: u8, buffer: &mut [u8]) -> Made
+    ensures { λ r. ⌜ Makes (now (image .entry)) wired (now (buffer .entry)) (now (buffer .exit)) (madeOf r) ⌝ }
+{
+    let size = image.len();
+    if !is_image_length(size) {
+        return Made::Refused(Refusal::ImageLength);
+    }
+    if !names_only_sources(wired) {
+        return Made::Refused(Refusal::UnknownSource);
+    }
+    if buffer.len() != size {
+        return Made::Refused(Refusal::CertificateBuffer);
+    }
+    let mut work = [0u8; 4096];
+    let made = complete(image, &mut work[..size], wired);
+    if let Made::Written(_) = made {
+        bytes::copy(&work[..size], buffer);
+    }
+    made
+}
