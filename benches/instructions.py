@@ -22,6 +22,8 @@ WORKS = [
     ("width after 61,047 steps, a step", "width", 1, 61047),
     ("make 2K reached throughout, a byte", "make-2k", 64, 2048),
     ("make 4K reached throughout, a byte", "make-4k", 64, 4096),
+    ("make 2K of generated programs, a byte", "make-program-2k", 64, 2048),
+    ("make 4K of generated programs, a byte", "make-program-4k", 64, 4096),
     ("make 2K with six marks, a byte", "make-sparse-2k", 64, 2048),
     ("make 4K with six marks, a byte", "make-sparse-4k", 64, 4096),
     ("make 4K, six zigzag chains, a byte", "make-zigzag", 2, 4096),
@@ -42,11 +44,11 @@ def main():
     if not shutil.which("valgrind"):
         print("instructions not counted: there is no valgrind")
         return
-    print(f"{'instructions':36}" + "".join(f"{side:>10}" for side in SIDES) + "   proved / second, / packed")
+    print(f"{'instructions':38}" + "".join(f"{side:>10}" for side in SIDES) + "   proved / second, / packed")
     for title, work, times, units in WORKS:
         counts = [(total(work, side, 2 * times) - total(work, side, times)) / (times * units) for side in SIDES]
         proved, second, packed = counts
-        print(f"{title:36}" + "".join(f"{count:10.2f}" for count in counts) + f"   {proved / second:.2f}, {proved / packed:.2f}")
+        print(f"{title:38}" + "".join(f"{count:10.2f}" for count in counts) + f"   {proved / second:.2f}, {proved / packed:.2f}")
 
 
 if __name__ == "__main__":

@@ -9,7 +9,8 @@ use std::process::exit;
 const USAGE: &str = "\
 count WORK SIDE N
   WORK  run (65535 steps), step, check-2k, check-4k, sparse-2k, sparse-4k, decode (256 opcodes),
-        width, make-2k, make-4k, make-sparse-2k, make-sparse-4k, make-zigzag
+        width, make-2k, make-4k, make-program-2k, make-program-4k, make-sparse-2k,
+        make-sparse-4k, make-zigzag
   SIDE  proved, second, packed
   N     how often";
 
@@ -25,6 +26,8 @@ fn work(name: &str) -> Option<Box<dyn Work>> {
         "width" => Box::new(Widths::default()),
         "make-2k" => Box::new(Makes::throughout(2048)),
         "make-4k" => Box::new(Makes::throughout(4096)),
+        "make-program-2k" => Box::new(Makes::programs(2048)),
+        "make-program-4k" => Box::new(Makes::programs(4096)),
         "make-sparse-2k" => Box::new(Makes::sparse(2048)),
         "make-sparse-4k" => Box::new(Makes::sparse(4096)),
         "make-zigzag" => Box::new(Makes::chains(Order::Zigzag, 6, false)),

@@ -211,6 +211,7 @@ fn main() {
     decodes();
     widths();
     makes("reached throughout", Makes::throughout, IMAGES);
+    makes("in generated programs", Makes::programs, 2 * IMAGES);
     makes("with six marks", Makes::sparse, 2 * IMAGES);
     worst_makes();
 }

@@ -4,8 +4,8 @@
 use super::{Side, Work, IMAGES};
 use crate::chip::Instruction;
 use crate::generate::{
-    chains, dense, long_recursion, maze, repeated_calls, sparse, straight, Chains, Order, Program,
-    Rng, ORDERS,
+    chains, dense, long_recursion, maze, program, repeated_calls, sparse, straight, Chains, Order,
+    Program, Rng, ORDERS,
 };
 use crate::maker::make;
 use crate::{boundary, proved};
@@ -44,6 +44,11 @@ impl Makes {
     /// Programs that are reached nearly throughout.
     pub fn throughout(length: usize) -> Self {
         Makes::ordinary(length, reached)
+    }
+
+    /// Generated programs: start-up, main loop, subroutines and services.
+    pub fn programs(length: usize) -> Self {
+        Makes::ordinary(length, generated)
     }
 
     /// Programs that get six marks.
@@ -110,6 +115,16 @@ fn reached(rng: &mut Rng, length: usize) -> Program {
     let way = [0xFF, 0x14, 0x09, (base >> 4) as u8];
     program.image[0xCCF - base..][..way.len()].copy_from_slice(&way);
     program
+}
+
+/// A generated program of a length that has a certificate.
+fn generated(rng: &mut Rng, length: usize) -> Program {
+    let mut programs = std::iter::repeat_with(|| program(rng));
+    let has_certificate =
+        |program: &Program| make(&program.image, program.wired, &mut vec![0; length]).is_ok();
+    programs
+        .find(|program| program.image.len() == length && has_certificate(program))
+        .expect("there is no end of them")
 }
 
 /// A maze with subroutines of all needs.
