@@ -9,7 +9,7 @@ use std::thread;
 fn compare(fault: Option<&str>) -> Output {
     let mut command = Command::new(env!("CARGO_BIN_EXE_compare"));
     command.args(["--steps", "1000000", "--checks", "20000"]);
-    // The last part is the one that finds them.
+    // The part `makes` finds them; the others would only take time.
     if fault.is_some_and(|fault| fault.starts_with("make-")) {
         command.args(["--part", "makes"]);
     }

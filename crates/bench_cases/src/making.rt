@@ -72,7 +72,8 @@ fn put_sized() {
 // 1 before 11, 11 before 25, 25 before 26.
 fn put_refused() {
     let recursive = recursive_image();
-    let large = [0u8; 4096];
+    // 05h is no instruction: with a long enough buffer this would be 26.
+    let large = [0x05u8; 4096];
     put_made(b"recursion", &recursive, 0x00);
     put_made(b"4K into 2K", &large, 0x00);
     put_made(b"4K into 2K, wired 20h", &large, 0x20);

@@ -97,7 +97,6 @@ pub fn write_word(written: Written) -> u64
     }
 }
 
-// The width in the low 16 bits of the value, the steps above it.
 pub fn made_word(made: Made) -> u64
     ensures { λ r. ⌜ r ≡ answerWord (madeOf made) ⌝ }
 {
@@ -107,6 +106,7 @@ pub fn made_word(made: Made) -> u64
     }
 }
 
+// The width in the low 16 bits of the value, the steps above it.
 pub fn sizing_word(sizing: Sizing) -> u64
     ensures { λ r. ⌜ r ≡ sizeWord (sizingOf sizing) ⌝ }
 {

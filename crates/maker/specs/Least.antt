@@ -17,8 +17,9 @@ NoSmaller image wired certificate =
     → (a : ℕ) → needAt certificate a ≤ needAt other a
 
 -- "the accepted certificate that marks only addresses reachable from FFEh or a wired vector, with the least need at
--- each"
+-- each"; that it marks all of these, and that there is at most one, follows (`MadeIsLeast`, `OneAnswer`)
 pub record Least (image : List ℕ) (wired : ℕ) (certificate : List ℕ) (levels : ℕ) : Type 0 where
   pub is-accepted : checkOf image certificate wired ≡ accepted levels
+  -- each with the kind that it is reached with
   pub only-reachable : (a : ℕ) → Marked certificate a → Reachable image wired a (kindAt certificate a)
   pub no-smaller : NoSmaller image wired certificate

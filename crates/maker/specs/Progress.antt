@@ -47,7 +47,7 @@ Told image wired Holds before after Impossible = NoneAccepted image wired
 abbrev pub Kept : (before after : List ℕ) → Type 0
 Kept before after = (b : ℕ) → 1 ≤ kindAt before b → kindAt after b ≡ kindAt before b
 
--- .. and every mark is forced afterwards, and its kind stays
+-- what it tells; every mark is forced afterwards, and the kinds of marks stay
 pub record Stepped (image : List ℕ) (wired : ℕ) (Holds : List ℕ → Type 0) (before after : List ℕ) (p : Progress)
     : Type 0 where
   pub sound : Sound image wired after
@@ -126,24 +126,24 @@ Visited image before after a p successors =
     (wired : ℕ) → Sound image wired before
     → Stepped image wired (LawfulAt image a) before after p × Every (EdgeTo image after a) successors
 
--- .. addresses that are found, and their edges noted
+-- .. some addresses, and their edges noted
 abbrev pub Explored : (image before after links links′ : List ℕ) → Progress → Type 0
 Explored image before after links links′ p =
     (wired : ℕ) → Sound image wired before → Known image before links
     → Stepped image wired (λ marks. Unit) before after p × Known image after links′
 
--- needs are raised over the edges that are noted
+-- some needs are raised over the edges that are noted
 abbrev pub Raised : (links before after : List ℕ) → Progress → Type 0
 Raised links before after p =
     (image : List ℕ) (wired : ℕ) → Sound image wired before → Known image before links
     → Stepped image wired (λ marks. Unit) before after p
 
--- addresses are visited in any order
+-- some addresses are visited, in some order: which ones is not promised, since the check decides in the end
 abbrev pub Spread : (image before after : List ℕ) → Progress → Type 0
 Spread image before after p =
     (wired : ℕ) → Sound image wired before → Stepped image wired (λ marks. Unit) before after p
 
--- .. all addresses
+-- all addresses are visited
 abbrev pub Swept : (image before after : List ℕ) → Progress → Type 0
 Swept image before after p =
     (wired : ℕ) → Sound image wired before

@@ -2,8 +2,8 @@
 // place among the two that can leave it. `links` has for each edge where it leads, as twice the address and the levels,
 // plus 1: each is an edge of the program (`Known`).
 //
-// The notes only choose the order of visits: in the end the check finds whether anything was left out, so they need no
-// promise. They are a list of addresses, each of which names the one below it in its stack, plus 1; for each address
+// The notes only choose which addresses and edges are looked at, and when: in the end the check finds whether anything
+// was left out, so they need no promise. They are a list of addresses, each of which names the one below it in its stack, plus 1; for each address
 // the last edge into it, plus 1; for each edge the one noted before it into the same address, plus 1; and the tops of
 // two stacks: of the addresses that were found and not visited yet, and of those whose need rose.
 use certificate::successors::Successor;
@@ -22,6 +22,8 @@ pub const RISEN: u16 = 1;
 // The end of a list, where 0 says that nothing is noted.
 pub const END: u16 = 0xFFFF;
 
+// Where the parts of the notes begin: the last edge into each address, the edge before each edge, the tops of the
+// stacks.
 const INTO: usize = 4096;
 
 const EARLIER: usize = 8192;

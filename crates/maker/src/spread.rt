@@ -13,6 +13,7 @@ use crate::graph::push;
 use crate::join::join;
 use crate::marking::demand;
 use crate::marking::visit;
+use certificate::marks::MOST_LEVELS;
 use certificate::marks::kind_at;
 use certificate::marks::mark_at;
 use certificate::marks::need_at;
@@ -22,7 +23,8 @@ use isa::sources::vector_of;
 ghost use Rattle.isa.specs.Table.{Timings};
 ghost use Rattle.maker.specs.Progress.{Explored, Raised, Spread};
 
-// Visits the address that was found last. Where it needs a level, those that lead to it need one too.
+// Visits the address that was found last. Where it needs a level it counts as risen, since those that lead to it need
+// one too.
 fn explore_one(
     table: &[u8; 256],
     image: &[u8],
@@ -82,11 +84,14 @@ fn raise_one(marks: &mut [u8], links: &[u16; 8192], notes: &mut [u16; 16386], ed
     if need <= need_at(marks, from) {
         return Progress::Same;
     }
-    push(notes, RISEN, from);
+    // Above six there is no certificate, and this address would be raised again and again.
+    if need <= MOST_LEVELS {
+        push(notes, RISEN, from);
+    }
     demand(marks, from, kind_at(marks, from), need)
 }
 
-// Raises the needs of all addresses that lead to one.
+// Raises the needs of all addresses that lead to one, by the list of the edges into it.
 fn raise_into(marks: &mut [u8], links: &[u16; 8192], notes: &mut [u16; 16386], to: u16) -> Progress
     ensures { λ r. ⌜ Raised (now (links .entry)) (now (marks .entry)) (now (marks .exit)) r ⌝ }
 {
@@ -105,7 +110,8 @@ fn raise_into(marks: &mut [u8], links: &[u16; 8192], notes: &mut [u16; 16386], t
     progress
 }
 
-// Raises needs until none rises any more: each at most six times.
+// Raises needs until none rises any more. Each address is taken at most seven times: as it was found, and after each of
+// six rises.
 fn raise(marks: &mut [u8], links: &[u16; 8192], notes: &mut [u16; 16386]) -> Progress
     ensures { λ r. ⌜ Raised (now (links .entry)) (now (marks .entry)) (now (marks .exit)) r ⌝ }
 {

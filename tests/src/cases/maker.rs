@@ -111,7 +111,7 @@ fn the_smallest_programs() {
     gets(&[START, (0x900, Jp(0x900), 0x10), service], 0x01, 1);
 }
 
-/// All 2048 marks could be 10h, but only six are reachable.
+/// Nearly every address could be marked 10h, but only six are reachable.
 #[test]
 fn unreachable_code_gets_no_mark() {
     let image = written(2048, &[(0x900, Jrz(0), 0), (0x901, Jp(0xFFB), 0), START]).image;
@@ -342,7 +342,7 @@ fn no_certificate() {
     let mut undefined = written(2048, &[START]).image;
     undefined[0x100] = 0x77;
     assert_eq!(reason(&undefined, 0), Some(Reason::Undefined));
-    // A service that runs into start-up, and one without an end.
+    // A service that runs into start-up, and one that ends in RET.
     gets_none(&[(0xFFE, Jp(0xFFE), 0)], 0x01, Reason::TwoKinds);
     gets_none(&[(0xFFE, Jp(0xFFE), 0), (0xFFC, Ret, 0)], 0x01, Reason::Misplaced);
     // The opcode 9Fh at FFFh has its operand at 000h.

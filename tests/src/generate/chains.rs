@@ -25,7 +25,7 @@ pub struct Chains {
     /// How many subroutines there are, each called at the end of the one
     /// above it.
     pub depth: usize,
-    /// Whether the lowest subroutine calls itself.
+    /// Whether the lowest subroutine calls itself; there is then at least one.
     pub recursive: bool,
 }
 
@@ -134,5 +134,17 @@ pub fn repeated_calls(length: usize) -> Program {
     code.extend(calls.zip(below.into_iter().cycle()).map(|(at, to)| (at, Call(to), 0x16)));
     code.push((last, Jp(start), 0x16));
     code.push((RESET_VECTOR, Jp(start), 0x16));
+    written(length, &code)
+}
+
+/// A subroutine of nothing but CALLs of itself. It has no certificate.
+pub fn repeated_recursion(length: usize) -> Program {
+    let base = (0x1000 - length) as u16;
+    let (subroutine, last) = (base + END, CODE_END - LINK);
+    let mut code = chain_end(base, Some(subroutine), 0x10);
+    let calls = (subroutine..last).step_by(LINK as usize);
+    code.extend(calls.map(|at| (at, Call(subroutine), 0x40)));
+    code.push((last, Ret, 0x40));
+    code.push((RESET_VECTOR, Jp(base), 0x10));
     written(length, &code)
 }

@@ -12,7 +12,9 @@ mod routine;
 mod sizing;
 mod timed;
 
-pub use chains::{chains, long_recursion, repeated_calls, straight, Chains, Order, ORDERS};
+pub use chains::{
+    chains, long_recursion, repeated_calls, repeated_recursion, straight, Chains, Order, ORDERS,
+};
 pub use graph::call_graph;
 pub use machine::{ill_formed, machine, request, requests, spoil};
 pub use marked::{dense, p11, round_the_end, sparse, written};

@@ -4,8 +4,8 @@
 use super::{Side, Work, IMAGES};
 use crate::chip::Instruction;
 use crate::generate::{
-    chains, dense, long_recursion, maze, program, repeated_calls, sparse, straight, Chains, Order,
-    Program, Rng, ORDERS,
+    chains, dense, long_recursion, maze, program, repeated_calls, repeated_recursion, sparse,
+    straight, Chains, Order, Program, Rng, ORDERS,
 };
 use crate::maker::make;
 use crate::{boundary, proved};
@@ -140,6 +140,7 @@ pub fn worst() -> Vec<(String, Makes)> {
         ("NOPs that call themselves", long_recursion(4096, NOP)),
         ("branches that call themselves", long_recursion(4096, BACK)),
         ("calls of one subroutine, six deep", repeated_calls(4096)),
+        ("calls of itself alone", repeated_recursion(4096)),
         ("maze, six deep", deep_maze(false)),
         ("maze that calls itself", deep_maze(true)),
     ];

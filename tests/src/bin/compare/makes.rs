@@ -8,8 +8,8 @@ use second::chip::Instruction::{Jp, Jrz};
 use second::chip::{write, VECTORS};
 use second::generate::{
     call_graph, chains, dense, image_length, long_recursion, maze, p11, program, random_image,
-    repeated_calls, round_the_end, sizing, soonest, sparse, straight, Chains, Order, Program, Rng,
-    ORDERS,
+    repeated_calls, repeated_recursion, round_the_end, sizing, soonest, sparse, straight, Chains,
+    Order, Program, Rng, ORDERS,
 };
 use second::maker::{reason, Reason};
 use second::play::Call;
@@ -299,10 +299,11 @@ fn long_chains(h: &mut Harness, count: usize) {
     whole_rom(h, 4096);
 }
 
-/// The same subroutine called all the time, and long ones that call
-/// themselves, of NOPs and of branches back and on.
+/// The same subroutine called all the time, also by itself, and long ones that
+/// call themselves, of NOPs and of branches back and on.
 fn whole_rom(h: &mut Harness, length: usize) {
     expect(h, &repeated_calls(length));
+    expect(h, &repeated_recursion(length));
     expect(h, &long_recursion(length, Jrz(0)));
     expect(h, &long_recursion(length, Jrz(-2)));
 }

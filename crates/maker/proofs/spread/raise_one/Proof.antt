@@ -58,7 +58,7 @@ same-length-2 c = search needs
 returns-3 : tie.Need-returns-3
 returns-3 c =
     let at-kind-at = c .before .before .before in
-    let at-need-at = at-kind-at .before .before .before .before .before .before .before .before in
+    let at-need-at = at-kind-at .before .before .before .before .before .before .before in
     let at-if1 = at-need-at .before .before in
     raised-one _ _ refl (at-if1 .if1 .left)
     (rw (at-kind-at .kind-at .ensures, at-need-at .need-at .ensures) at (c .before .before .demand .ensures))
