@@ -18,6 +18,7 @@ macro_rules! functions {
             st62_job job(job: &[u8], line: &mut [u8]);
             st62_width width(image: &[u8], certificate: &[u8], count: u32);
             st62_make make(image: &[u8], wired: u32, out: &mut [u8]);
+            st62_read read(image: &[u8], state: &[u8], address: u32);
         }
     };
 }

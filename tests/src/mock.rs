@@ -1,17 +1,20 @@
 //! Stands in for the proved library: the same functions, on this crate's own
-//! emulator; only its certificate maker is another one. `ST62_MOCK_FAULT`
-//! names a fault to inject, so that one can see the comparison find it.
+//! emulator; only its certificate maker and its telling of origins are others.
+//! `ST62_MOCK_FAULT` names a fault to inject, so that one can see the
+//! comparison find it.
 
 mod make;
+mod origin;
 
 use crate::boundary;
 use crate::gauge::Gauged;
 use std::sync::OnceLock;
 
 pub use make::make;
+pub use origin::read;
 
 /// The faults that can be injected.
-pub const FAULTS: [&str; 38] = [
+pub const FAULTS: [&str; 76] = [
     "decode-bit",      // bit numbers unreversed
     "com-carry",       // COM leaves C clear
     "rlc-low",         // RLC shifts in 0
@@ -50,6 +53,44 @@ pub const FAULTS: [&str; 38] = [
     "make-order",      // 25 before 11
     "make-writes",     // the buffer is written with 26
     "make-keeps",      // the buffer keeps what isn't reachable
+    "origin-pointer",  // LD A,(X) and LD A,(Y) tell the pointer
+    "origin-store-x",  // LD (X),A and LD (Y),A tell the pointer
+    "origin-store-at", // LD (X),A and LD (Y),A tell where they store
+    "origin-store",    // LD rr,A tells where it stores
+    "origin-store-v",  // LD of A to X, Y, V or W tells where it stores
+    "origin-ldi",      // LDI rr tells where it stores
+    "origin-ldi-a",    // LDI A tells the accumulator
+    "origin-addi",     // ADDI, SUBI, ANDI and CPI tell the accumulator
+    "origin-add",      // ADD, SUB, AND and CP tell it in place of their source
+    "origin-com",      // COM and RLC tell it
+    "origin-ff",       // FFh as a direct operand tells none
+    "origin-by-ff",    // a pointer to FFh tells none
+    "origin-by-x",     // a pointer to X or Y tells none
+    "origin-short",    // X, Y, V and W as short operands tell none
+    "origin-jump",     // JRR and JRS tell none
+    "origin-bits",     // RES and SET tell none
+    "origin-inc",      // INC and DEC tell none
+    "origin-cp",       // CP tells none
+    "origin-after",    // told by the machine after the step
+    "origin-taken",    // a taken request tells what stands at PC
+    "origin-idle",     // an idle step tells what stands at PC
+    "origin-stop",     // a stop tells what stands at PC
+    "origin-refused",  // a refused step tells what stands at PC
+    "origin-40h",      // 40h is RAM
+    "origin-80h",      // 80h is RAM
+    "origin-page",     // ROM addresses lack their page
+    "origin-index",    // ROM addresses count from the image's first byte
+    "origin-mask",     // all bits of 0C9h are the page
+    "origin-no-rom",   // the window is ROM where the image has nothing
+    "origin-empty-at", // it has an address where the image has nothing
+    "origin-reg-at",   // a register has an address
+    "read-order",      // 2 before 1
+    "read-beyond",     // an address beyond its byte is cut to it
+    "read-8-last",     // 8 after 1 and 2
+    "read-ill-formed", // ill-formed machines are read
+    "read-packing",    // badly packed machines are read
+    "read-array",      // the window shows data bytes
+    "read-write-only", // 0C8h and 0C9h read 0
 ];
 
 fn fault() -> Option<&'static str> {
@@ -75,10 +116,11 @@ pub fn decode(image: &[u8], address: u32, out: &mut [u8]) -> u64 {
 
 /// One step, with the fault.
 pub fn step(image: &[u8], state: &mut [u8], request: u32) -> u64 {
-    let Some(name) = fault() else { return boundary::step(image, state, request) };
     let before = state.to_vec();
     let answer = boundary::step(image, state, request);
-    let taken = boundary::value(answer) == 1;
+    let answer = origin::retold(image, &before, state, answer);
+    let Some(name) = fault() else { return answer };
+    let taken = boundary::cycles(answer) == 1;
     if boundary::number(answer) != 0 || before[260] == 1 || taken {
         return answer;
     }
@@ -144,7 +186,7 @@ fn faulty_steps(image: &[u8], state: &mut [u8], requests: &[u8], n: u32) -> (u32
             return (steps, cycles, answer);
         }
         steps += 1;
-        cycles += boundary::value(answer);
+        cycles += boundary::cycles(answer);
     }
     (steps, cycles, 0)
 }

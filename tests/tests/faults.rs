@@ -6,12 +6,20 @@ use second::mock::FAULTS;
 use std::process::{Command, Output};
 use std::thread;
 
-fn compare(fault: Option<&str>) -> Output {
+/// The part that finds a fault, where the others would only take time.
+fn part_of(fault: &str) -> Option<&'static str> {
+    match fault.split('-').next() {
+        Some("make") => Some("makes"),
+        Some("origin" | "read") => Some("origins"),
+        _ => None,
+    }
+}
+
+fn compare(fault: Option<&str>, part: Option<&str>) -> Output {
     let mut command = Command::new(env!("CARGO_BIN_EXE_compare"));
     command.args(["--steps", "1000000", "--checks", "20000"]);
-    // The part `makes` finds them; the others would only take time.
-    if fault.is_some_and(|fault| fault.starts_with("make-")) {
-        command.args(["--part", "makes"]);
+    if let Some(part) = part {
+        command.args(["--part", part]);
     }
     match fault {
         Some(fault) => command.env("ST62_MOCK_FAULT", fault),
@@ -22,14 +30,14 @@ fn compare(fault: Option<&str>) -> Output {
 
 #[test]
 fn no_fault_no_difference() {
-    let output = compare(None);
+    let output = compare(None, None);
     let text = String::from_utf8_lossy(&output.stdout);
     assert!(output.status.success(), "{text}");
     assert!(!text.contains("NOT "), "{text}");
 }
 
-fn is_found(fault: &str) {
-    let output = compare(Some(fault));
+fn is_found(fault: &str, part: Option<&str>) {
+    let output = compare(Some(fault), part);
     let text = String::from_utf8_lossy(&output.stdout);
     assert_eq!(output.status.code(), Some(1), "{fault} is not found\n{text}");
     assert!(text.contains("DIFFERENCE"), "{fault}\n{text}");
@@ -42,8 +50,16 @@ fn every_fault_is_found() {
     thread::scope(|scope| {
         for first in 0..threads {
             scope.spawn(move || {
-                FAULTS.iter().skip(first).step_by(threads).for_each(|f| is_found(f))
+                FAULTS.iter().skip(first).step_by(threads).for_each(|f| is_found(f, part_of(f)))
             });
         }
     });
+}
+
+/// Every part with single steps compares the origins that they tell.
+#[test]
+fn other_parts_see_origins() {
+    for part in ["opcodes", "exhaustive", "steps", "refusals", "programs"] {
+        is_found("origin-jump", Some(part));
+    }
 }

@@ -9,7 +9,7 @@ mod fields;
 mod state;
 
 use crate::check::check as check_certificate;
-use crate::chip::{self, SIZES};
+use crate::chip::{self, DataByte, Origin, Traced, SIZES};
 use crate::gauge::{gauge, Gauged};
 use crate::maker::make as make_certificate;
 use crate::{job as jobs, Refusal};
@@ -19,6 +19,9 @@ pub use fields::{FIELDS, FORMS, FORM_NAMES, WRITTEN_FIELDS};
 pub use state::{pack, unpack, STATE};
 
 pub const REPORT: usize = 8;
+
+/// The origins by their numbers.
+pub const ORIGIN_NAMES: [&str; 5] = ["none", "RAM", "register", "ROM", "nothing"];
 
 pub fn number(answer: u64) -> u8 {
     answer as u8
@@ -87,10 +90,33 @@ pub fn step(image: &[u8], state: &mut [u8], request: u32) -> u64 {
         let mut machine = unpack(state)?;
         machine.well_formed()?;
         let request = byte(request, Refusal::Request)?;
-        let cycles = machine.step(image, request)?;
+        let Traced { cycles, origin } = machine.traced_step(image, request)?;
         pack(&machine, state);
-        Ok(cycles)
+        Ok(cycles | told(origin))
     })())
+}
+
+/// The value has the byte in its low eight bits.
+pub fn read(image: &[u8], state: &[u8], address: u32) -> u64 {
+    answer((|| {
+        let address = byte(address, Refusal::Operand)?;
+        chip::Rom::new(image)?;
+        let DataByte { byte, origin } = unpack(state)?.host_read(image, address)?;
+        Ok(byte as u32 | told(Some(origin)))
+    })())
+}
+
+/// An origin as a step and a read tell it: in a value's second byte, and the
+/// ROM address in its high half.
+fn told(origin: Option<Origin>) -> u32 {
+    let (number, rom_address) = match origin {
+        None => (0, 0),
+        Some(Origin::Ram) => (1, 0),
+        Some(Origin::Register) => (2, 0),
+        Some(Origin::Rom(address)) => (3, address),
+        Some(Origin::Nothing) => (4, 0),
+    };
+    (rom_address as u32) << 16 | number << 8
 }
 
 pub fn run(image: &[u8], state: &mut [u8], requests: &[u8], n: u32, report: &mut [u8]) -> u64 {
@@ -140,6 +166,21 @@ pub fn width(image: &[u8], certificate: &[u8], count: u32) -> u64 {
 /// The value is what the check answers for the made certificate.
 pub fn make(image: &[u8], wired: u32, out: &mut [u8]) -> u64 {
     answer(make_certificate(image, wired_byte(wired), out).map(u32::from))
+}
+
+/// The cycles of an answer of [`step`].
+pub fn cycles(answer: u64) -> u32 {
+    value(answer) & 0xFF
+}
+
+/// The origin's number in an answer of [`step`] or [`read`].
+pub fn origin(answer: u64) -> usize {
+    (value(answer) >> 8 & 0xFF) as usize
+}
+
+/// The ROM address in an answer of [`step`] or [`read`].
+pub fn rom_address(answer: u64) -> u16 {
+    (value(answer) >> 16) as u16
 }
 
 /// The width and the steps of an answer of [`width`].

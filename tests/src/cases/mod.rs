@@ -9,6 +9,7 @@ mod maker;
 mod manual;
 mod map;
 mod modes;
+mod origin;
 mod packing;
 
 use crate::chip::{Flags, Machine, Mode, SIZES};

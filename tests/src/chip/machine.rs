@@ -118,13 +118,20 @@ impl Machine {
         Some(address)
     }
 
+    /// The ROM address that a data address shows, if it lies in the window.
+    #[inline(always)]
+    pub(super) fn shown(&self, address: u8) -> Option<u16> {
+        in_window(address).then(|| {
+            let page = (self.data[WINDOW as usize] & 0x3F) as u16;
+            page * 64 + (address - 0x40) as u16
+        })
+    }
+
     #[inline(always)]
     pub(super) fn read(&self, rom: &Rom, address: u8) -> u8 {
-        if in_window(address) {
-            let page = (self.data[WINDOW as usize] & 0x3F) as u16;
-            rom.byte(page * 64 + (address - 0x40) as u16).unwrap_or(0)
-        } else {
-            self.data[address as usize]
+        match self.shown(address) {
+            Some(rom_address) => rom.byte(rom_address).unwrap_or(0),
+            None => self.data[address as usize],
         }
     }
 

@@ -4,6 +4,7 @@ mod decode;
 mod execute;
 mod instruction;
 mod machine;
+mod origin;
 mod rom;
 mod step;
 mod write;
@@ -11,8 +12,9 @@ mod write;
 pub use decode::{decode, decode_at};
 pub use instruction::{Instruction, Operand, Size, SIZES};
 pub use machine::{Flags, Machine, Mode};
+pub use origin::{DataByte, Origin};
 pub use rom::Rom;
-pub use step::{Report, MOST_STEPS};
+pub use step::{Report, Traced, MOST_STEPS};
 pub use write::write;
 
 /// Addresses have twelve bits; all program counter arithmetic is modulo this.

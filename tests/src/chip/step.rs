@@ -1,6 +1,6 @@
 //! Steps and runs: requests, sleep, and counting.
 
-use super::{Machine, Mode, Rom, IOR, NO_SOURCE, VECTORS};
+use super::{Machine, Mode, Origin, Rom, IOR, NO_SOURCE, VECTORS};
 use crate::Refusal;
 
 pub const MOST_STEPS: u32 = 65_535;
@@ -13,15 +13,46 @@ pub struct Report {
     pub stop: Option<Refusal>,
 }
 
+/// What a step did: its cycles, and the origin of the data operand that it
+/// read, if it read one.
+#[derive(Clone, Copy, PartialEq, Eq, Debug)]
+pub struct Traced {
+    pub cycles: u32,
+    pub origin: Option<Origin>,
+}
+
 impl Machine {
     /// One step with a request byte; gives its cycles.
     pub fn step(&mut self, image: &[u8], request: u8) -> Result<u32, Refusal> {
+        let rom = self.ready(image, request)?;
+        self.advance(&rom, request)
+    }
+
+    /// The same, and tells the origin of what it read (W-203). Runs don't: it
+    /// would cost them time.
+    pub fn traced_step(&mut self, image: &[u8], request: u8) -> Result<Traced, Refusal> {
+        let rom = self.ready(image, request)?;
+        // Before the step, which may change the pointer.
+        let origin = if self.executes(request) { self.operand_origin(&rom) } else { None };
+        let cycles = self.advance(&rom, request)?;
+        Ok(Traced { cycles, origin })
+    }
+
+    /// The image's ROM, if nothing refuses a step.
+    #[inline(always)]
+    fn ready<'a>(&self, image: &'a [u8], request: u8) -> Result<Rom<'a>, Refusal> {
         let rom = Rom::new(image)?;
         self.well_formed()?;
         if request & NO_SOURCE != 0 {
             return Err(Refusal::Request);
         }
-        self.advance(&rom, request)
+        Ok(rom)
+    }
+
+    /// Whether a step is that of the instruction at PC: no request is taken,
+    /// and the machine is awake.
+    fn executes(&self, request: u8) -> bool {
+        self.taken(request).is_none() && !self.asleep
     }
 
     /// `n` steps, with the list's bytes as requests and none past its end.

@@ -21,6 +21,7 @@ pub enum Call<'a> {
     Job { job: Bytes<'a>, line: usize },
     Width { image: Bytes<'a>, certificate: Bytes<'a>, count: u32 },
     Make { image: Bytes<'a>, wired: u32, out: Bytes<'a> },
+    Read { image: Bytes<'a>, state: Bytes<'a>, address: u32 },
 }
 
 impl Call<'_> {
@@ -37,16 +38,19 @@ impl Call<'_> {
             Call::Job { .. } => 7,
             Call::Width { .. } => 8,
             Call::Make { .. } => 9,
+            Call::Read { .. } => 10,
         }
     }
 
-    /// What is lent to the call: the state, and the buffer that it writes.
+    /// What is lent to the call: the state, also where it is only read, and
+    /// the buffer that it writes.
     fn lent(&self) -> (Lent, Lent) {
         let state = match self {
             Call::Reset { state }
             | Call::Store { state, .. }
             | Call::Step { state, .. }
-            | Call::Run { state, .. } => Lent::holding(state),
+            | Call::Run { state, .. }
+            | Call::Read { state, .. } => Lent::holding(state),
             _ => Lent::none(),
         };
         let out = match self {
@@ -79,6 +83,7 @@ impl Call<'_> {
                 (library.width)(image, certificate, *count)
             }
             Call::Make { image, wired, .. } => (library.make)(image, *wired, out.buffer()),
+            Call::Read { image, address, .. } => (library.read)(image, state.bytes(), *address),
         };
         Outcome { answer, state, out }
     }
@@ -124,6 +129,9 @@ impl Call<'_> {
             Call::Make { image, wired, out } => {
                 Call::Make { image: own(image), wired, out: own(out) }
             }
+            Call::Read { image, state, address } => {
+                Call::Read { image: own(image), state: own(state), address }
+            }
         }
     }
 
@@ -133,7 +141,9 @@ impl Call<'_> {
             Call::Decode { image, .. } => vec![image.to_mut()],
             Call::Write { fields, .. } => vec![fields.to_mut()],
             Call::Reset { state } | Call::Store { state, .. } => vec![state.to_mut()],
-            Call::Step { image, state, .. } => vec![state.to_mut(), image.to_mut()],
+            Call::Step { image, state, .. } | Call::Read { image, state, .. } => {
+                vec![state.to_mut(), image.to_mut()]
+            }
             Call::Run { image, state, requests, .. } => {
                 vec![requests.to_mut(), state.to_mut(), image.to_mut()]
             }
@@ -148,7 +158,7 @@ impl Call<'_> {
     /// The numbers of the call, to be made smaller.
     pub(super) fn numbers(&mut self) -> Vec<&mut u32> {
         match self {
-            Call::Decode { address, .. } => vec![address],
+            Call::Decode { address, .. } | Call::Read { address, .. } => vec![address],
             Call::Store { address, value, .. } => vec![address, value],
             Call::Step { request, .. } => vec![request],
             Call::Run { n, .. } => vec![n],

@@ -58,6 +58,7 @@ impl Call<'_> {
             }
             Call::Job { line, .. } => format!(" with a line of {line} bytes"),
             Call::Width { count, .. } => format!(" with count {count:X}h"),
+            Call::Read { address, .. } => format!(" at {address:X}h"),
         }
     }
 }
@@ -69,7 +70,9 @@ impl fmt::Display for Call<'_> {
             Call::Decode { image, .. } => show(f, "image", image, base(image)),
             Call::Write { .. } => Ok(()),
             Call::Reset { state } | Call::Store { state, .. } => show(f, "state", state, 0),
-            Call::Step { image, state, .. } => show_state(f, state, image),
+            Call::Step { image, state, .. } | Call::Read { image, state, .. } => {
+                show_state(f, state, image)
+            }
             Call::Run { image, state, requests, .. } => {
                 show(f, "requests", requests, 0)?;
                 show_state(f, state, image)

@@ -136,7 +136,7 @@ impl Work for Steps {
             Side::Proved => steps(image, proved, times, proved::step),
             Side::Second => {
                 for _ in 0..times {
-                    assert!(black_box(second.step(black_box(image), 0)).is_ok());
+                    assert!(black_box(second.traced_step(black_box(image), 0)).is_ok());
                 }
             }
             Side::Packed => steps(image, packed, times, boundary::step),

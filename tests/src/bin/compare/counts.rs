@@ -1,6 +1,7 @@
 //! Counts what was compared, and prints it.
 
 use crate::make_counts::MakeCounts;
+use crate::origin_counts::OriginCounts;
 use crate::width_counts::WidthCounts;
 use second::boundary::{self, FIELDS, FORMS, FORM_NAMES};
 use second::chip::Rom;
@@ -28,6 +29,7 @@ pub struct Counts {
     lines: [u64; NUMBERS + 1],
     pub widths: WidthCounts,
     pub makes: MakeCounts,
+    origins: OriginCounts,
     pub unused_differ: u64,
     pub demand3_calls: u64,
     form_of: [Option<u8>; 256],
@@ -49,6 +51,7 @@ impl Counts {
             lines: [0; NUMBERS + 1],
             widths: WidthCounts::new(),
             makes: MakeCounts::new(),
+            origins: OriginCounts::new(),
             unused_differ: 0,
             demand3_calls: 0,
             form_of: forms_by_opcode(),
@@ -69,21 +72,28 @@ impl Counts {
                 self.widths.add(image, certificate, outcome.answer);
             }
             Call::Make { image, wired, .. } => self.makes.add(image, *wired, outcome.answer),
+            Call::Step { image, state, .. } => self.add_step(image, state, outcome.answer),
+            Call::Read { image, .. } => self.origins.add_read(image, outcome.answer),
             _ if number != 0 => {}
             Call::Decode { .. } => self.decoded_forms[outcome.out.bytes()[0] as usize] += 1,
             Call::Write { fields, .. } => self.written_forms[fields[0] as usize] += 1,
-            Call::Step { image, state, .. } => match value {
-                0 => self.idle += 1,
-                1 => self.taken += 1,
-                _ => {
-                    let pc = u16::from_le_bytes([state[256], state[257]]);
-                    let rom = Rom::new(image).expect("the step was not refused");
-                    self.step_forms[self.form_at(&rom, pc)] += 1;
-                }
-            },
             Call::Check { .. } => self.levels[value as usize] += 1,
             Call::Job { .. } => self.lines[line_number(outcome.out.bytes())] += 1,
             _ => {}
+        }
+    }
+
+    fn add_step(&mut self, image: &[u8], state: &[u8], answer: u64) {
+        self.origins.add_step(image, state, answer);
+        match boundary::cycles(answer) {
+            _ if boundary::number(answer) != 0 => {}
+            0 => self.idle += 1,
+            1 => self.taken += 1,
+            _ => {
+                let pc = u16::from_le_bytes([state[256], state[257]]);
+                let rom = Rom::new(image).expect("the step was not refused");
+                self.step_forms[self.form_at(&rom, pc)] += 1;
+            }
         }
     }
 
@@ -146,6 +156,7 @@ impl Counts {
         println!("lines of jobs: accepted {accepted}; refused{}", listed(&refused));
         self.widths.print();
         self.makes.print();
+        self.origins.print();
         println!("calls that demand 3 speaks of, all as it says: {}", self.demand3_calls);
         println!("calls that differ only in return addresses not in use: {}", self.unused_differ);
         self.print_not_met();
@@ -168,6 +179,7 @@ impl Counts {
         }
         self.widths.print_not_met();
         self.makes.print_not_met();
+        self.origins.print_not_met();
     }
 }
 

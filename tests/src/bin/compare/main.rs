@@ -8,6 +8,8 @@ mod jobs;
 mod machines;
 mod make_counts;
 mod makes;
+mod origin_counts;
+mod origins;
 mod programs;
 mod refusals;
 mod width_counts;
@@ -88,6 +90,7 @@ fn run_parts(h: &mut Harness, options: &Options) -> usize {
     part("programs", &mut |h| programs::programs(h, options.steps));
     part("widths", &mut |h| widths::widths(h, scale(300)));
     part("makes", &mut |h| makes::makes(h, scale(1000)));
+    part("origins", &mut |h| origins::origins(h, scale(20_000)));
     parts
 }
 

@@ -34,7 +34,7 @@ fn bad_call(rng: &mut Rng, valid: &Program) -> Call<'static> {
         spoil(rng, &mut state);
     }
     let small = rng.below(12);
-    match rng.below(7) {
+    match rng.below(8) {
         0 => bad_decode(rng, image, small),
         1 => bad_write(rng),
         2 => {
@@ -43,6 +43,7 @@ fn bad_call(rng: &mut Rng, valid: &Program) -> Call<'static> {
         }
         3 => Call::Step { image: Owned(image), state: Owned(state), request: number(rng, 1) },
         4 | 5 => bad_run(rng, image, state, small),
+        6 => Call::Read { image: Owned(image), state: Owned(state), address: number(rng, 0x20) },
         _ => {
             if rng.chance(30) && !certificate.is_empty() {
                 let index = rng.below(certificate.len());

@@ -1,0 +1,193 @@
+//! Counts where data bytes came from, in steps and in reads.
+
+use crate::counts::listed;
+use second::boundary::{self, FIELDS, FORMS, FORM_NAMES, ORIGIN_NAMES};
+use second::chip::{SIZES, SPACE};
+
+/// What `read` answers: done, or one of its refusals.
+const ANSWERS: [usize; 4] = [0, 1, 2, 8];
+/// The forms that read a data operand.
+const READING: [&str; 11] =
+    ["JRR", "JRS", "RES", "SET", "LD-A", "INC", "DEC", "ADD", "SUB", "AND", "CP"];
+/// The kinds of operand as fields have them; 0 is a data address that belongs
+/// to the form, or none at all.
+const KINDS: [&str; 5] = ["", " direct", " short", " (X)", " (Y)"];
+const SHORT: u8 = 2;
+
+type ByOrigin = [u64; ORIGIN_NAMES.len()];
+
+pub struct OriginCounts {
+    /// Executed instructions by form and kind of operand.
+    executed: [[ByOrigin; KINDS.len()]; FORMS],
+    /// Taken requests and idle steps.
+    not_executed: u64,
+    reads: ByOrigin,
+    /// By number.
+    answers: [u64; 256],
+    /// ROM addresses that were told, in 2K and 4K images.
+    by_steps: Addresses,
+    by_reads: Addresses,
+}
+
+impl OriginCounts {
+    pub fn new() -> Self {
+        OriginCounts {
+            executed: [[[0; ORIGIN_NAMES.len()]; KINDS.len()]; FORMS],
+            not_executed: 0,
+            reads: [0; ORIGIN_NAMES.len()],
+            answers: [0; 256],
+            by_steps: Addresses::none(),
+            by_reads: Addresses::none(),
+        }
+    }
+
+    /// Counts a step of the second emulator. It must tell what reading its
+    /// operand before it tells.
+    pub fn add_step(&mut self, image: &[u8], state: &[u8], answer: u64) {
+        if boundary::number(answer) != 0 {
+            assert_eq!(boundary::value(answer), 0, "a refused or stopped step tells nothing");
+            return;
+        }
+        if boundary::cycles(answer) < 2 {
+            assert_eq!(answer >> 32, 0, "a taken request and an idle step tell none");
+            self.not_executed += 1;
+            return;
+        }
+        let pc = u16::from_le_bytes([state[256], state[257]]);
+        let mut fields = [0; FIELDS];
+        boundary::decode(image, pc as u32, &mut fields);
+        let read = operand(fields, state).map_or(0, |at| boundary::read(image, state, at as u32));
+        assert_eq!(answer >> 32, read >> 32, "a step tells its operand's origin");
+        let [form, kind, ..] = fields.map(usize::from);
+        self.executed[form][kind][boundary::origin(answer)] += 1;
+        self.by_steps.add(image, answer);
+    }
+
+    pub fn add_read(&mut self, image: &[u8], answer: u64) {
+        let number = boundary::number(answer);
+        self.answers[number as usize] += 1;
+        if number == 0 {
+            self.reads[boundary::origin(answer)] += 1;
+            self.by_reads.add(image, answer);
+        }
+    }
+
+    fn of_form(&self, form: usize) -> ByOrigin {
+        let mut sums = [0; ORIGIN_NAMES.len()];
+        for counts in &self.executed[form] {
+            sums.iter_mut().zip(counts).for_each(|(sum, count)| *sum += count);
+        }
+        sums
+    }
+
+    pub fn print(&self) {
+        let mut all = [self.not_executed, 0, 0, 0, 0];
+        for form in 0..FORMS {
+            all.iter_mut().zip(self.of_form(form)).for_each(|(sum, count)| *sum += count);
+        }
+        println!("single steps by origin:{}", named(&all));
+        for (form, name) in FORM_NAMES.iter().enumerate().filter(|(_, name)| reads(name)) {
+            println!("  {name:4}{}", named(&self.of_form(form)));
+        }
+        let others = (0..FORMS).filter(|&form| !reads(FORM_NAMES[form]));
+        let none: u64 = others.map(|form| self.of_form(form)[0]).sum();
+        println!("  the other forms: none {none}; not executed: none {}", self.not_executed);
+        println!("reads by origin:{}; by number{}", named(&self.reads), listed(&self.answers));
+        let (by_steps, by_reads) = (self.by_steps.count(), self.by_reads.count());
+        println!("ROM addresses told in 2K and 4K: by steps {by_steps:?}, by reads {by_reads:?}");
+    }
+
+    pub fn print_not_met(&self) {
+        let mut missing = self.steps_not_met();
+        let read = |&origin: &usize| self.reads[origin] == 0;
+        missing.extend((1..5).filter(read).map(|origin| format!("read {}", ORIGIN_NAMES[origin])));
+        let answer = |number: &&usize| self.answers[**number] == 0;
+        missing.extend(ANSWERS.iter().filter(answer).map(|number| format!("read's {number}")));
+        for (what, told) in [("steps", &self.by_steps), ("reads", &self.by_reads)] {
+            if told.count() != [2048, 4096] {
+                missing.push(format!("all ROM addresses by {what}"));
+            }
+        }
+        if !missing.is_empty() {
+            println!("NOT MET: origins: {}", missing.join(", "));
+        }
+    }
+
+    /// Forms with operands, as the opcode map has them, and origins that they
+    /// can have and that no step told.
+    fn steps_not_met(&self) -> Vec<String> {
+        let mut missing = Vec::new();
+        for [form, kind] in forms_and_kinds() {
+            let name = FORM_NAMES[form as usize];
+            let possible = match kind {
+                _ if !reads(name) => 0..1,
+                SHORT => 2..3,
+                _ => 1..5,
+            };
+            let counts = self.executed[form as usize][kind as usize];
+            for origin in possible.filter(|&origin| counts[origin] == 0) {
+                missing.push(format!("{name}{} {}", KINDS[kind as usize], ORIGIN_NAMES[origin]));
+            }
+        }
+        if self.not_executed == 0 {
+            missing.push("taken or idle".to_string());
+        }
+        missing
+    }
+}
+
+fn reads(form: &str) -> bool {
+    READING.contains(&form)
+}
+
+/// The data address that an instruction reads.
+fn operand([form, kind, low, ..]: [u8; FIELDS], state: &[u8]) -> Option<u8> {
+    reads(FORM_NAMES[form as usize]).then(|| match KINDS[kind as usize] {
+        " short" => 0x80 + low,
+        " (X)" => state[0x80],
+        " (Y)" => state[0x81],
+        _ => low,
+    })
+}
+
+/// Each form of the opcode map with each kind of operand that it has.
+fn forms_and_kinds() -> Vec<[u8; 2]> {
+    let mut all = Vec::new();
+    let mut image = vec![0; 4096];
+    for opcode in (0..=255u8).filter(|&opcode| SIZES[opcode as usize].length > 0) {
+        image[0] = opcode;
+        let mut fields = [0; FIELDS];
+        boundary::decode(&image, 0, &mut fields);
+        let [form, kind, ..] = fields;
+        if !all.contains(&[form, kind]) {
+            all.push([form, kind]);
+        }
+    }
+    all
+}
+
+/// The counts that aren't 0, each with its origin.
+fn named(counts: &ByOrigin) -> String {
+    let counted = ORIGIN_NAMES.iter().zip(counts).filter(|(_, &count)| count > 0);
+    counted.map(|(name, count)| format!(" {name} {count}")).collect()
+}
+
+/// ROM addresses of 2K and of 4K images.
+struct Addresses([Vec<bool>; 2]);
+
+impl Addresses {
+    fn none() -> Self {
+        Addresses([(); 2].map(|_| vec![false; SPACE as usize]))
+    }
+
+    fn add(&mut self, image: &[u8], answer: u64) {
+        if ORIGIN_NAMES[boundary::origin(answer)] == "ROM" {
+            let of_length = &mut self.0[(image.len() == 4096) as usize];
+            of_length[boundary::rom_address(answer) as usize] = true;
+        }
+    }
+
+    fn count(&self) -> [usize; 2] {
+        [0, 1].map(|length| self.0[length].iter().filter(|&&told| told).count())
+    }
+}
