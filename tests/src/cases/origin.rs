@@ -231,7 +231,7 @@ fn requests_sleep_and_stops() {
     assert_eq!(boundary::step(&rom, &mut state, 0), 4 | 0xFFE << 8);
 }
 
-/// A step that tells does what a step does.
+/// A run, which tells none, does what a step does.
 #[test]
 fn telling_changes_nothing() {
     let mut rng = Rng::new(7);
@@ -242,7 +242,9 @@ fn telling_changes_nothing() {
             let mut told = m.clone();
             let request = generate::request(&mut rng);
             let cycles = told.traced_step(&rom, request).map(|traced| traced.cycles);
-            assert_eq!((m.step(&rom, request), &m), (cycles, &told));
+            let ran = m.run(&rom, &[request], 1);
+            let ran = ran.and_then(|report| report.stop.map_or(Ok(report.cycles), Err));
+            assert_eq!((ran, &m), (cycles, &told));
         }
     }
 }

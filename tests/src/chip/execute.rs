@@ -1,14 +1,14 @@
 //! The effect of each instruction.
 
 use super::rom::Fetched;
-use super::{displaced, wrap, Flags, Machine, Mode, Rom, Size, A, SIZES, X, Y};
+use super::{displaced, wrap, Flags, Machine, Mode, Rom, Size, Traced, A, SIZES, X, Y};
 use crate::Refusal;
 
 impl Machine {
     /// Executes the instruction at PC. Everything that may stop comes before
     /// the first change.
     #[inline(always)]
-    pub(super) fn execute(&mut self, rom: &Rom) -> Result<u32, Refusal> {
+    pub(super) fn execute(&mut self, rom: &Rom) -> Result<Traced, Refusal> {
         let code = Fetched::at(rom, self.pc)?;
         let Size { length, cycles } = SIZES[code.opcode as usize];
         let next = wrap(self.pc + length as u16);
@@ -40,7 +40,15 @@ impl Machine {
             _ => self.column_f(&code, pair)?,
         }
         self.pc = go_on;
-        Ok(cycles as u32)
+        Ok(Traced { cycles: cycles as u32, origin: code.origin.get() })
+    }
+
+    /// Reads the data operand, and notes where it came from. Pointers, and an
+    /// accumulator that isn't the operand, are read in other ways.
+    #[inline(always)]
+    fn operand(&self, code: &Fetched, address: u8) -> u8 {
+        code.origin.set(Some(self.origin(code.rom, address)));
+        self.read(code.rom, address)
     }
 
     /// JRR and JRS; gives the address to go on at.
@@ -48,7 +56,7 @@ impl Machine {
     fn bit_jump(&mut self, code: &Fetched, pair: usize, next: u16) -> Result<u16, Refusal> {
         let address = code.second()?;
         let displacement = code.third()? as i8;
-        let set = self.read(code.rom, address) >> code.bit_number() & 1 != 0;
+        let set = self.operand(code, address) >> code.bit_number() & 1 != 0;
         self.flags[pair].c = set;
         if set == code.odd_row() {
             Ok(displaced(wrap(code.address + 2), displacement))
@@ -62,7 +70,7 @@ impl Machine {
     fn bit_change(&mut self, code: &Fetched) -> Result<(), Refusal> {
         let address = code.second()?;
         let mask = 1 << code.bit_number();
-        let byte = self.read(code.rom, address);
+        let byte = self.operand(code, address);
         self.store(address, if code.odd_row() { byte | mask } else { byte & !mask });
         Ok(())
     }
@@ -71,8 +79,8 @@ impl Machine {
     fn column_5(&mut self, code: &Fetched, pair: usize) -> Result<(), Refusal> {
         let register = X + code.register();
         match code.opcode {
-            0x15 | 0x55 | 0x95 | 0xD5 => self.change(code.rom, pair, register, 1),
-            0x35 | 0x75 | 0xB5 | 0xF5 => self.move_to(pair, A, self.read(code.rom, register)),
+            0x15 | 0x55 | 0x95 | 0xD5 => self.change(code, pair, register, 1),
+            0x35 | 0x75 | 0xB5 | 0xF5 => self.move_to(pair, A, self.operand(code, register)),
             _ => return Err(code.undefined()),
         }
         Ok(())
@@ -80,21 +88,21 @@ impl Machine {
 
     #[inline(always)]
     fn column_7(&mut self, code: &Fetched, pair: usize) -> Result<(), Refusal> {
-        let (rom, by_x) = (code.rom, self.data[X as usize]);
+        let by_x = self.data[X as usize];
         match code.opcode {
-            0x07 => self.move_to(pair, A, self.read(rom, by_x)),
+            0x07 => self.move_to(pair, A, self.operand(code, by_x)),
             0x17 => self.move_to(pair, A, code.second()?),
-            0x27 => self.compare(pair, self.read(rom, by_x)),
+            0x27 => self.compare(pair, self.operand(code, by_x)),
             0x37 => self.compare(pair, code.second()?),
-            0x47 => self.add(pair, self.read(rom, by_x)),
+            0x47 => self.add(pair, self.operand(code, by_x)),
             0x57 => self.add(pair, code.second()?),
-            0x67 => self.change(rom, pair, by_x, 1),
+            0x67 => self.change(code, pair, by_x, 1),
             0x87 => self.move_to(pair, by_x, self.a()),
-            0xA7 => self.and(pair, self.read(rom, by_x)),
+            0xA7 => self.and(pair, self.operand(code, by_x)),
             0xB7 => self.and(pair, code.second()?),
-            0xC7 => self.subtract(pair, self.read(rom, by_x)),
+            0xC7 => self.subtract(pair, self.operand(code, by_x)),
             0xD7 => self.subtract(pair, code.second()?),
-            0xE7 => self.change(rom, pair, by_x, -1),
+            0xE7 => self.change(code, pair, by_x, -1),
             _ => return Err(code.undefined()),
         }
         Ok(())
@@ -105,7 +113,7 @@ impl Machine {
     fn column_d(&mut self, code: &Fetched, pair: usize, next: u16) -> Result<u16, Refusal> {
         let register = X + code.register();
         match code.opcode {
-            0x1D | 0x5D | 0x9D | 0xDD => self.change(code.rom, pair, register, -1),
+            0x1D | 0x5D | 0x9D | 0xDD => self.change(code, pair, register, -1),
             0x3D | 0x7D | 0xBD | 0xFD => self.move_to(pair, register, self.a()),
             0x0D => {
                 let (address, value) = (code.second()?, code.third()?);
@@ -123,24 +131,24 @@ impl Machine {
 
     #[inline(always)]
     fn column_f(&mut self, code: &Fetched, pair: usize) -> Result<(), Refusal> {
-        let (rom, by_y) = (code.rom, self.data[Y as usize]);
+        let by_y = self.data[Y as usize];
         match code.opcode {
-            0x0F => self.move_to(pair, A, self.read(rom, by_y)),
-            0x1F => self.move_to(pair, A, self.read(rom, code.second()?)),
-            0x2F => self.compare(pair, self.read(rom, by_y)),
-            0x3F => self.compare(pair, self.read(rom, code.second()?)),
-            0x4F => self.add(pair, self.read(rom, by_y)),
-            0x5F => self.add(pair, self.read(rom, code.second()?)),
-            0x6F => self.change(rom, pair, by_y, 1),
-            0x7F => self.change(rom, pair, code.second()?, 1),
+            0x0F => self.move_to(pair, A, self.operand(code, by_y)),
+            0x1F => self.move_to(pair, A, self.operand(code, code.second()?)),
+            0x2F => self.compare(pair, self.operand(code, by_y)),
+            0x3F => self.compare(pair, self.operand(code, code.second()?)),
+            0x4F => self.add(pair, self.operand(code, by_y)),
+            0x5F => self.add(pair, self.operand(code, code.second()?)),
+            0x6F => self.change(code, pair, by_y, 1),
+            0x7F => self.change(code, pair, code.second()?, 1),
             0x8F => self.move_to(pair, by_y, self.a()),
             0x9F => self.move_to(pair, code.second()?, self.a()),
-            0xAF => self.and(pair, self.read(rom, by_y)),
-            0xBF => self.and(pair, self.read(rom, code.second()?)),
-            0xCF => self.subtract(pair, self.read(rom, by_y)),
-            0xDF => self.subtract(pair, self.read(rom, code.second()?)),
-            0xEF => self.change(rom, pair, by_y, -1),
-            0xFF => self.change(rom, pair, code.second()?, -1),
+            0xAF => self.and(pair, self.operand(code, by_y)),
+            0xBF => self.and(pair, self.operand(code, code.second()?)),
+            0xCF => self.subtract(pair, self.operand(code, by_y)),
+            0xDF => self.subtract(pair, self.operand(code, code.second()?)),
+            0xEF => self.change(code, pair, by_y, -1),
+            0xFF => self.change(code, pair, code.second()?, -1),
             _ => return Err(code.undefined()),
         }
         Ok(())
@@ -172,8 +180,8 @@ impl Machine {
 
     /// INC and DEC.
     #[inline(always)]
-    fn change(&mut self, rom: &Rom, pair: usize, address: u8, by: i8) {
-        let byte = self.read(rom, address).wrapping_add_signed(by);
+    fn change(&mut self, code: &Fetched, pair: usize, address: u8, by: i8) {
+        let byte = self.operand(code, address).wrapping_add_signed(by);
         self.move_to(pair, address, byte);
     }
 

@@ -1,7 +1,8 @@
 //! Program space: an image seen by program address.
 
-use super::wrap;
+use super::{wrap, Origin};
 use crate::Refusal;
+use std::cell::Cell;
 
 /// An image of an allowed length, seen by program address.
 #[derive(Clone, Copy)]
@@ -38,13 +39,15 @@ pub(super) struct Fetched<'a> {
     pub rom: &'a Rom<'a>,
     pub address: u16,
     pub opcode: u8,
+    /// Where the data operand came from, once the machine has read one.
+    pub origin: Cell<Option<Origin>>,
 }
 
 impl<'a> Fetched<'a> {
     #[inline(always)]
     pub fn at(rom: &'a Rom<'a>, address: u16) -> Result<Self, Refusal> {
         let opcode = rom.byte(address).ok_or(Refusal::OutsideRom(address))?;
-        Ok(Fetched { rom, address, opcode })
+        Ok(Fetched { rom, address, opcode, origin: Cell::new(None) })
     }
 
     #[inline(always)]

@@ -24,35 +24,17 @@ pub struct Traced {
 impl Machine {
     /// One step with a request byte; gives its cycles.
     pub fn step(&mut self, image: &[u8], request: u8) -> Result<u32, Refusal> {
-        let rom = self.ready(image, request)?;
-        self.advance(&rom, request)
+        self.traced_step(image, request).map(|traced| traced.cycles)
     }
 
-    /// The same, and tells the origin of what it read (W-203). Runs don't: it
-    /// would cost them time.
+    /// The same, and tells the origin of what it read.
     pub fn traced_step(&mut self, image: &[u8], request: u8) -> Result<Traced, Refusal> {
-        let rom = self.ready(image, request)?;
-        // Before the step, which may change the pointer.
-        let origin = if self.executes(request) { self.operand_origin(&rom) } else { None };
-        let cycles = self.advance(&rom, request)?;
-        Ok(Traced { cycles, origin })
-    }
-
-    /// The image's ROM, if nothing refuses a step.
-    #[inline(always)]
-    fn ready<'a>(&self, image: &'a [u8], request: u8) -> Result<Rom<'a>, Refusal> {
         let rom = Rom::new(image)?;
         self.well_formed()?;
         if request & NO_SOURCE != 0 {
             return Err(Refusal::Request);
         }
-        Ok(rom)
-    }
-
-    /// Whether a step is that of the instruction at PC: no request is taken,
-    /// and the machine is awake.
-    fn executes(&self, request: u8) -> bool {
-        self.taken(request).is_none() && !self.asleep
+        self.advance(&rom, request)
     }
 
     /// `n` steps, with the list's bytes as requests and none past its end.
@@ -69,7 +51,7 @@ impl Machine {
         let mut report = Report { steps: 0, cycles: 0, stop: None };
         for &request in requests {
             match self.advance(&rom, request) {
-                Ok(cycles) => report.cycles += cycles,
+                Ok(traced) => report.cycles += traced.cycles,
                 Err(stop) => {
                     report.stop = Some(stop);
                     return Ok(report);
@@ -79,7 +61,7 @@ impl Machine {
         }
         while report.steps < n {
             match self.advance(&rom, 0) {
-                Ok(cycles) => report.cycles += cycles,
+                Ok(traced) => report.cycles += traced.cycles,
                 Err(stop) => {
                     report.stop = Some(stop);
                     return Ok(report);
@@ -107,14 +89,14 @@ impl Machine {
     /// A step of a well-formed machine with a good request byte. A stop
     /// leaves the machine as it was.
     #[inline(always)]
-    fn advance(&mut self, rom: &Rom, request: u8) -> Result<u32, Refusal> {
+    fn advance(&mut self, rom: &Rom, request: u8) -> Result<Traced, Refusal> {
         if request != 0 {
             if let Some(source) = self.taken(request) {
                 return self.interrupt(source);
             }
         }
         if self.asleep {
-            return Ok(0);
+            return Ok(Traced { cycles: 0, origin: None });
         }
         self.execute(rom)
     }
@@ -132,7 +114,7 @@ impl Machine {
         }
     }
 
-    fn interrupt(&mut self, source: usize) -> Result<u32, Refusal> {
+    fn interrupt(&mut self, source: usize) -> Result<Traced, Refusal> {
         self.push(self.pc).ok_or(Refusal::StackFull(self.pc))?;
         self.mode = match (source, self.mode) {
             (0, Mode::Interrupt) => Mode::NmiOverInterrupt,
@@ -141,6 +123,6 @@ impl Machine {
         };
         self.pc = VECTORS[source];
         self.asleep = false;
-        Ok(1)
+        Ok(Traced { cycles: 1, origin: None })
     }
 }

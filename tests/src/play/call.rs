@@ -88,6 +88,14 @@ impl Call<'_> {
         Outcome { answer, state, out }
     }
 
+    /// Whether a state that was lent only to be read is what it was.
+    pub fn keeps_state(&self, outcome: &Outcome) -> bool {
+        match self {
+            Call::Read { state, .. } => outcome.state.bytes() == &state[..],
+            _ => true,
+        }
+    }
+
     /// Whether two calls are given the same bytes.
     pub fn same_bytes(&self, other: &Call) -> bool {
         let strings = |call: &Self| call.clone().into_owned().strings_owned();

@@ -29,7 +29,7 @@ impl Harness {
         self.turn = self.turn.wrapping_add(1);
         let kept = self.turn.is_multiple_of(READ_ONLY_EVERY).then(|| call.clone().into_owned());
         let proved = call.play(&PROVED);
-        if kept.is_some_and(|kept| !kept.same_bytes(&call)) {
+        if kept.is_some_and(|kept| !kept.same_bytes(&call)) || !call.keeps_state(&proved) {
             println!("WRITTEN TO BYTES LENT FOR READING\n{call}");
             exit(1);
         }

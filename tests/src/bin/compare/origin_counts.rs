@@ -89,9 +89,11 @@ impl OriginCounts {
         for (form, name) in FORM_NAMES.iter().enumerate().filter(|(_, name)| reads(name)) {
             println!("  {name:4}{}", named(&self.of_form(form)));
         }
-        let others = (0..FORMS).filter(|&form| !reads(FORM_NAMES[form]));
-        let none: u64 = others.map(|form| self.of_form(form)[0]).sum();
-        println!("  the other forms: none {none}; not executed: none {}", self.not_executed);
+        print!("  none by form:");
+        for (form, name) in FORM_NAMES.iter().enumerate().filter(|(_, name)| !reads(name)) {
+            print!(" {name}:{}", self.of_form(form)[0]);
+        }
+        println!(", by requests taken and idle steps: {}", self.not_executed);
         println!("reads by origin:{}; by number{}", named(&self.reads), listed(&self.answers));
         let (by_steps, by_reads) = (self.by_steps.count(), self.by_reads.count());
         println!("ROM addresses told in 2K and 4K: by steps {by_steps:?}, by reads {by_reads:?}");
