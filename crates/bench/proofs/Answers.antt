@@ -11,13 +11,13 @@ use types.Kit.{Given}
 use denote.Steps.{only}
 use denote.Struct.Laws as LL
 use denote.Enum.Laws as EL
-use Rattle.machine.specs.declared.StepAnswer.{StepAnswer}
+use Rattle.machine.specs.declared.StepReport.{StepReport}
 use Rattle.machine.specs.declared.Report.{Report}
 use Rattle.machine.specs.declared.Ending.{Ending}
 use Rattle.machine.proofs.Stepped as Stepped
 use Rattle.machine.proofs.Stepped.Laws as Stepped′
-use Rattle.machine.proofs.StepAnswer as answer
-use Rattle.machine.proofs.StepAnswer.Laws as answer′
+use Rattle.machine.proofs.StepReport as told
+use Rattle.machine.proofs.StepReport.Laws as told′
 use Rattle.machine.proofs.Ran as Ran
 use Rattle.machine.proofs.Ran.Laws as Ran′
 use Rattle.machine.proofs.Report as report
@@ -28,8 +28,8 @@ use Rattle.machine.proofs.Ending as ending
 use Rattle.machine.proofs.Ending.Laws as ending′
 use Rattle.bench.proofs.KeyWalk.{Answer}
 
-abbrev pub low-answer : StepAnswer → Val
-low-answer = EL.val answer.the-type answer′.the-laws
+abbrev pub low-told : StepReport → Val
+low-told = LL.val told.the-type told′.the-laws
 
 abbrev pub low-report : Report → Val
 low-report = LL.val report.the-type report′.the-laws
@@ -38,18 +38,18 @@ abbrev pub low-ending : Ending → Val
 low-ending = EL.val ending.the-type ending′.the-laws
 
 module _ {M : Type 1} (𝓤 : URA M) (H : Heap 𝓤) (A : Atoms 𝓤) (W : Given 𝓤 H A) where
-  abbrev pub stepped : Answer Stepped.the-row answer.the-row
+  abbrev pub stepped : Answer Stepped.the-row told.the-row
   stepped = record {
     ν = Stepped.struct .name;
-    τ = answer′.mir;
+    τ = told′.mir;
     machine = λ x. x .machine;
-    result = λ x. x .answer;
-    low = low-answer;
+    result = λ x. x .report;
+    low = low-told;
     tells = λ x v is. ap only (LL.tells Stepped.the-type Stepped′.the-laws x (v ∷ []) is);
     typed = λ x v is. LL.lawful Stepped.the-type Stepped′.the-laws 𝓤 H A W .typed x (v ∷ []) is .0;
     machine-is = λ x v is. LL.owed Stepped.the-type Stepped′.the-laws x (v ∷ []) is .0;
     result-is = λ x v is. LL.owed Stepped.the-type Stepped′.the-laws x (v ∷ []) is .1 .0;
-    result-typed = λ y is. EL.lawful answer.the-type answer′.the-laws 𝓤 H A W tt .typed y _ is .0;
+    result-typed = λ y is. LL.lawful told.the-type told′.the-laws 𝓤 H A W .typed y _ is .0;
   }
 
   abbrev pub ran : Answer Ran.the-row report.the-row

@@ -4,7 +4,7 @@
 use machine::Ending;
 use machine::Machine;
 use machine::Report;
-use machine::StepAnswer;
+use machine::StepReport;
 use machine::run::run;
 use machine::state::host_store;
 use machine::state::reset;
@@ -13,14 +13,16 @@ ghost use mathlib.Core.Path.{_≡_};
 ghost use Rattle.machine.specs.State.{resetOf, endedOf, hostStoreOf};
 ghost use Rattle.machine.specs.Step.{answerOf, stepOf};
 ghost use Rattle.machine.specs.Run.{reportOf, runOf};
+ghost use Rattle.machine.specs.Operands.{stepReadOf};
 
-pub fn key_step(m: &mut Machine, image: &[u8], request: u8) -> StepAnswer
-    ensures { λ r. ⌜ record { machine = now (m .exit); answer = answerOf r }
-        ≡ stepOf (now (image .entry)) (now (m .entry)) request ⌝ }
+pub fn key_step(m: &mut Machine, image: &[u8], request: u8) -> StepReport
+    ensures { λ r. ⌜ (record { machine = now (m .exit); answer = answerOf (r .answer) }
+        ≡ stepOf (now (image .entry)) (now (m .entry)) request)
+        × (r .read ≡ stepReadOf (now (image .entry)) (now (m .entry)) request) ⌝ }
 {
     let after = step(image, *m, request);
     *m = after.machine;
-    after.answer
+    after.report
 }
 
 pub fn key_run(m: &mut Machine, image: &[u8], requests: &[u8], n: u32) -> Report

@@ -22,7 +22,8 @@ fn image_at(at: u16, code: [u8; 3]) -> [u8; 4096] {
 fn put_step(what: &[u8], image: &[u8], m: Machine) {
     let stepped = step(image, m, 0);
     let after = stepped.machine;
-    let answer = stepped.answer;
+    let report = stepped.report;
+    let answer = report.answer;
     let control = after.control;
     put(what);
     put(b": ");

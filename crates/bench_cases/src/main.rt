@@ -1,12 +1,14 @@
 // Runs what no proof repeats: the manual's worked examples beside document 01's P1 to P12 (which
-// specs/BenchCases.antt has, proved), small programs step by step and as a run, keys pressed on one machine, the lines
-// that jobs print, the widths of programs for the gauge, and certificates as they are made.
+// specs/BenchCases.antt has, proved), small programs step by step and as a run, bytes read with their origins, keys
+// pressed on one machine, the lines that jobs print, the widths of programs for the gauge, and certificates as they are
+// made.
 mod examples;
 mod jumps;
 mod keys;
 mod lines;
 mod making;
 mod programs;
+mod readings;
 mod sample;
 mod sizing;
 mod states;
@@ -17,6 +19,7 @@ fn main() {
     examples::put_examples();
     jumps::put_jumps();
     traces::put_traces();
+    readings::put_readings();
     keys::put_keys();
     lines::put_lines();
     widths::put_widths();

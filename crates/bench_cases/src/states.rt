@@ -1,5 +1,6 @@
-// A machine's state, and a run's report, each in one line.
+// A machine's state, and a run's report, each in one line; and where a byte came from.
 use alu::Flags;
+use data::Origin;
 use machine::Ending;
 use machine::FlagPairs;
 use machine::Machine;
@@ -75,4 +76,17 @@ pub fn put_report(report: Report) {
         Ending::Refused(refusal) => put_refusal(refusal),
     }
     put(b"\n");
+}
+
+// Where a data byte came from.
+pub fn put_origin(origin: Origin) {
+    match origin {
+        Origin::Ram => put(b"RAM"),
+        Origin::Register => put(b"register"),
+        Origin::Rom(address) => {
+            put(b"ROM ");
+            put_address(address);
+        }
+        Origin::NoRom => put(b"no ROM"),
+    }
 }

@@ -1,10 +1,14 @@
-// Small programs, step by step with the machine after each step; then again as one run, with its report.
+// Small programs, step by step: the cycles, where the byte came from that the step read, and the machine after it. Then
+// again as one run, with its report.
 use crate::programs;
 use crate::programs::image_of;
+use crate::states::put_origin;
 use crate::states::put_report;
 use crate::states::put_state;
+use data::OriginRead;
 use machine::Machine;
 use machine::StepAnswer;
+use machine::StepReport;
 use machine::run::run;
 use machine::state::fresh;
 use machine::step::step;
@@ -17,11 +21,23 @@ fn request_at(requests: &[u8], i: usize) -> u8 {
     if i < requests.len() { requests[i] } else { 0 }
 }
 
-// A step's answer, and the machine that it left: whether it completed.
-fn put_step(answer: StepAnswer, after: Machine) -> bool {
+// Where the byte of a step's data operand came from, or that it read none.
+fn put_read(read: OriginRead) {
+    match read {
+        OriginRead::Nothing => put(b"none"),
+        OriginRead::From(origin) => put_origin(origin),
+    }
+}
+
+// A step's report, and the machine that it left: whether it completed.
+fn put_step(report: StepReport, after: Machine) -> bool {
+    let answer = report.answer;
+    let read = report.read;
     match answer {
         StepAnswer::Done(cycles) => {
             put_number(cycles as u32);
+            put(b"  ");
+            put_read(read);
             put(b"  ");
             put_state(after);
             true
@@ -38,9 +54,9 @@ fn put_steps(image: &[u8], requests: &[u8], n: usize) {
     let mut m = fresh();
     for i in 0..n {
         let stepped = step(image, m, request_at(requests, i));
-        let answer = stepped.answer;
+        let report = stepped.report;
         m = stepped.machine;
-        if !put_step(answer, m) {
+        if !put_step(report, m) {
             return;
         }
     }

@@ -1,4 +1,5 @@
--- Data space and the ROM window (document 01, "Program space and data space").
+-- Data space and the ROM window (document 01, "Program space and data space"), and where a byte of it comes from
+-- (document 02, W-203).
 use Prim.Native.Nat.{ℕ, _+_, _-_, _*_, _%_}
 use mathlib.Core.Bool.{Bool, cond, _&&_}
 use mathlib.Core.List.{List}
@@ -9,6 +10,8 @@ use Rattle.isa.specs.declared.rom.RomByte.{RomByte}
 use Rattle.isa.specs.declared.rom.RomByte.the-variants.{Byte, Outside}
 use Rattle.isa.specs.declared.Operand.{Operand}
 use Rattle.isa.specs.declared.Operand.the-variants.{Direct, Short, ThroughX, ThroughY}
+use Rattle.data.specs.declared.Origin.{Origin}
+use Rattle.data.specs.declared.Origin.the-variants.{Ram, Register, Rom, NoRom}
 
 -- "40h–7Fh show ROM"
 abbrev pub inWindow : ℕ → Bool
@@ -27,6 +30,17 @@ windowAddress bytes a = 64 * (getD bytes 0xC9 0 % 64) + (a - 0x40)
 unfoldable pub readOf : (image bytes : List ℕ) → (a : ℕ) → ℕ
 readOf image bytes a =
     cond (inWindow a) (shownOf (romAt image (windowAddress bytes a))) (getD bytes a 0)
+
+-- "the ROM window with its ROM address, or the window where the image has nothing"
+abbrev pub windowOrigin : (address : ℕ) → RomByte → Origin
+windowOrigin address (Byte byte) = Rom address
+windowOrigin address Outside = NoRom
+
+-- where the byte of `readOf` comes from: "RAM, a register from 80h up", or the window, at the address that is read there
+unfoldable pub originOf : (image bytes : List ℕ) → (a : ℕ) → Origin
+originOf image bytes a =
+    cond (inWindow a) (windowOrigin (windowAddress bytes a) (romAt image (windowAddress bytes a)))
+    (cond (leb 0x80 a) Register Ram)
 
 -- the one store of a data byte: in the window "a store there does nothing"
 unfoldable pub storeOf : (bytes : List ℕ) → (a value : ℕ) → List ℕ

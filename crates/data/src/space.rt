@@ -1,11 +1,14 @@
-// Data space: the one read and the one store of a data byte, and where an operand stands. The bytes are lent, by data
-// address; those under the ROM window (40h-7Fh) are never read and never change.
+// Data space: the one read and the one store of a data byte, where a byte comes from, and where an operand stands. The
+// bytes are lent, by data address; those under the ROM window (40h-7Fh) are never read and never change.
+use crate::Origin;
 use isa::Operand;
 use isa::rom::RomByte;
 use isa::rom::rom_byte;
 ghost use mathlib.Core.Path.{_≡_};
 ghost use Rattle.isa.specs.Rom.{romAt};
-ghost use Rattle.data.specs.Space.{inWindow, shownOf, readOf, storeOf, addressOf, operandOf};
+ghost use Prim.Native.Nat.{_≤_};
+ghost use Rattle.data.specs.Space.{inWindow, shownOf, windowAddress, readOf, originOf};
+ghost use Rattle.data.specs.Space.{storeOf, addressOf, operandOf};
 
 // Data addresses that the paper names: X, Y, A, the interrupt option register and the ROM window register.
 pub const X: usize = 0x80;
@@ -35,6 +38,15 @@ fn shown(image: &[u8], address: u16) -> u8
     }
 }
 
+// The program address that the ROM window shows at an address in it.
+fn window_address(bytes: &[u8; 256], address: u8) -> u16
+    requires { ⌜ 0x40 ≤ address ⌝ }
+    ensures { λ r. ⌜ r ≡ windowAddress (now (bytes .entry)) address ⌝ }
+{
+    let window = bytes[ROM_WINDOW];
+    64 * ((window % 64) as u16) + ((address - 0x40) as u16)
+}
+
 // The one read of a data byte.
 pub fn read(image: &[u8], bytes: &[u8; 256], address: u8) -> u8
     ensures { λ r. ⌜ r ≡ readOf (now (image .entry)) (now (bytes .entry)) address ⌝ }
@@ -43,11 +55,25 @@ pub fn read(image: &[u8], bytes: &[u8; 256], address: u8) -> u8
     if !is_window(address) {
         return bytes[at];
     }
-    let window = bytes[ROM_WINDOW];
-    shown(
-        image,
-        64 * ((window % 64) as u16) + ((address - 0x40) as u16),
-    )
+    shown(image, window_address(bytes, address))
+}
+
+// Where the byte that is read there comes from.
+pub fn origin(image: &[u8], bytes: &[u8; 256], address: u8) -> Origin
+    ensures { λ r. ⌜ r ≡ originOf (now (image .entry)) (now (bytes .entry)) address ⌝ }
+{
+    if is_window(address) {
+        let at = window_address(bytes, address);
+        return match rom_byte(image, at) {
+            RomByte::Byte(_) => Origin::Rom(at),
+            RomByte::Outside => Origin::NoRom,
+        };
+    }
+    if 0x80 <= address {
+        Origin::Register
+    } else {
+        Origin::Ram
+    }
 }
 
 // The one store of a data byte. In the ROM window it does nothing.

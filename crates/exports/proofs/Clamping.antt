@@ -1,6 +1,6 @@
 -- A number beyond its range is refused as the one that stands in for it.
 use Prim.Native.Nat.{ℕ}
-use mathlib.Core.Path.{_≡_, refl}
+use mathlib.Core.Path.{_≡_, refl, sym, _∙_}
 use mathlib.Core.Logic.{inl, inr}
 use mathlib.Core.Bool.{Bool, true, false, cond}
 use mathlib.Core.List.{List}
@@ -10,14 +10,19 @@ use lib.Dec.{eqb, ltb}
 use lib.ListN.{length}
 use Rattle.isa.specs.Refusals.{plain, Answer, done, refused, unless}
 use Rattle.isa.specs.Rom.{isImage}
+use Rattle.isa.specs.Sources.{namesOnlySources}
 use Rattle.isa.specs.Decode.{decodeAt}
+use Rattle.data.specs.declared.OriginRead.{OriginRead}
+use Rattle.data.specs.declared.OriginRead.the-variants.{Nothing}
 use Rattle.machine.specs.declared.Machine.{Machine}
-use Rattle.machine.specs.Step.{stepOf}
+use Rattle.machine.specs.State.{isWellFormed}
+use Rattle.machine.specs.Step.{Step, refusedOf, stepOf}
+use Rattle.machine.specs.Operands.{readWith, stepReadOf}
 use Rattle.certificate.specs.Levels.{levelsOf}
 use Rattle.certificate.specs.Findings.{fault}
 use Rattle.certificate.specs.Check.{verdict, checkOf}
 use Rattle.maker.specs.Make.{Makes}
-use Rattle.exports.specs.Lent.{Lent, MakeLent}
+use Rattle.exports.specs.Lent.{Lent, steppedLent, MakeLent}
 
 step-by : (image : List ℕ) (m : Machine) (n : ℕ) (b : Bool) → ltb n 256 ≡ b
     → stepOf image m (cond b n 255) ≡ stepOf image m n
@@ -25,8 +30,37 @@ unfolding stepOf
 step-by image m n true e = refl
 step-by image m n false e = rw (le-ltb n 32 (omega (arith, ltb-false n 256 e)))
 
-pub step-clamped : (image : List ℕ) (m : Machine) (n : ℕ) → stepOf image m (cond (ltb n 256) n 255) ≡ stepOf image m n
+step-clamped : (image : List ℕ) (m : Machine) (n : ℕ) → stepOf image m (cond (ltb n 256) n 255) ≡ stepOf image m n
 step-clamped image m n = step-by image m n (ltb n 256) refl
+
+-- a step that is refused reads none, whatever the request
+module _ (image : List ℕ) (m : Machine) where
+  by-refusal :
+      (q : ℕ) (i w : Bool) →
+      readWith image m q
+      (unless i (refusedOf m (plain 1)) (unless w (refusedOf m (plain 2)) (refusedOf m (plain 11))) .answer)
+      ≡ Nothing
+  by-refusal q true true = refl
+  by-refusal q true false = refl
+  by-refusal q false w = refl
+
+  none-read : (q : ℕ) → namesOnlySources q ≡ false → stepReadOf image m q ≡ Nothing
+  unfolding stepReadOf stepOf
+  none-read q e = rw e (by-refusal q (isImage (length image)) (isWellFormed m))
+
+  read-by : (n : ℕ) (b : Bool) → ltb n 256 ≡ b → stepReadOf image m (cond b n 255) ≡ stepReadOf image m n
+  read-by n true e = refl
+  read-by n false e = none-read 255 refl ∙ sym (none-read n (le-ltb n 32 (omega (arith, ltb-false n 256 e))))
+
+  read-clamped : (n : ℕ) → stepReadOf image m (cond (ltb n 256) n 255) ≡ stepReadOf image m n
+  read-clamped n = read-by n (ltb n 256) refl
+
+  -- so a step's answer and buffer are those of the number itself
+  pub step-lent-clamped :
+      (n : ℕ) (s : Step) (r : OriginRead) → s ≡ stepOf image m (cond (ltb n 256) n 255) →
+      r ≡ stepReadOf image m (cond (ltb n 256) n 255) →
+      steppedLent s r ≡ steppedLent (stepOf image m n) (stepReadOf image m n)
+  step-lent-clamped n s r e f = rw (e, f, step-clamped image m n, read-clamped n)
 
 -- a refusal before the levels does not depend on them
 unwired : (a b : Bool) (n k : ℕ)

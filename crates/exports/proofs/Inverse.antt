@@ -1,5 +1,5 @@
 -- Packing and unpacking undo each other; an answer's parts can be read back.
-use Prim.Native.Nat.{ℕ, zero, suc, _+_, _*_, _<_, _≤_}
+use Prim.Native.Nat.{ℕ, zero, suc, _+_, _*_, _/_, _%_, _<_, _≤_}
 use mathlib.Core.Path.{_≡_, refl, sym, ap, _∙_}
 use mathlib.Core.Bool.{Bool, true, false, cond, _&&_}
 use mathlib.Core.List.{List, [], _∷_, _++_, append-assoc}
@@ -11,13 +11,17 @@ use lib.Seq.{drop-cons, take-at, getD-append-add}
 use Rattle.isa.specs.RoundTrip.{Bytes}
 use Rattle.control.specs.declared.Mode.{Mode}
 use Rattle.control.specs.declared.Mode.the-variants.{Reset, Normal, Interrupt, NmiOverNormal, NmiOverInterrupt}
+use Rattle.data.specs.declared.Origin.the-variants.{Ram, Register, Rom, NoRom}
+use Rattle.data.specs.declared.OriginRead.{OriginRead}
+use Rattle.data.specs.declared.OriginRead.the-variants.{Nothing, From}
 use Rattle.machine.specs.declared.Machine.{Machine}
 use Rattle.certificate.proofs.Facts.{both-true}
 use Rattle.exports.specs.Every.{every}
 use Rattle.exports.specs.States.{isFlag, isValid, lowByte, highByte, flagByte, modeOf, modeNumber, controlAt}
 use Rattle.exports.specs.States.{stackAt, pairsAt, machineAt, valid, invalid, unpacked, controlBytes, stackBytes}
 use Rattle.exports.specs.States.{packed}
-use Rattle.exports.specs.Laws.{Sized, PackingInverts, WordReads, SizeReads}
+use Rattle.exports.specs.Answers.{originNumber, romAddress, originWord}
+use Rattle.exports.specs.Laws.{Sized, PackingInverts, WordReads, SizeReads, OriginReads}
 use Rattle.exports.proofs.Every.{every-holds}
 use Rattle.exports.proofs.Pasting.{valid-length}
 
@@ -237,3 +241,24 @@ word-reads = record {
 
 pub size-reads : SizeReads
 size-reads = record { width = λ w s h. omega arith; steps = λ w s h. omega arith }
+
+-- by what was read
+origin-value : (v : ℕ) (r : OriginRead) → v < 0x100 → originWord v r / 0x1000000 % 0x100 ≡ v
+origin-value v r h = omega arith
+
+origin-number : (v : ℕ) (r : OriginRead) → v < 0x100 → originWord v r / 0x100000000 % 0x100 ≡ originNumber r
+origin-number v Nothing h = omega arith
+origin-number v (From Ram) h = omega arith
+origin-number v (From Register) h = omega arith
+origin-number v (From (Rom address)) h = omega arith
+origin-number v (From NoRom) h = omega arith
+
+origin-address : (v : ℕ) (r : OriginRead) → v < 0x100 → originWord v r / 0x10000000000 ≡ romAddress r
+origin-address v Nothing h = omega arith
+origin-address v (From Ram) h = omega arith
+origin-address v (From Register) h = omega arith
+origin-address v (From (Rom address)) h = omega arith
+origin-address v (From NoRom) h = omega arith
+
+pub origin-reads : OriginReads
+origin-reads = record { value = origin-value; origin = origin-number; address = origin-address }

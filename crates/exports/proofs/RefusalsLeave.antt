@@ -19,13 +19,14 @@ use Rattle.machine.specs.declared.Machine.{Machine}
 use Rattle.data.specs.Space.{inWindow}
 use Rattle.machine.specs.State.{isWellFormed, hostStored, withByte, hostStoreOf}
 use Rattle.machine.specs.Step.{stepOf}
+use Rattle.machine.specs.Operands.{stepReadOf}
 use Rattle.maker.specs.Make.{Makes}
 use Rattle.jobs.specs.CheckJob.{jobOf}
 use Rattle.jobs.specs.Line.{lineOf}
 use Rattle.jobs.specs.Answer.{fits}
 use Rattle.exports.specs.declared.fields.Reading.{Reading}
 use Rattle.exports.specs.declared.fields.Reading.the-variants.{Is, Unreadable}
-use Rattle.exports.specs.Answers.{word, refusalWord, answerWord}
+use Rattle.exports.specs.Answers.{word, refusalWord, answerWord, stepWord}
 use Rattle.exports.specs.States.{Unpacked, valid, invalid, unpacked, packed}
 use Rattle.exports.specs.Fields.{unpackedInstruction}
 use Rattle.exports.specs.Lent.{lent, decodedLent, decodeLent, writeBy, writeLent, resetBy, resetLent, storedLent}
@@ -70,8 +71,8 @@ module _ (s : List ℕ) (bytes : Bytes s) where
   stepped :
       (image : List ℕ) (m : Machine) (request : ℕ) → unpacked s ≡ valid m → (a : Answer ℕ)
       → stepOf image m request .answer ≡ a →
-      Leaves s (lent (answerWord a) (packed (stepOf image m request .machine)))
-  stepped image m request u (done cycles) e k = absurd (k (done-number cycles))
+      Leaves s (lent (stepWord a (stepReadOf image m request)) (packed (stepOf image m request .machine)))
+  stepped image m request u (done cycles) e k = absurd (k (done-number _))
   stepped image m request u (refused r) e k =
       rw (step-keeps image m request r e) (again m u)
 

@@ -18,8 +18,9 @@ use Rattle.machine.specs.declared.Machine.{Machine}
 use Rattle.machine.specs.State.{isWellFormed}
 use Rattle.machine.specs.Step.{stepOf}
 use Rattle.machine.specs.Run.{stepsOf, requestsFit, runOf}
+use Rattle.data.specs.declared.OriginRead.{OriginRead}
 use Rattle.gauge.specs.Sleep.{sizeAs}
-use Rattle.exports.specs.Answers.{word, answerWord, sizeWord, isRefusedRun}
+use Rattle.exports.specs.Answers.{word, answerWord, originNumber, romAddress, originWord, sizeWord, isRefusedRun}
 use Rattle.exports.specs.States.{valid, unpacked, packed}
 use Rattle.exports.specs.Fields.{packedInstruction, unpackedInstruction}
 use Rattle.exports.specs.declared.fields.Reading.the-variants.{Is}
@@ -101,6 +102,13 @@ pub record WordReads : Type 0 where
 pub record SizeReads : Type 0 where
   pub width : (w s : ℕ) → w < 0x10000 → sizeWord (done (sizeAs w s)) / 0x1000000 % 0x10000 ≡ w
   pub steps : (w s : ℕ) → w < 0x10000 → sizeWord (done (sizeAs w s)) / 0x10000000000 ≡ s
+
+-- bits 24 to 31 the byte or the cycles, bits 32 to 39 the origin's number, from bit 40 the ROM address
+-- proved by origin-reads, proofs/Inverse
+pub record OriginReads : Type 0 where
+  pub value : (v : ℕ) (r : OriginRead) → v < 0x100 → originWord v r / 0x1000000 % 0x100 ≡ v
+  pub origin : (v : ℕ) (r : OriginRead) → v < 0x100 → originWord v r / 0x100000000 % 0x100 ≡ originNumber r
+  pub address : (v : ℕ) (r : OriginRead) → v < 0x100 → originWord v r / 0x10000000000 ≡ romAddress r
 
 -- a run is refused exactly where one of its own refusals applies: 1, 2, 12, 11
 -- proved by refused-runs, proofs/Runs

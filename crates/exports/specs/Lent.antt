@@ -10,14 +10,18 @@ use Rattle.isa.specs.Decode.{decodeAt}
 use Rattle.isa.specs.Decode as decode
 use Rattle.isa.specs.Write.{outcome, bufferAfter}
 use Rattle.isa.specs.Encode.{encodeOf}
+use Rattle.data.specs.declared.OriginRead.{OriginRead}
 use Rattle.machine.specs.State.{HostStore, resetOf, hostStoreOf}
 use Rattle.machine.specs.Step.{Step, stepOf}
 use Rattle.machine.specs.Run.{Run, runOf}
+use Rattle.machine.specs.Reading.{readingOf}
+use Rattle.machine.specs.Operands.{stepReadOf}
 use Rattle.maker.specs.Make.{Makes}
 use Rattle.jobs.specs.CheckJob.{jobOf}
 use Rattle.jobs.specs.Line.{lineOf}
 use Rattle.jobs.specs.Answer.{fits}
-use Rattle.exports.specs.Answers.{word, refusalWord, invalidWord, answerWord, endedWord, isRefusedRun}
+use Rattle.exports.specs.Answers.{word, refusalWord, invalidWord, answerWord, stepWord, readingWord}
+use Rattle.exports.specs.Answers.{endedWord, isRefusedRun}
 use Rattle.exports.specs.States.{Unpacked, valid, invalid, unpacked, packed}
 use Rattle.exports.specs.Fields.{decodedRow, unpackedInstruction}
 use Rattle.exports.specs.declared.fields.Reading.{Reading}
@@ -51,15 +55,24 @@ unfoldable pub storeLent : List ℕ → (a value : ℕ) → Lent
 storeLent s a value =
     cond (leb a 255 && leb value 255) (storeBy s a value (unpacked s)) (lent (refusalWord (plain 8)) s)
 
-abbrev pub steppedLent : Step → Lent
-steppedLent r = lent (answerWord (r .answer)) (packed (r .machine))
+abbrev pub steppedLent : Step → OriginRead → Lent
+steppedLent r read = lent (stepWord (r .answer) read) (packed (r .machine))
 
 abbrev pub stepBy : (image s : List ℕ) → (request : ℕ) → Unpacked → Lent
-stepBy image s request (valid m) = steppedLent (stepOf image m request)
+stepBy image s request (valid m) = steppedLent (stepOf image m request) (stepReadOf image m request)
 stepBy image s request invalid = lent (invalidWord image) s
 
 unfoldable pub stepLent : (image s : List ℕ) → (request : ℕ) → Lent
 stepLent image s request = stepBy image s request (unpacked s)
+
+-- W-203: a reading is lent the state to look at alone; an invalid one is refused with 2, after 1
+abbrev pub readBy : (image : List ℕ) → (a : ℕ) → Unpacked → ℕ
+readBy image a (valid m) = readingWord (readingOf image m a)
+readBy image a invalid = invalidWord image
+
+-- an address beyond its byte is refused with 8, first
+unfoldable pub readWord : (image s : List ℕ) → (a : ℕ) → ℕ
+readWord image s a = cond (leb a 255) (readBy image a (unpacked s)) (refusalWord (plain 8))
 
 -- a run's answer, and state and report after it
 pub record LentRun : Type 0 where

@@ -13,6 +13,7 @@ use answers::ending_word;
 use answers::invalid_state;
 use answers::is_refused;
 use answers::made_word;
+use answers::read_word;
 use answers::refused;
 use answers::sizing_word;
 use answers::step_word;
@@ -44,7 +45,7 @@ ghost use mathlib.Core.Path.{_≡_};
 ghost use Rattle.certificate.specs.Check.{checkOf};
 ghost use Rattle.exports.specs.Answers.{answerWord, widthWord};
 ghost use Rattle.exports.specs.Lent.{lent, lentRun, decodeLent, writeLent, resetLent, storeLent, stepLent};
-ghost use Rattle.exports.specs.Lent.{runLent, jobLent, MakeLent};
+ghost use Rattle.exports.specs.Lent.{readWord, runLent, jobLent, MakeLent};
 
 // Decodes at an address of the image into `out`.
 #[no_mangle]
@@ -120,9 +121,23 @@ pub extern "C" fn st62_step(image: &[u8], state: &mut [u8], request: u32) -> u64
     }
     let stepped = step(image, unpack(state), clamp_byte(request));
     let m = stepped.machine;
-    let answer = stepped.answer;
+    let report = stepped.report;
     pack(state, m);
-    step_word(answer)
+    step_word(report)
+}
+
+// Reads a data byte of a machine, with its origin.
+#[no_mangle]
+pub extern "C" fn st62_read(image: &[u8], state: &[u8], address: u32) -> u64
+    ensures { λ r. ⌜ r ≡ readWord (now (image .entry)) (now (state .entry)) address ⌝ }
+{
+    if 255 < address {
+        return refused(Refusal::OperandRange);
+    }
+    if !is_valid(state) {
+        return invalid_state(image);
+    }
+    read_word(machine::reading::read(image, unpack(state), address as u8))
 }
 
 // A run of n steps. A refused one, and one without room for its report, leave state and report.

@@ -6,3 +6,5 @@ pub mod StepByStep
 pub mod Refusals
 pub mod Laws
 pub mod PairUse
+pub mod ReadForms
+pub mod OriginTold

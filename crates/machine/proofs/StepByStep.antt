@@ -17,6 +17,7 @@ use Rattle.machine.specs.State.{isWellFormed}
 use Rattle.machine.specs.Advance.{Step, doneOf, refusedOf, decodedOf, uninterruptedOf, advancedOf}
 use Rattle.machine.specs.Step.{stepOf}
 use Rattle.machine.specs.Steps.{Run, runAt, asAnswer, joinedBy, continuedOf, stepsOf, requestsFit}
+use Rattle.machine.specs.Operands.{readWith, stepReadOf}
 
 -- a step that is not refused
 pub step-advances :
@@ -159,3 +160,10 @@ one-step image m q r e = rw e (by-answer (stepOf image m q .machine) (stepOf ima
         (record { machine = n; answer = a })
     by-answer n (done cycles) = rw (zero-add cycles)
     by-answer n (refused reason) = refl
+
+-- .. and reads what the step does
+pub one-step-read :
+    (image : List ℕ) (m : Machine) (q : ℕ) (r : Run) → r ≡ stepsOf image (replicate 1 q) m 1 →
+    readWith image m q (asAnswer (r .report)) ≡ stepReadOf image m q
+unfolding stepReadOf
+one-step-read image m q r e = ap (λ (s : Step). readWith image m q (s .answer)) (one-step image m q r e)

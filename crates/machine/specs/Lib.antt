@@ -5,6 +5,9 @@ pub mod Advance
 pub mod Step
 pub mod Steps
 pub mod Run
+pub mod Reading
+pub mod Operands
 pub mod Refusals
 pub mod Laws
 pub mod PairUse
+pub mod OriginTold

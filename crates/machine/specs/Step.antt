@@ -21,7 +21,7 @@ unfoldable pub use Rattle.machine.specs.Advance.{
 }
 
 abbrev pub steppedOf : Stepped → Step
-steppedOf r = record { machine = r .machine; answer = answerOf (r .answer) }
+steppedOf r = record { machine = r .machine; answer = answerOf (r .report .answer) }
 
 -- "Step: 1, 2, 11 (bit 5, 6 or 7 set in a request byte), then the stops"
 unfoldable pub stepOf : (image : List ℕ) → Machine → (request : ℕ) → Step

@@ -106,7 +106,7 @@ fn executed(
 }
 
 // Bit 4 of 0C8h enables sources 1 to 4.
-fn is_enabled(bytes: &[u8; 256]) -> bool
+pub fn is_enabled(bytes: &[u8; 256]) -> bool
     ensures { λ r. ⌜ r ≡ enabledOf (now (bytes .entry)) ⌝ }
 {
     alu::bit(bytes[INTERRUPT_OPTION], 4)

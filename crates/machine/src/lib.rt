@@ -1,7 +1,9 @@
-// The ST62 machine: control beside the stack, flags and data bytes; step, run, reset and host store.
+// The ST62 machine: control beside the stack, flags and data bytes; step, run, reset, host store and reading a byte.
 mod advance;
 mod execute;
+mod operands;
 mod pairs;
+pub mod reading;
 pub mod run;
 pub mod state;
 pub mod step;
@@ -10,6 +12,8 @@ mod steps;
 use alu::Flags;
 use control::Control;
 use control::Stop;
+use data::Origin;
+use data::OriginRead;
 use isa::Refusal;
 
 // Normal and interrupt mode have a flag pair each; the other three modes share the NMI pair.
@@ -47,10 +51,22 @@ pub struct Advanced {
     pub answer: StepAnswer,
 }
 
-// A machine after a step, and the step's answer.
+// A step's answer, and the origin of the data operand that it read.
+pub struct StepReport {
+    pub answer: StepAnswer,
+    pub read: OriginRead,
+}
+
+// A machine after a step, and the step's report.
 pub struct Stepped {
     pub machine: Machine,
-    pub answer: StepAnswer,
+    pub report: StepReport,
+}
+
+// A reading's answer: the byte with its origin, or why it was refused.
+pub enum ReadAnswer {
+    Done { byte: u8, origin: Origin },
+    Refused(Refusal),
 }
 
 // How a run or a host store ended.

@@ -1,10 +1,10 @@
 -- `st62_step` meets its contract.
-use mathlib.Core.Path.{sym, ap, _∙_}
+use mathlib.Core.Path.{sym, _∙_}
 use borrow.Author.Tests.{not-true, not-false}
 use borrow.Author.Needs.{needs}
 use Rattle.exports.specs.States.{unpacked}
-use Rattle.exports.specs.Lent.{stepLent, steppedLent}
-use Rattle.exports.proofs.Clamping.{step-clamped}
+use Rattle.exports.specs.Lent.{stepLent}
+use Rattle.exports.proofs.Clamping.{step-lent-clamped}
 use Rattle.exports.proofs.Pasting.{valid-length}
 use Rattle.exports.proofs.st62_step.Statement.{statement}
 use Rattle.exports.proofs.st62_step.Tie as tie
@@ -39,7 +39,7 @@ step-requires c κs = search needs
 
 pack-requires : tie.Need-pack-requires
 pack-requires c κs =
-    let at-if1 = c .before .before .before .before .before .before in
+    let at-if1 = c .before .before .before .before .before .before .before in
     let at-is-valid = at-if1 .before in
     valid-length _ (sym (at-is-valid .is-valid .ensures) ∙ not-false _ (at-if1 .if1 .left))
 
@@ -53,7 +53,7 @@ returns-2 : tie.Need-returns-2
 unfolding stepLent unpacked
 returns-2 c =
     let at-pack = c .before .before .before in
-    let at-step = at-pack .before .before .before in
+    let at-step = at-pack .before .before .before .before in
     let at-clamp-byte = at-step .before in
     let at-unpack = at-clamp-byte .before in
     let at-if1 = at-unpack .before .before in
@@ -64,12 +64,9 @@ returns-2 c =
       c .step-word .ensures,
       at-pack .pack .ensures,
     )
-    (ap steppedLent
-    ((rw (
-      at-unpack .unpack .ensures,
-      at-clamp-byte .clamp-byte .ensures,
-    ) at (at-step .step .ensures))
-    ∙ step-clamped _ _ _))
+    (let stepped =
+    rw (at-unpack .unpack .ensures, at-clamp-byte .clamp-byte .ensures) at (at-step .step .ensures) in
+    step-lent-clamped _ _ _ _ _ (stepped .0) (stepped .1))
 
 pub st62-step-spec : {M : Type 1} → statement M
 st62-step-spec =

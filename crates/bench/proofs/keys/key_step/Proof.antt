@@ -25,22 +25,23 @@ use denote.Builtin.{u8}
 use denote.Ref.{RefT, MutRef, ptr-vals, mut-tells}
 use denote.Slice.{sliceVal, ShrSlice, slice-vals, shr-slice-tells, shr-slice-lawful}
 use denote.Signature.{Slot, plain, shrSliceOf}
-use denote.Enum.Laws as EL
+use denote.Struct.Laws as LL
 use denote.Triple.Statement.{Contract, Triple}
 use denote.Triple.Entry.{onEntry}
 use denote.Triple.Table.{cited}
 use denote.Triple.Walked.{Stays, walkOf, Walks, walked}
 use denote.Exit.{yes}
 use Rattle.machine.specs.Step.{steppedOf, stepOf}
+use Rattle.machine.specs.Operands.{stepReadOf}
 use Rattle.machine.specs.declared.Machine.{Machine}
 use Rattle.bench.proofs.KeyWalk as key-walk
 use Rattle.bench.proofs.FunctionWalk.{Met, leaves, proved, framed}
 use Rattle.bench.proofs.KeyWalk.{begins, asked, answers, vals}
-use Rattle.bench.proofs.Answers.{low-answer, stepped}
+use Rattle.bench.proofs.Answers.{low-told, stepped}
 use Rattle.machine.proofs.Machine as T
 use Rattle.machine.proofs.Stepped.Laws as S′
-use Rattle.machine.proofs.StepAnswer as O
-use Rattle.machine.proofs.StepAnswer.Laws as O′
+use Rattle.machine.proofs.StepReport as O
+use Rattle.machine.proofs.StepReport.Laws as O′
 use Rattle.machine.proofs.step.step as step
 use Rattle.machine.proofs.step.step.Symbol as step-def
 use Rattle.machine.proofs.step.step.Symbol.{name as #machine·step·step}
@@ -112,7 +113,8 @@ module _ {M : Type 1} (𝓤 : URA M) (H : Heap 𝓤) (A : Atoms 𝓤) (W : Given
         pass1 ! (init ! 4 refl (tt, record { fits = gn })) $ pass0 ! $
         -- [_5; …; _4; …; _3; …; _2; …; _1; …; _0; …; obs; the borrow; the token; P]
         move ! (12 ∷ 13 ∷ 14 ∷ 15 ∷ 0 ∷ 2 ∷ 8 ∷ 10 ∷ []) $
-        asked W fm step.ended (step.clauses 𝓤 H A at-mem run) known to (λ r. steppedOf r ≡ stepOf (s .now) h n)
+        asked W fm step.ended (step.clauses 𝓤 H A at-mem run) known to
+        (λ r. (steppedOf r ≡ stepOf (s .now) h n) × (r .report .read ≡ stepReadOf (s .now) h n))
         (λ r ws. refl) S′.mir (stepped 𝓤 H A W .typed) b o h ! refl refl asks
         (and-then ! (load ! (from ! (stop !)) (look ! 13 refl))
         (and-then ! (load ! (from ! (stop !)) (look ! 5 refl))
@@ -124,8 +126,8 @@ module _ {M : Type 1} (𝓤 : URA M) (H : Heap 𝓤) (A : Atoms 𝓤) (W : Given
         move ! (2 ∷ 3 ∷ []) $ join ! $ move ! (1 ∷ 2 ∷ 0 ∷ []) $
         by ! (key-walk.exits tt [] ps (plain (λ _. O.the-row)) (yes, (yes, tt)) 𝓤 H A W (key.clauses 𝓤 H A at-mem run)
         (κ, (κ′, tt)) (q, (q′, tt)) tt b o γ h xs at tt
-        (r .machine) (tt, (tt, tt)) (r .answer) (low-answer (r .answer)) (factI 𝓤 _ (emp 𝓤) e)
-        (EL.makes O.the-type O′.the-plain 𝓤 H A (r .answer) _ (stepped 𝓤 H A W .result-is r v is))))))))))
+        (r .machine) (tt, (tt, tt)) (r .report) (low-told (r .report)) (factI 𝓤 _ (emp 𝓤) e)
+        (LL.makes O.the-type O′.the-plain 𝓤 H A (r .report) _ (stepped 𝓤 H A W .result-is r v is))))))))))
 
 module _ {M : Type 1} (𝓤 : URA M) (H : Heap 𝓤) (A : Atoms 𝓤) (W : Given 𝓤 H A) (at-mem : Memory → SProp 𝓤)
     (run : Routine → Fun 𝓤) where

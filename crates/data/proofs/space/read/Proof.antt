@@ -1,6 +1,5 @@
 -- `space::read` meets its contract.
 use borrow.Author.Needs.{needs}
-use native.Mathlib.Omega.{arith}
 use borrow.Author.Tests.{not-true, not-false}
 use Rattle.data.specs.Space.{readOf}
 use Rattle.data.proofs.Window.{window-low}
@@ -19,29 +18,11 @@ returns c =
     let k = c .before .before in
     rw (← k .is-window .ensures, not-true (k .is-window .result) (c .before .if1 .taken))
 
-element-copy-out-window : tie.Need-element-copy-out-window
-element-copy-out-window c = search needs
-
-cast-shown : tie.Need-cast-shown
-cast-shown c = search needs
-
-mul-shown : tie.Need-mul-shown
-mul-shown c = search needs
-
-sub-shown : tie.Need-sub-shown
-sub-shown c =
-    let k = c .before .before in
-    omega (
-      arith,
-      window-low (k .before .before .args .address) (k .is-window .result) (k .is-window .ensures)
-          (not-false (k .is-window .result) (c .before .if1 .left)),
-    )
-
-cast-shown-2 : tie.Need-cast-shown-2
-cast-shown-2 c = search needs
-
-add-shown : tie.Need-add-shown
-add-shown c = search needs
+window-address-requires : tie.Need-window-address-requires
+window-address-requires c κs =
+    let k = c .before in
+    window-low (k .before .before .args .address) (k .is-window .result) (k .is-window .ensures)
+    (not-false (k .is-window .result) (c .if1 .left))
 
 shown-requires : tie.Need-shown-requires
 shown-requires c κs = search needs
@@ -50,7 +31,12 @@ returns-2 : tie.Need-returns-2
 unfolding readOf
 returns-2 c =
     let k = c .before .before .before in
-    rw (c .shown .ensures, ← k .is-window .ensures, not-false (k .is-window .result) (c .before .before .if1 .left))
+    rw (
+      c .shown .ensures,
+      c .before .window-address .ensures,
+      ← k .is-window .ensures,
+      not-false (k .is-window .result) (c .before .before .if1 .left),
+    )
 
 pub read-spec : {M : Type 1} → statement M
 read-spec =
@@ -59,11 +45,6 @@ read-spec =
     is-window-requires
     element-copy-out-result
     returns
-    element-copy-out-window
-    cast-shown
-    mul-shown
-    sub-shown
-    cast-shown-2
-    add-shown
+    window-address-requires
     shown-requires
     returns-2)

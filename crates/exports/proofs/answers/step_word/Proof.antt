@@ -6,11 +6,8 @@ use Rattle.exports.proofs.answers.step_word.Tie as tie
 enum-known-answer : tie.Need-enum-known-answer
 enum-known-answer c = search needs
 
-cast-done : tie.Need-cast-done
-cast-done c = search needs
-
-done-requires : tie.Need-done-requires
-done-requires c κs = search needs
+origin-word-requires : tie.Need-origin-word-requires
+origin-word-requires c κs = search needs
 
 enum-known-answer-2 : tie.Need-enum-known-answer-2
 enum-known-answer-2 c = search needs
@@ -19,7 +16,7 @@ refused-requires : tie.Need-refused-requires
 refused-requires c κs = search needs
 
 returns : tie.Need-returns
-returns c = rw (c .before .before .answer .given .1) (c .done .ensures)
+returns c = rw (c .before .before .answer .given .1) (c .origin-word .ensures)
 
 returns-2 : tie.Need-returns-2
 returns-2 c = rw (c .before .before .answer2 .given .1) (c .refused .ensures)
@@ -29,8 +26,7 @@ step-word-spec =
     tie.close
     (tie.spec
     enum-known-answer
-    cast-done
-    done-requires
+    origin-word-requires
     enum-known-answer-2
     refused-requires
     returns

@@ -40,7 +40,7 @@ loop-less c =
     let start = c .before .before .before .before .before .before in
     let still =
     still-awake (start .args .image .now) (start .args .m) 255 (start .pre) (loop .held) (loop .steps) (asleep .result)
-    (loop .inv .0) (loop .inv .1) (asleep .ensures) (c .before .before .if1 .taken) _ (c .before .step .ensures) in
+    (loop .inv .0) (loop .inv .1) (asleep .ensures) (c .before .before .if1 .taken) _ (c .before .step .ensures .0) in
     omega (arith, still .left)
 
 loop-again : tie.Need-loop-again Inv-loop μ-loop
@@ -50,7 +50,7 @@ loop-again c =
     let start = c .before .before .before .before .before .before in
     let still =
     still-awake (start .args .image .now) (start .args .m) 255 (start .pre) (loop .held) (loop .steps) (asleep .result)
-    (loop .inv .0) (loop .inv .1) (asleep .ensures) (c .before .before .if1 .taken) _ (c .before .step .ensures) in
+    (loop .inv .0) (loop .inv .1) (asleep .ensures) (c .before .before .if1 .taken) _ (c .before .step .ensures .0) in
     (omega (arith, still .left), still .next, below-more _ _ (loop .inv .2) (still .awake))
 
 width-shown-requires : tie.Need-width-shown-requires Inv-loop μ-loop

@@ -4,7 +4,8 @@ use mathlib.Core.Path.{sym, _∙_}
 use native.Mathlib.Omega.{arith}
 use borrow.Author.Tests.{not-true, not-false}
 use Rattle.machine.specs.Step.{stepOf}
-use Rattle.machine.proofs.StepByStep.{fit-one, one-step}
+use Rattle.machine.specs.Operands.{stepReadOf}
+use Rattle.machine.proofs.StepByStep.{fit-one, one-step, one-step-read}
 use Rattle.machine.proofs.step.step.Statement.{statement}
 use Rattle.machine.proofs.step.step.Tie as tie
 
@@ -15,7 +16,7 @@ refused-step-requires : tie.Need-refused-step-requires
 refused-step-requires c κs = search needs
 
 returns : tie.Need-returns
-unfolding stepOf
+unfolding stepOf stepReadOf
 returns c =
     rw (
       ← c .before .before .is-image-length .ensures,
@@ -30,7 +31,7 @@ refused-step-requires-2 : tie.Need-refused-step-requires-2
 refused-step-requires-2 c κs = search needs
 
 returns-2 : tie.Need-returns-2
-unfolding stepOf
+unfolding stepOf stepReadOf
 returns-2 c =
     let w = c .before .before in
     let i = w .before .before .before .before .before in
@@ -48,7 +49,7 @@ refused-step-requires-3 : tie.Need-refused-step-requires-3
 refused-step-requires-3 c κs = search needs
 
 returns-3 : tie.Need-returns-3
-unfolding stepOf
+unfolding stepOf stepReadOf
 returns-3 c =
     let n = c .before .before in
     let w = n .before .before in
@@ -78,8 +79,14 @@ on-copy-requires c κs =
 step-answer-requires : tie.Need-step-answer-requires
 step-answer-requires c κs = c .before .before .on-copy .ensures .1
 
+step-report-requires : tie.Need-step-report-requires
+step-report-requires c κs = search needs
+
 returns-4 : tie.Need-returns-4
-returns-4 c = rw (c .step-answer .ensures) (one-step _ _ _ _ (c .before .before .before .on-copy .ensures .0))
+returns-4 c =
+    let k = c .before in
+    let ran = k .before .before .before .on-copy .ensures .0 in
+    rw (c .step-report .ensures, k .step-answer .ensures) (one-step _ _ _ _ ran, one-step-read _ _ _ _ ran)
 
 pub step-spec : {M : Type 1} → statement M
 step-spec =
@@ -97,4 +104,5 @@ step-spec =
     slice-aggregate-on-copy
     on-copy-requires
     step-answer-requires
+    step-report-requires
     returns-4)
