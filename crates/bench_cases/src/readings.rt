@@ -42,7 +42,7 @@ fn put_bytes(image: &[u8]) {
     put_reading(b"40h, page 20h", image, with_page(0x20), 0x40);
 }
 
-// An image of no bytes, then a PC that lies outside program space.
+// No image and a PC outside program space: 1 comes first; then that PC alone.
 fn put_refusals(image: &[u8]) {
     let m = machine_at(0x1000, false, false, [0u8; 256]);
     put_reading(b"no image, PC 1000h", b"", m, 0x3F);

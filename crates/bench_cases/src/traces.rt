@@ -21,10 +21,10 @@ fn request_at(requests: &[u8], i: usize) -> u8 {
     if i < requests.len() { requests[i] } else { 0 }
 }
 
-// Where the byte of a step's data operand came from, or that it read none.
+// Where the byte of a step's data operand came from, a dash where it read none.
 fn put_read(read: OriginRead) {
     match read {
-        OriginRead::Nothing => put(b"none"),
+        OriginRead::Nothing => put(b"-"),
         OriginRead::From(origin) => put_origin(origin),
     }
 }

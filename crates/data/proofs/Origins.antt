@@ -12,14 +12,14 @@ use Rattle.isa.specs.declared.rom.RomByte.{RomByte}
 use Rattle.isa.specs.declared.rom.RomByte.the-variants.{Byte, Outside}
 use Rattle.data.specs.declared.Origin.the-variants.{Ram, Register}
 use Rattle.data.specs.Space.{shownOf, windowAddress, windowOrigin, readOf, originOf}
-use Rattle.data.specs.Laws.{ComesFrom, ram, register, rom, nothing, ByteComesFrom}
+use Rattle.data.specs.Laws.{ComesFrom, ram, register, rom, no-rom, ByteComesFrom}
 
 module _ (image bytes : List ℕ) (a : ℕ) where
   in-window :
       0x40 ≤ a → a < 0x80 → (r : RomByte) → romAt image (windowAddress bytes a) ≡ r →
       ComesFrom image bytes a (shownOf r) (windowOrigin (windowAddress bytes a) r)
   in-window low high (Byte byte) e = rom byte low high e
-  in-window low high Outside e = nothing low high e
+  in-window low high Outside e = no-rom low high e
 
   -- by the tests of the window's two ends, and of 80h
   by-tests :

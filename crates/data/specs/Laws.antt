@@ -20,7 +20,7 @@ pub data ComesFrom (image bytes : List ℕ) (a : ℕ) : (byte : ℕ) → Origin 
       (byte : ℕ) → 0x40 ≤ a → a < 0x80 → romAt image (windowAddress bytes a) ≡ Byte byte →
       ComesFrom image bytes a byte (Rom (windowAddress bytes a))
   -- "the window where the image has nothing": "ROM that the image lacks reads 0"
-  nothing :
+  no-rom :
       0x40 ≤ a → a < 0x80 → romAt image (windowAddress bytes a) ≡ Outside → ComesFrom image bytes a 0 NoRom
 
 -- the byte that is read comes from the origin that is told

@@ -11,8 +11,8 @@ use Rattle.data.specs.declared.OriginRead.the-variants as origin
 use Rattle.data.specs.Space.{originOf, addressOf}
 
 -- the data operand that an instruction reads, by its form, as the manual's page of each says: the source of LD A, ADD,
--- SUB, AND and CP, and the operand of INC, DEC, SET, RES, JRR and JRS. LD from A and LDI write theirs and do not read
--- it. "a pointer X or Y, and an accumulator not addressed as FFh, don't count": so LD (X),A and ADDI read none
+-- SUB, AND and CP, and the operand of INC, DEC, SET, RES, JRR and JRS. LD of A to an operand and LDI write theirs and do
+-- not read it. "a pointer X or Y, and an accumulator not addressed as FFh, don't count": so LD (X),A and ADDI read none
 unfoldable pub operandReadOf : Instruction → OperandRead
 operandReadOf (I.LoadA o) = operand.Is o
 operandReadOf (I.Add o) = operand.Is o

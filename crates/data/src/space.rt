@@ -58,7 +58,7 @@ pub fn read(image: &[u8], bytes: &[u8; 256], address: u8) -> u8
     shown(image, window_address(bytes, address))
 }
 
-// Where the byte that is read there comes from.
+// Where the byte that `read` gives at an address comes from.
 pub fn origin(image: &[u8], bytes: &[u8; 256], address: u8) -> Origin
     ensures { λ r. ⌜ r ≡ originOf (now (image .entry)) (now (bytes .entry)) address ⌝ }
 {

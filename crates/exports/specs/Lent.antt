@@ -65,7 +65,7 @@ stepBy image s request invalid = lent (invalidWord image) s
 unfoldable pub stepLent : (image s : List ℕ) → (request : ℕ) → Lent
 stepLent image s request = stepBy image s request (unpacked s)
 
--- W-203: a reading is lent the state to look at alone; an invalid one is refused with 2, after 1
+-- W-203: a reading is lent the state only to look at; an invalid one is refused with 2, after 1
 abbrev pub readBy : (image : List ℕ) → (a : ℕ) → Unpacked → ℕ
 readBy image a (valid m) = readingWord (readingOf image m a)
 readBy image a invalid = invalidWord image

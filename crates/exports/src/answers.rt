@@ -104,7 +104,7 @@ pub fn step_word(report: StepReport) -> u64
     }
 }
 
-pub fn read_word(answer: ReadAnswer) -> u64
+pub fn reading_word(answer: ReadAnswer) -> u64
     ensures { λ r. ⌜ r ≡ readingWord (readAnswerOf answer) ⌝ }
 {
     match answer {

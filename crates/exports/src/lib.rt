@@ -13,7 +13,7 @@ use answers::ending_word;
 use answers::invalid_state;
 use answers::is_refused;
 use answers::made_word;
-use answers::read_word;
+use answers::reading_word;
 use answers::refused;
 use answers::sizing_word;
 use answers::step_word;
@@ -137,7 +137,7 @@ pub extern "C" fn st62_read(image: &[u8], state: &[u8], address: u32) -> u64
     if !is_valid(state) {
         return invalid_state(image);
     }
-    read_word(machine::reading::read(image, unpack(state), address as u8))
+    reading_word(machine::reading::read(image, unpack(state), address as u8))
 }
 
 // A run of n steps. A refused one, and one without room for its report, leave state and report.

@@ -4,51 +4,52 @@ use mathlib.Core.Path.{_≡_, refl, sym, ap, _∙_}
 use mathlib.Core.Bool.{Bool, true, false}
 use mathlib.Core.List.{List}
 use native.Mathlib.Omega.{arith}
-use lib.ListN.{length}
-use Rattle.isa.specs.Refusals.{Numbered, plain, Answer, done, refused, unless}
+use lib.ListN.{length, getD}
+use Rattle.isa.specs.Refusals.{plain, located, Answer, done, refused, unless}
 use Rattle.isa.specs.Sources.{namesOnlySources}
 use Rattle.isa.specs.Rom.{isImage}
 use Rattle.isa.specs.Displacement.{forwardOf}
 use Rattle.isa.specs.ControlFlow.{flowOf}
-use Rattle.isa.specs.Decode.{decodeAt}
+use Rattle.isa.specs.Decode.{decodeOf, decodeAt}
 use Rattle.isa.specs.Decode as decode
 use Rattle.isa.specs.declared.Operand.{Operand}
 use Rattle.isa.specs.declared.Instruction.{Instruction}
+use Rattle.isa.proofs.AtAddress.{in-range}
 use Rattle.data.specs.declared.Origin.{Origin}
 use Rattle.data.specs.declared.OperandRead.{OperandRead}
 use Rattle.data.specs.declared.OperandRead.the-variants as operand
 use Rattle.data.specs.declared.OriginRead.{OriginRead}
 use Rattle.data.specs.declared.OriginRead.the-variants as origin
 use Rattle.data.specs.Space.{readOf, originOf, addressOf, operandOf}
-use Rattle.data.specs.Effect.{accumulatorOf}
+use Rattle.data.specs.Effect.{accumulatorOf, effectOf}
 use Rattle.data.specs.Reads.{operandReadOf, originAt, originReadOf}
-use Rattle.data.specs.Laws.{ComesFrom}
 use Rattle.data.proofs.Origins.{byte-comes-from}
 use Rattle.control.specs.declared.Control.{Control}
+use Rattle.control.specs.declared.Stop.{Stop}
+use Rattle.control.specs.declared.Stop.the-variants as stop
 use Rattle.control.specs.declared.Requested.{Requested}
 use Rattle.control.specs.declared.Requested.the-variants.{Nothing, Taken}
 use Rattle.control.specs.Stack.{Transferred}
 use Rattle.control.specs.Requests.{requestedOf}
 use Rattle.control.specs.Transfers.{advanceOf}
-use Rattle.machine.specs.declared.FlagPairs.{FlagPairs}
+use Rattle.control.proofs.StaysWellFormed.{formed-exactly}
 use Rattle.machine.specs.declared.Machine.{Machine}
-use Rattle.machine.specs.Pairs.{pairOf, withPairOf}
-use Rattle.machine.specs.Execute.{executeOf}
+use Rattle.machine.specs.Pairs.{withPairOf}
+use Rattle.machine.specs.Execute.{jumpsOf, executeOf}
 use Rattle.machine.specs.State.{machineOf, viewOf, isWellFormed}
 use Rattle.machine.specs.Advance.{
   Step,
   doneOf,
-  afterOf,
+  refusedOf,
+  stoppedOf,
   completedOf,
   executedOf,
   decodedOf,
-  uninterruptedOf,
   respondOf,
   enabledOf,
   advancedOf,
 }
 use Rattle.machine.specs.Step.{stepOf}
-use Rattle.machine.specs.Laws.{executionAt}
 use Rattle.machine.specs.Reading.{Reading, readingAs, readingOf}
 use Rattle.machine.specs.Operands.{decodedRead, readAtPc, respondRead, readWith, stepReadOf}
 use Rattle.machine.specs.OriginTold.{
@@ -56,105 +57,169 @@ use Rattle.machine.specs.OriginTold.{
   TellsOf,
   Reads,
   AgreeOn,
-  Storing,
+  AgreeApart,
+  nothing,
   storedBy,
   StepsAlike,
   OriginTold,
-  ReadingRefused,
-  image-length,
-  ill-formed,
-  ReadingRefusals,
   BytesAsBefore,
 }
 use Rattle.machine.proofs.StepDoes.{Tested, refuses, passes, step-tested}
 use Rattle.machine.proofs.StepByStep as steps
-use Rattle.machine.proofs.ReadForms.{Change, MadeOf, read-form, made-of}
+use Rattle.machine.proofs.ReadForms.{Change, changed, MadeOf, MadeApart, read-form, made-of, made-apart}
 
--- what a step makes of all but the data bytes, and what it stores there
-record Parts : Type 0 where
-  transfer : Transferred
-  flags : FlagPairs
-  stores : Storing
+-- where neither image nor machine is refused, decoding at PC is what stands there
+decoded :
+    (image : List ℕ) (m : Machine) → isImage (length image) ≡ true → isWellFormed m ≡ true →
+    decodeOf image (m .control .pc) ≡ decodeAt image (m .control .pc)
+decoded image m size formed =
+    in-range image (m .control .pc) size (formed-exactly .facts (m .stack) (m .control) formed .pc)
 
-abbrev built : (cycles : ℕ) → Parts → (bytes : List ℕ) → Step
-built cycles p bytes =
-    doneOf (machineOf (p .transfer .control) (p .transfer .stack) (p .flags) (storedBy (p .stores) bytes)) cycles
+-- the end of a step that comes to an instruction, by what its change and its transfer of control are
+abbrev ended : Machine → Transferred → Change → (cycles : ℕ) → Step
+ended m t x cycles =
+    stoppedOf m (t .stop)
+    (doneOf
+    (machineOf (t .control) (t .stack) (withPairOf (m .flags) (m .control .mode) (x .flags))
+    (storedBy (x .stores) (m .bytes)))
+    cycles)
 
-module _ {i : Instruction} {o : Operand} (made : MadeOf i o) where
-  -- .. from what the instruction uses
-  abbrev partsOf : Control → (stack : List ℕ) → FlagPairs → (x v a length : ℕ) → Parts
-  partsOf c stack f x v a length = record {
-    transfer = advanceOf stack c (flowOf i (c .pc)) (made .jumps v) (forwardOf (c .pc) length);
-    flags = withPairOf f (c .mode) (made .change-of x v a (pairOf f (c .mode)) .flags);
-    stores = made .change-of x v a (pairOf f (c .mode)) .stores;
-  }
+abbrev transferOf : Machine → Instruction → (jumps : Bool) → (bytes : ℕ) → Transferred
+transferOf m i jumps bytes =
+    advanceOf (m .stack) (m .control) (flowOf i (m .control .pc)) jumps (forwardOf (m .control .pc) bytes)
 
-  module _ (image : List ℕ) (m : Machine) (request bytes cycles : ℕ) (at : Executes image m request i bytes cycles) where
-    abbrev parts : Parts
-    parts =
-        partsOf (m .control) (m .stack) (m .flags) (accumulatorOf (m .bytes)) (operandOf image (m .bytes) o)
-        (addressOf (m .bytes) o) bytes
+module _ (image : List ℕ) (m : Machine) (request : ℕ) (i : Instruction) (bytes cycles : ℕ)
+    (at : Executes image m request i bytes cycles) where
+  -- a step that comes to an instruction is that instruction
+  comes : stepOf image m request ≡ executedOf image m i bytes cycles
+  unfolding advancedOf respondOf decodedOf
+  comes =
+      steps.step-advances image m request (at .image-length) (at .formed) (at .sources)
+      ∙ ap (respondOf image m) (at .none-taken) ∙ sym (steps.awake image m (at .awake))
+      ∙ ap (decodedOf image m) (at .at-pc)
 
-    -- a step that comes to an instruction is that instruction
-    comes : stepOf image m request ≡ executedOf image m i bytes cycles
-    unfolding advancedOf respondOf decodedOf
-    comes =
-        steps.step-advances image m request (at .image-length) (at .formed) (at .sources)
-        ∙ ap (respondOf image m) (at .none-taken) ∙ sym (steps.awake image m (at .awake))
-        ∙ ap (decodedOf image m) (at .at-pc)
+  step-is :
+      (x : Change) (jumps : Bool) → effectOf image (viewOf m) i ≡ changed (viewOf m) x →
+      jumpsOf image (viewOf m) (flowOf i (m .control .pc)) ≡ jumps →
+      stepOf image m request ≡ ended m (transferOf m i jumps bytes) x cycles
+  unfolding executedOf completedOf executeOf
+  step-is x jumps effect jump = comes ∙ rw (effect, jump)
 
-    after : doneOf (afterOf m (executionAt image m i bytes)) cycles ≡ built cycles parts (m .bytes)
-    unfolding executeOf
-    after = rw (made .effect-is image (viewOf m), made .jumps-is image (viewOf m) (m .control .pc))
-
-    executed : executedOf image m i bytes cycles ≡ built cycles parts (m .bytes)
-    unfolding executedOf completedOf
-    executed = rw (made .goes image (viewOf m) (m .stack) (m .control) (forwardOf (m .control .pc) bytes)) after
-
-    step-is : stepOf image m request ≡ built cycles parts (m .bytes)
-    step-is = comes ∙ executed
-
-    tells : operandReadOf i ≡ operand.Is o → TellsOf image m request cycles (addressOf (m .bytes) o)
-    unfolding readingOf stepReadOf readAtPc originReadOf
-    tells reads =
-        let completed : stepOf image m request .answer ≡ done cycles = ap (λ (s : Step). s .answer) step-is in
-        record {
-          completed = completed;
-          byte = readOf image (m .bytes) (addressOf (m .bytes) o);
-          origin = originOf image (m .bytes) (addressOf (m .bytes) o);
-          reading = rw (at .image-length, at .formed);
-          told = rw (completed, at .none-taken, at .awake, at .at-pc, reads);
-        }
-
-  -- the same parts, from machines that agree on what the instruction uses
-  same-parts :
-      (image : List ℕ) (m : Machine) (image′ : List ℕ) (m′ : Machine) (length : ℕ) → AgreeOn image m image′ m′ i o →
-      partsOf (m .control) (m .stack) (m .flags) (accumulatorOf (m .bytes)) (operandOf image (m .bytes) o)
-      (addressOf (m .bytes) o) length
-      ≡ partsOf (m′ .control) (m′ .stack) (m′ .flags) (accumulatorOf (m′ .bytes)) (operandOf image′ (m′ .bytes) o)
-      (addressOf (m′ .bytes) o) length
-  same-parts image m image′ m′ length agree =
-      rw (agree .control, agree .stack, agree .flags, agree .byte, agree .address)
-      (rw (made .same (accumulatorOf (m .bytes)) (accumulatorOf (m′ .bytes)) (operandOf image′ (m′ .bytes) o)
-      (addressOf (m′ .bytes) o) (pairOf (m′ .flags) (m′ .control .mode)) (agree .accumulator)))
-
--- two steps built of the same parts are alike
+-- two steps with the same change and transfer are alike, also where they stop
 alike :
-    (m m′ : Machine) (cycles : ℕ) (p p′ : Parts) (s s′ : Step) → p ≡ p′ → s ≡ built cycles p (m .bytes) →
-    s′ ≡ built cycles p′ (m′ .bytes) → StepsAlike m m′ s s′
-alike m m′ cycles p p′ s s′ same e e′ =
-    rw (e, e′, same)
-    (record {
+    (m m′ : Machine) → m .control ≡ m′ .control → m .stack ≡ m′ .stack → m .flags ≡ m′ .flags →
+    (t : Transferred) (x : Change) (cycles : ℕ) → StepsAlike m m′ (ended m t x cycles) (ended m′ t x cycles)
+alike m m′ control stack flags t x cycles = by-stop (t .stop)
+  where
+    after : Machine → Step
+    after n =
+        doneOf
+        (machineOf (t .control) (t .stack) (withPairOf (n .flags) (n .control .mode) (x .flags))
+        (storedBy (x .stores) (n .bytes)))
+        cycles
+
+    stays : (number : ℕ) → StepsAlike m m′ (refusedOf m (located number (m .control .pc)))
+        (refusedOf m′ (located number (m′ .control .pc)))
+    stays number = record {
+      answer = ap (λ (c : Control). refused (located number (c .pc))) control;
+      control = control;
+      stack = stack;
+      flags = flags;
+      stores = nothing;
+      first = refl;
+      second = refl;
+    }
+
+    by-stop : (s : Stop) → StepsAlike m m′ (stoppedOf m s (after m)) (stoppedOf m′ s (after m′))
+    by-stop stop.None = record {
       answer = refl;
       control = refl;
       stack = refl;
-      flags = refl;
-      stores = p′ .stores;
+      flags = rw (control, flags);
+      stores = x .stores;
       first = refl;
       second = refl;
-    })
+    }
+    by-stop stop.Full = stays 6
+    by-stop stop.Empty = stays 7
 
--- none and an origin are apart, and so are the two ends of an answer
+-- two steps that come to one instruction, from machines with the same control, stack and flags
+module _ (image : List ℕ) (m : Machine) (image′ : List ℕ) (m′ : Machine) (request request′ : ℕ) (i : Instruction)
+    (bytes cycles : ℕ) (at : Executes image m request i bytes cycles) (at′ : Executes image′ m′ request′ i bytes cycles)
+    (control : m .control ≡ m′ .control) (stack : m .stack ≡ m′ .stack) (flags : m .flags ≡ m′ .flags) where
+  both-alike :
+      (x : Change) (jumps : Bool) →
+      effectOf image (viewOf m) i ≡ changed (viewOf m) x → effectOf image′ (viewOf m′) i ≡ changed (viewOf m′) x →
+      jumpsOf image (viewOf m) (flowOf i (m .control .pc)) ≡ jumps →
+      jumpsOf image′ (viewOf m′) (flowOf i (m′ .control .pc)) ≡ jumps →
+      StepsAlike m m′ (stepOf image m request) (stepOf image′ m′ request′)
+  both-alike x jumps effect effect′ jump jump′ =
+      let same : transferOf m i jumps bytes ≡ transferOf m′ i jumps bytes = rw (control, stack) in
+      rw (
+        step-is image m request i bytes cycles at x jumps effect jump,
+        step-is image′ m′ request′ i bytes cycles at′ x jumps effect′ jump′,
+        same,
+      )
+      (alike m m′ control stack flags (transferOf m′ i jumps bytes) x cycles)
+
+  -- the flags in use
+  view-flags : viewOf m .flags ≡ viewOf m′ .flags
+  view-flags = rw (control, flags)
+
+  unread-alike :
+      MadeApart i → AgreeApart m m′ → StepsAlike m m′ (stepOf image m request) (stepOf image′ m′ request′)
+  unread-alike made agree =
+      both-alike
+      (made .change-of (accumulatorOf (m .bytes)) (getD (m .bytes) 0x80 0) (getD (m .bytes) 0x81 0) (viewOf m .flags))
+      (made .jumps (viewOf m .flags))
+      (made .effect-is image (viewOf m))
+      (rw (agree .accumulator, agree .x, agree .y, view-flags) (made .effect-is image′ (viewOf m′)))
+      (made .jumps-is image (viewOf m) (m .control .pc))
+      (rw view-flags (made .jumps-is image′ (viewOf m′) (m′ .control .pc)))
+
+  used-alike :
+      (o : Operand) → MadeOf i o → AgreeOn image m image′ m′ i o →
+      StepsAlike m m′ (stepOf image m request) (stepOf image′ m′ request′)
+  unfolding operandOf
+  used-alike o made agree =
+      both-alike
+      (made .change-of (accumulatorOf (m .bytes)) (operandOf image (m .bytes) o) (addressOf (m .bytes) o)
+      (viewOf m .flags))
+      (made .jumps (operandOf image (m .bytes) o))
+      (made .effect-is image (viewOf m))
+      (rw (
+        agree .byte,
+        agree .address,
+        view-flags,
+        made .same (accumulatorOf (m .bytes)) (accumulatorOf (m′ .bytes)) (operandOf image′ (m′ .bytes) o)
+            (addressOf (m′ .bytes) o) (viewOf m′ .flags) (agree .accumulator),
+      )
+      (made .effect-is image′ (viewOf m′)))
+      (made .jumps-is image (viewOf m) (m .control .pc))
+      (rw (agree .byte) (made .jumps-is image′ (viewOf m′) (m′ .control .pc)))
+
+-- a step that comes to an instruction which reads is done, and tells its operand's origin
+tells :
+    {i : Instruction} {o : Operand} → MadeOf i o → (image : List ℕ) (m : Machine) (request bytes cycles : ℕ) →
+    Executes image m request i bytes cycles → operandReadOf i ≡ operand.Is o →
+    TellsOf image m request cycles (addressOf (m .bytes) o)
+unfolding readingOf stepReadOf readAtPc originReadOf executedOf completedOf
+tells {i} {o} made image m request bytes cycles at reads =
+    let completed : stepOf image m request .answer ≡ done cycles =
+    ap (λ (s : Step). s .answer) (comes image m request i bytes cycles at)
+    ∙ rw (made .goes image (viewOf m) (m .stack) (m .control) (forwardOf (m .control .pc) bytes)) in
+    let stands : decodeOf image (m .control .pc) ≡ done (decode.instruction i bytes cycles) =
+    decoded image m (at .image-length) (at .formed) ∙ at .at-pc in
+    record {
+      completed = completed;
+      byte = readOf image (m .bytes) (addressOf (m .bytes) o);
+      origin = originOf image (m .bytes) (addressOf (m .bytes) o);
+      reading = rw (at .image-length, at .formed);
+      comes = byte-comes-from image (m .bytes) (addressOf (m .bytes) o);
+      told = rw (completed, at .none-taken, at .awake, stands, reads);
+    }
+
+-- none and an origin are apart
 not-read : {P : Type 0} (x : Origin) → _≡_ {A = OriginRead} origin.Nothing (origin.From x) → P
 not-read x e = let z : _≡_ {A = ℕ} 0 1 = cc in absurd (omega arith)
 
@@ -169,7 +234,7 @@ module _ (image : List ℕ) (m : Machine) (request : ℕ) (x : Origin) where
   module _ (spent : ℕ) (is-done : stepOf image m request .answer ≡ done spent)
       (none : requestedOf (m .control .mode) (enabledOf (m .bytes)) request ≡ Nothing)
       (awake : m .control .asleep ≡ false) (i : Instruction) (bytes cycles : ℕ)
-      (at : decodeAt image (m .control .pc) ≡ done (decode.instruction i bytes cycles)) where
+      (stands : decodeOf image (m .control .pc) ≡ done (decode.instruction i bytes cycles)) where
     by-operand :
         (r : OperandRead) → operandReadOf i ≡ r → originAt image (m .bytes) r ≡ origin.From x → Reads image m request
     by-operand operand.Nothing reads e = not-read x e
@@ -182,7 +247,7 @@ module _ (image : List ℕ) (m : Machine) (request : ℕ) (x : Origin) where
           sources = tested .2;
           none-taken = none;
           awake = awake;
-          at-pc = at;
+          at-pc = sym (decoded image m (tested .0) (tested .1)) ∙ stands;
         } in
         record {
           i = i;
@@ -198,7 +263,7 @@ module _ (image : List ℕ) (m : Machine) (request : ℕ) (x : Origin) where
   module _ (spent : ℕ) (is-done : stepOf image m request .answer ≡ done spent)
       (none : requestedOf (m .control .mode) (enabledOf (m .bytes)) request ≡ Nothing) where
     by-decoding :
-        m .control .asleep ≡ false → (a : Answer decode.Decoding) → decodeAt image (m .control .pc) ≡ a →
+        m .control .asleep ≡ false → (a : Answer decode.Decoding) → decodeOf image (m .control .pc) ≡ a →
         decodedRead image (m .bytes) a ≡ origin.From x → Reads image m request
     unfolding originReadOf
     by-decoding awake (done (decode.instruction i bytes cycles)) at e =
@@ -210,7 +275,7 @@ module _ (image : List ℕ) (m : Machine) (request : ℕ) (x : Origin) where
         Reads image m request
     unfolding readAtPc
     by-sleep true is e = not-read x (rw is at e)
-    by-sleep false is e = by-decoding is (decodeAt image (m .control .pc)) refl (rw is at e)
+    by-sleep false is e = by-decoding is (decodeOf image (m .control .pc)) refl (rw is at e)
 
   by-request :
       (spent : ℕ) → stepOf image m request .answer ≡ done spent → (r : Requested) →
@@ -233,32 +298,11 @@ origin-told = record {
       tells (made-of i o (read-form i o reads)) image m request bytes cycles at reads;
   only = λ image m request x e. by-answer image m request x (stepOf image m request .answer) refl e;
   used = λ image m image′ m′ request request′ i bytes cycles o at at′ reads agree.
-      let made = made-of i o (read-form i o reads) in
-      alike m m′ cycles _ _ _ _ (same-parts made image m image′ m′ bytes agree)
-      (step-is made image m request bytes cycles at) (step-is made image′ m′ request′ bytes cycles at′);
-}
-
-reading-given :
-    (image : List ℕ) (m : Machine) (a : ℕ) (r : Numbered) → ReadingRefused image m r → readingOf image m a ≡ refused r
-unfolding readingOf
-reading-given image m a _ (image-length i) = rw i
-reading-given image m a _ (ill-formed i w) = rw (i, w)
-
--- by its two tests
-reading-by :
-    (image : List ℕ) (m : Machine) (a : ℕ) (more : Answer Reading) (i : Bool) → isImage (length image) ≡ i → (w : Bool) →
-    isWellFormed m ≡ w → ((r : Numbered) → ReadingRefused image m r → ⊥) →
-    unless i (refused (plain 1)) (unless w (refused (plain 2)) more) ≡ more
-reading-by image m a more false e w f nowhere = absurd (nowhere (plain 1) (image-length e))
-reading-by image m a more true e false f nowhere = absurd (nowhere (plain 2) (ill-formed e f))
-reading-by image m a more true e true f nowhere = refl
-
-pub reading-refusals : ReadingRefusals
-unfolding readingOf
-reading-refusals = record {
-  given = reading-given;
-  done-else = λ image m a nowhere.
-      reading-by image m a _ (isImage (length image)) refl (isWellFormed m) refl nowhere;
+      used-alike image m image′ m′ request request′ i bytes cycles at at′ (agree .control) (agree .stack) (agree .flags)
+      o (made-of i o (read-form i o reads)) agree;
+  unread = λ image m image′ m′ request request′ i bytes cycles at at′ reads agree.
+      unread-alike image m image′ m′ request request′ i bytes cycles at at′ (agree .control) (agree .stack)
+      (agree .flags) (made-apart i reads) agree;
 }
 
 -- a reading that is done is the byte and the origin
@@ -276,7 +320,4 @@ unfolding readingOf
 reading-is image m a r e = reading-done (isImage (length image)) (isWellFormed m) _ r e
 
 pub bytes-as-before : BytesAsBefore
-bytes-as-before = record {
-  byte = λ image m a r e. sym (ap (λ (x : Reading). x .byte) (reading-is image m a r e));
-  comes-from = λ image m a r e. rw (← reading-is image m a r e) (byte-comes-from image (m .bytes) a);
-}
+bytes-as-before image m a r e = sym (ap (λ (x : Reading). x .byte) (reading-is image m a r e))

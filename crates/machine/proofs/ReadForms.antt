@@ -1,9 +1,11 @@
--- The instructions that read a data operand: what each makes of A, of the byte that it reads and of the flags.
-use Prim.Native.Nat.{ℕ}
+-- What each instruction makes of the bytes that it uses: those that read a data operand, of A, the operand's byte and
+-- address and the flags; all others, of A, X, Y and the flags.
+use Prim.Native.Nat.{ℕ, _+_, _%_}
 use mathlib.Core.Path.{_≡_, refl, ap}
 use mathlib.Core.Bool.{Bool, true, false}
 use mathlib.Core.List.{List}
 use native.Mathlib.Omega.{arith}
+use lib.ListN.{getD}
 use Rattle.alu.specs.declared.Flags.{Flags}
 use Rattle.alu.specs.declared.Outcome.{Outcome}
 use Rattle.alu.specs.Alu.{
@@ -11,6 +13,8 @@ use Rattle.alu.specs.Alu.{
   addedOf,
   subtractedOf,
   andedOf,
+  complementedOf,
+  rotatedOf,
   incrementedOf,
   decrementedOf,
   bitOf,
@@ -19,7 +23,7 @@ use Rattle.alu.specs.Alu.{
 }
 use Rattle.isa.specs.ControlFlow.{flowOf}
 use Rattle.isa.specs.declared.Operand.{Operand}
-use Rattle.isa.specs.declared.Operand.the-variants.{Direct}
+use Rattle.isa.specs.declared.Operand.the-variants.{Direct, Short, ThroughX, ThroughY}
 use Rattle.isa.specs.declared.Instruction.{Instruction}
 use Rattle.isa.specs.declared.Instruction.the-variants as I
 use Rattle.data.specs.declared.OperandRead.{OperandRead}
@@ -98,8 +102,7 @@ result a r = change (byte a (r .value)) (r .flags)
 abbrev pub changed : Data → Change → Data
 changed d x = dataOf (storedBy (x .stores) (d .bytes)) (x .flags)
 
--- an instruction's effect and its jump are made of A, the byte of its operand, the operand's address and the flags; A
--- only where it uses that; and it does not stop
+-- the effect and the jump of an instruction that reads: A counts only where it uses that; and it does not stop
 pub record MadeOf (i : Instruction) (o : Operand) : Type 0 where
   pub change-of : (x v a : ℕ) → Flags → Change
   pub jumps : (v : ℕ) → Bool
@@ -203,3 +206,76 @@ made-of _ _ (is-jrs n a e) = record {
   same = λ x x′ v a f e. refl;
   goes = λ image d stack c next. refl;
 }
+
+-- the effect and the jump of an instruction that does not read
+pub record MadeApart (i : Instruction) : Type 0 where
+  pub change-of : (a x y : ℕ) → Flags → Change
+  pub jumps : Flags → Bool
+  pub effect-is :
+      (image : List ℕ) (d : Data) → effectOf image d i
+      ≡ changed d (change-of (accumulatorOf (d .bytes)) (getD (d .bytes) 0x80 0) (getD (d .bytes) 0x81 0) (d .flags))
+  pub jumps-is : (image : List ℕ) (d : Data) (pc : ℕ) → jumpsOf image d (flowOf i pc) ≡ jumps (d .flags)
+
+-- one that goes on at the next address, after its change
+abbrev on-data :
+    {i : Instruction} (change-of : (a x y : ℕ) → Flags → Change)
+    → ((image : List ℕ) (d : Data) → effectOf image d i
+    ≡ changed d (change-of (accumulatorOf (d .bytes)) (getD (d .bytes) 0x80 0) (getD (d .bytes) 0x81 0) (d .flags)))
+    → ((image : List ℕ) (d : Data) (pc : ℕ) → jumpsOf image d (flowOf i pc) ≡ false) → MadeApart i
+on-data change-of effect-is jumps-is =
+    record { change-of = change-of; jumps = λ f. false; effect-is = effect-is; jumps-is = jumps-is }
+
+-- one that leaves data and flags
+abbrev on-control :
+    {i : Instruction} (jumps : Flags → Bool) → ((image : List ℕ) (d : Data) → effectOf image d i ≡ d)
+    → ((image : List ℕ) (d : Data) (pc : ℕ) → jumpsOf image d (flowOf i pc) ≡ jumps (d .flags)) → MadeApart i
+on-control jumps effect-is jumps-is =
+    record { change-of = λ a x y f. change nothing f; jumps = jumps; effect-is = effect-is; jumps-is = jumps-is }
+
+some : {P : Type 0} (o : Operand) → _≡_ {A = OperandRead} (Is o) Nothing → P
+some o e = let z : _≡_ {A = ℕ} 0 1 = cc in absurd (omega arith)
+
+pub made-apart : (i : Instruction) → operandReadOf i ≡ Nothing → MadeApart i
+unfolding operandReadOf effectOf storeResultOf addressOf flowOf
+made-apart (I.StoreA (Direct at)) e =
+    on-data (λ a x y f. result at (resultOf a (f .carry))) (λ image d. refl) (λ image d pc. refl)
+made-apart (I.StoreA (Short n)) e =
+    on-data (λ a x y f. result (0x80 + n % 4) (resultOf a (f .carry))) (λ image d. refl) (λ image d pc. refl)
+made-apart (I.StoreA ThroughX) e =
+    on-data (λ a x y f. result x (resultOf a (f .carry))) (λ image d. refl) (λ image d pc. refl)
+made-apart (I.StoreA ThroughY) e =
+    on-data (λ a x y f. result y (resultOf a (f .carry))) (λ image d. refl) (λ image d pc. refl)
+made-apart (I.LoadImmediate at v) e =
+    on-data (λ a x y f. change (byte at v) f) (λ image d. refl) (λ image d pc. refl)
+made-apart (I.LoadAImmediate v) e =
+    on-data (λ a x y f. result 0xFF (resultOf v (f .carry))) (λ image d. refl) (λ image d pc. refl)
+made-apart (I.AddImmediate v) e = on-data (λ a x y f. result 0xFF (addedOf a v)) (λ image d. refl) (λ image d pc. refl)
+made-apart (I.SubImmediate v) e =
+    on-data (λ a x y f. result 0xFF (subtractedOf a v)) (λ image d. refl) (λ image d pc. refl)
+made-apart (I.AndImmediate v) e =
+    on-data (λ a x y f. result 0xFF (andedOf a v (f .carry))) (λ image d. refl) (λ image d pc. refl)
+made-apart (I.CpImmediate v) e =
+    on-data (λ a x y f. change nothing (subtractedOf a v .flags)) (λ image d. refl) (λ image d pc. refl)
+made-apart I.Com e = on-data (λ a x y f. result 0xFF (complementedOf a)) (λ image d. refl) (λ image d pc. refl)
+made-apart I.Rlc e = on-data (λ a x y f. result 0xFF (rotatedOf a (f .carry))) (λ image d. refl) (λ image d pc. refl)
+made-apart (I.Jrnz d) e = on-control (λ f. agrees false (f .zero)) (λ image d. refl) (λ image d pc. refl)
+made-apart (I.Jrnc d) e = on-control (λ f. agrees false (f .carry)) (λ image d. refl) (λ image d pc. refl)
+made-apart (I.Jrz d) e = on-control (λ f. agrees true (f .zero)) (λ image d. refl) (λ image d pc. refl)
+made-apart (I.Jrc d) e = on-control (λ f. agrees true (f .carry)) (λ image d. refl) (λ image d pc. refl)
+made-apart (I.Call target) e = on-control (λ f. false) (λ image d. refl) (λ image d pc. refl)
+made-apart (I.Jp target) e = on-control (λ f. false) (λ image d. refl) (λ image d pc. refl)
+made-apart I.Ret e = on-control (λ f. false) (λ image d. refl) (λ image d pc. refl)
+made-apart I.Reti e = on-control (λ f. false) (λ image d. refl) (λ image d pc. refl)
+made-apart I.Stop e = on-control (λ f. false) (λ image d. refl) (λ image d pc. refl)
+made-apart I.Wait e = on-control (λ f. false) (λ image d. refl) (λ image d pc. refl)
+made-apart (I.LoadA o) e = some o e
+made-apart (I.Add o) e = some o e
+made-apart (I.Sub o) e = some o e
+made-apart (I.And o) e = some o e
+made-apart (I.Cp o) e = some o e
+made-apart (I.Inc o) e = some o e
+made-apart (I.Dec o) e = some o e
+made-apart (I.Set n a) e = some (Direct a) e
+made-apart (I.Res n a) e = some (Direct a) e
+made-apart (I.Jrr n a d) e = some (Direct a) e
+made-apart (I.Jrs n a d) e = some (Direct a) e

@@ -1,4 +1,4 @@
--- A step, a run and a host store are refused by document 01's numbers, in its order, and nowhere else.
+-- A step, a run, a host store and a reading are refused by the papers' numbers, in their order, and nowhere else.
 use Prim.Native.Nat.{ℕ, zero, suc, _<_, _≤_}
 use mathlib.Core.Path.{_≡_, refl, sym, ap, _∙_}
 use mathlib.Core.Bool.{Bool, true, false, cond, not, _&&_}
@@ -39,6 +39,7 @@ use Rattle.machine.specs.Advance.{
 use Rattle.machine.specs.Step.{stepOf}
 use Rattle.machine.specs.Steps.{Run, requestsFit, stepsOf}
 use Rattle.machine.specs.Run.{refusedRun, runOf}
+use Rattle.machine.specs.Reading.{Reading, readingOf}
 use Rattle.machine.specs.Refusals as why
 use Rattle.machine.specs.Refusals.{
   TakesNone,
@@ -51,6 +52,8 @@ use Rattle.machine.specs.Refusals.{
   RunRefusals,
   StoreRefused,
   StoreRefusals,
+  ReadingRefused,
+  ReadingRefusals,
 }
 use Rattle.machine.specs.Laws.{executionAt, Does, stops, takes, idles, executes}
 use Rattle.machine.proofs.StepDoes.{step-does, Tested, refuses, passes, step-tested}
@@ -202,4 +205,25 @@ unfolding hostStoreOf
 store-refusals = record {
   given = store-given;
   done-else = λ m a value. store-tests m a value (isWellFormed m) refl (leb 0x40 a) refl (ltb a 0x80) refl;
+}
+
+reading-given :
+    (image : List ℕ) (m : Machine) (a : ℕ) (r : Numbered) → ReadingRefused image m r → readingOf image m a ≡ refused r
+unfolding readingOf
+reading-given image m a _ (why.image-length i) = rw i
+reading-given image m a _ (why.ill-formed i w) = rw (i, w)
+
+reading-tests :
+    (image : List ℕ) (m : Machine) (more : Answer Reading) (i : Bool) → isImage (length image) ≡ i → (w : Bool) →
+    isWellFormed m ≡ w → ((r : Numbered) → ReadingRefused image m r → ⊥) →
+    unless i (refused (plain 1)) (unless w (refused (plain 2)) more) ≡ more
+reading-tests image m more false e w f nowhere = absurd (nowhere (plain 1) (why.image-length e))
+reading-tests image m more true e false f nowhere = absurd (nowhere (plain 2) (why.ill-formed e f))
+reading-tests image m more true e true f nowhere = refl
+
+pub reading-refusals : ReadingRefusals
+unfolding readingOf
+reading-refusals = record {
+  given = reading-given;
+  done-else = λ image m a. reading-tests image m _ (isImage (length image)) refl (isWellFormed m) refl;
 }

@@ -4,7 +4,7 @@ use Prim.Native.Nat.{ℕ}
 use mathlib.Core.Bool.{cond}
 use mathlib.Core.List.{List}
 use Rattle.isa.specs.Refusals.{Answer, done, refused}
-use Rattle.isa.specs.Decode.{decodeAt}
+use Rattle.isa.specs.Decode.{decodeOf}
 use Rattle.isa.specs.Decode as decode
 use Rattle.data.specs.declared.OriginRead.{OriginRead}
 use Rattle.data.specs.declared.OriginRead.the-variants as origin
@@ -19,14 +19,15 @@ use Rattle.machine.specs.declared.StepReport.{StepReport}
 use Rattle.machine.specs.Advance.{answerOf, enabledOf}
 use Rattle.machine.specs.Step.{stepOf}
 
--- of what stands at PC: an instruction, or nothing that decodes
+-- of what stands at PC: an instruction, or nothing that decodes. Image and PC are not tested here as in `decodeAt`: where
+-- they are refused, so is the step
 abbrev pub decodedRead : (image bytes : List ℕ) → Answer decode.Decoding → OriginRead
 decodedRead image bytes (done (decode.instruction i length cycles)) = originReadOf image bytes i
 decodedRead image bytes (refused r) = origin.Nothing
 
 -- "a sleeping step with nothing to take is idle"
 unfoldable pub readAtPc : (image bytes : List ℕ) → Control → OriginRead
-readAtPc image bytes c = cond (c .asleep) origin.Nothing (decodedRead image bytes (decodeAt image (c .pc)))
+readAtPc image bytes c = cond (c .asleep) origin.Nothing (decodedRead image bytes (decodeOf image (c .pc)))
 
 -- "Taking one [..] is a step by itself."
 abbrev pub respondRead : (image bytes : List ℕ) → Control → Requested → OriginRead

@@ -4,17 +4,17 @@ use Prim.Native.Nat.{ℕ}
 use mathlib.Core.Path.{_≡_}
 use mathlib.Core.Bool.{true, false}
 use mathlib.Core.List.{List}
-use lib.ListN.{length}
-use Rattle.isa.specs.Refusals.{Numbered, plain, done, refused}
+use lib.ListN.{length, getD}
+use Rattle.isa.specs.Refusals.{done}
 use Rattle.isa.specs.Sources.{namesOnlySources}
 use Rattle.isa.specs.Rom.{isImage}
 use Rattle.isa.specs.declared.Instruction.{Instruction}
 use Rattle.isa.specs.declared.Instruction.the-variants as I
 use Rattle.isa.specs.declared.Operand.{Operand}
 use Rattle.data.specs.declared.Origin.{Origin}
-use Rattle.data.specs.declared.OperandRead.the-variants.{Is}
+use Rattle.data.specs.declared.OperandRead.the-variants.{Nothing, Is}
 use Rattle.data.specs.declared.OriginRead.the-variants.{From}
-use Rattle.data.specs.Space.{readOf, originOf, storeOf, addressOf, operandOf}
+use Rattle.data.specs.Space.{readOf, storeOf, addressOf}
 use Rattle.data.specs.Effect.{accumulatorOf}
 use Rattle.data.specs.Reads.{operandReadOf}
 use Rattle.data.specs.Laws.{ComesFrom}
@@ -34,12 +34,14 @@ pub record Executes (image : List ℕ) (m : Machine) (request : ℕ) (i : Instru
   pub awake : m .control .asleep ≡ false
   pub at-pc : AtPc image m i bytes cycles
 
--- a step is done, and tells the origin that the reading gives at a data address of the machine before it
+-- a step is done, and tells the origin that the reading gives at a data address of the machine before it, from which the
+-- byte there comes
 pub record TellsOf (image : List ℕ) (m : Machine) (request cycles a : ℕ) : Type 0 where
   pub completed : stepOf image m request .answer ≡ done cycles
   pub byte : ℕ
   pub origin : Origin
   pub reading : readingOf image m a ≡ done (readingAs byte origin)
+  pub comes : ComesFrom image (m .bytes) a byte origin
   pub told : stepReadOf image m request ≡ From origin
 
 -- a step completes an instruction that reads
@@ -68,7 +70,18 @@ pub record AgreeOn (image : List ℕ) (m : Machine) (image′ : List ℕ) (m′ 
   pub flags : m .flags ≡ m′ .flags
   pub accumulator : UsesA i → accumulatorOf (m .bytes) ≡ accumulatorOf (m′ .bytes)
   pub address : addressOf (m .bytes) o ≡ addressOf (m′ .bytes) o
-  pub byte : operandOf image (m .bytes) o ≡ operandOf image′ (m′ .bytes) o
+  pub byte :
+      readOf image (m .bytes) (addressOf (m .bytes) o) ≡ readOf image′ (m′ .bytes) (addressOf (m′ .bytes) o)
+
+-- two machines agree on all that an instruction which reads no data operand can use: control, stack and flags, A, and
+-- the pointers X and Y
+pub record AgreeApart (m m′ : Machine) : Type 0 where
+  pub control : m .control ≡ m′ .control
+  pub stack : m .stack ≡ m′ .stack
+  pub flags : m .flags ≡ m′ .flags
+  pub accumulator : accumulatorOf (m .bytes) ≡ accumulatorOf (m′ .bytes)
+  pub x : getD (m .bytes) 0x80 0 ≡ getD (m′ .bytes) 0x80 0
+  pub y : getD (m .bytes) 0x81 0 ≡ getD (m′ .bytes) 0x81 0
 
 -- what an instruction stores in data space: nothing, or one byte
 pub data Storing : Type 0 where
@@ -110,30 +123,20 @@ pub record OriginTold : Type 0 where
       Executes image m request i bytes cycles → Executes image′ m′ request′ i bytes cycles →
       operandReadOf i ≡ Is o → AgreeOn image m image′ m′ i o →
       StepsAlike m m′ (stepOf image m request) (stepOf image′ m′ request′)
-
--- "The reading refuses with 1, then 2."
-pub data ReadingRefused (image : List ℕ) (m : Machine) : Numbered → Type 0 where
-  image-length : isImage (length image) ≡ false → ReadingRefused image m (plain 1)
-  ill-formed : isImage (length image) ≡ true → isWellFormed m ≡ false → ReadingRefused image m (plain 2)
-
--- a reading is refused in these cases and in no others
--- proved by reading-refusals, proofs/OriginTold
-pub record ReadingRefusals : Type 0 where
-  pub given :
-      (image : List ℕ) (m : Machine) (a : ℕ) (r : Numbered) → ReadingRefused image m r →
-      readingOf image m a ≡ refused r
-  pub done-else :
-      (image : List ℕ) (m : Machine) (a : ℕ) → ((r : Numbered) → ReadingRefused image m r → ⊥) →
-      readingOf image m a ≡ done (readingAs (readOf image (m .bytes) a) (originOf image (m .bytes) a))
+  -- and where an instruction reads none, no other byte of data space and nothing that the ROM window shows is used:
+  -- machines that agree on A, X and Y, and on control, stack and flags, step alike
+  pub unread :
+      (image : List ℕ) (m : Machine) (image′ : List ℕ) (m′ : Machine) (request request′ : ℕ) (i : Instruction)
+      (bytes cycles : ℕ) →
+      Executes image m request i bytes cycles → Executes image′ m′ request′ i bytes cycles →
+      operandReadOf i ≡ Nothing → AgreeApart m m′ →
+      StepsAlike m m′ (stepOf image m request) (stepOf image′ m′ request′)
 
 -- "Flags, bytes and cycles are as before": the byte of a reading is that of `readOf`, the one read of a data byte, by
--- which every instruction reads as before, and comes from where the reading tells. A step's machine and answer are those
--- of `stepOf`, which did not change
+-- which every instruction reads its data operand. A step's machine and answer are those of `stepOf`, which knows no
+-- origin
 -- proved by bytes-as-before, proofs/OriginTold
-pub record BytesAsBefore : Type 0 where
-  pub byte :
-      (image : List ℕ) (m : Machine) (a : ℕ) (r : Reading) → readingOf image m a ≡ done r →
-      r .byte ≡ readOf image (m .bytes) a
-  pub comes-from :
-      (image : List ℕ) (m : Machine) (a : ℕ) (r : Reading) → readingOf image m a ≡ done r →
-      ComesFrom image (m .bytes) a (r .byte) (r .origin)
+abbrev pub BytesAsBefore : Type 0
+BytesAsBefore =
+    (image : List ℕ) (m : Machine) (a : ℕ) (r : Reading) → readingOf image m a ≡ done r →
+    r .byte ≡ readOf image (m .bytes) a

@@ -1,5 +1,5 @@
--- When a step, a run and a host store are refused or stop, and with which number (document 01, "What each operation
--- turns down"). "The first that applies is given, and never where it doesn't apply."
+-- When a step, a run, a host store and a reading are refused or stop, and with which number (document 01, "What each
+-- operation turns down"). "The first that applies is given, and never where it doesn't apply."
 use Prim.Native.Nat.{ℕ, _≤_, _<_}
 use mathlib.Core.Path.{_≡_}
 use mathlib.Core.Bool.{Bool, true, false}
@@ -13,6 +13,7 @@ use Rattle.isa.specs.Decode as decode
 use Rattle.isa.specs.declared.Instruction.{Instruction}
 use Rattle.isa.specs.declared.Instruction.the-variants as I
 use Rattle.isa.specs.declared.Source.{Source}
+use Rattle.data.specs.Space.{readOf, originOf}
 use Rattle.control.specs.declared.Requested.the-variants.{Nothing, Taken}
 use Rattle.control.specs.Modes.{isReset}
 use Rattle.control.specs.Requests.{requestedOf}
@@ -22,6 +23,7 @@ use Rattle.machine.specs.Advance.{Step, refusedOf, enabledOf}
 use Rattle.machine.specs.Step.{stepOf}
 use Rattle.machine.specs.Steps.{stepsOf}
 use Rattle.machine.specs.Run.{refusedRun, runOf}
+use Rattle.machine.specs.Reading.{readingAs, readingOf}
 
 -- the request that a step takes
 abbrev pub Takes : Machine → (request : ℕ) → Source → Type 0
@@ -118,3 +120,18 @@ pub record StoreRefusals : Type 0 where
   pub done-else :
       (m : Machine) (a value : ℕ) → ((r : Numbered) → StoreRefused m a r → ⊥) →
       hostStoreOf m a value ≡ hostStored (withByte m a value) (done tt)
+
+-- document 02, W-203: "The reading refuses with 1, then 2."
+pub data ReadingRefused (image : List ℕ) (m : Machine) : Numbered → Type 0 where
+  image-length : isImage (length image) ≡ false → ReadingRefused image m (plain 1)
+  ill-formed : isImage (length image) ≡ true → isWellFormed m ≡ false → ReadingRefused image m (plain 2)
+
+-- a reading is refused in these cases; else it is the byte with its origin
+-- proved by reading-refusals, proofs/Refusals
+pub record ReadingRefusals : Type 0 where
+  pub given :
+      (image : List ℕ) (m : Machine) (a : ℕ) (r : Numbered) → ReadingRefused image m r →
+      readingOf image m a ≡ refused r
+  pub done-else :
+      (image : List ℕ) (m : Machine) (a : ℕ) → ((r : Numbered) → ReadingRefused image m r → ⊥) →
+      readingOf image m a ≡ done (readingAs (readOf image (m .bytes) a) (originOf image (m .bytes) a))

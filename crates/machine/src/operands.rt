@@ -10,20 +10,23 @@ use control::requests::requested;
 use data::OriginRead;
 use data::reads::origin_read;
 use isa::Decoded;
-use isa::decode::decode;
+use isa::decode::decode_in_range;
+use isa::table::timings;
 ghost use mathlib.Core.Path.{_≡_};
 ghost use Rattle.control.specs.Requests.{requestedOf};
 ghost use Rattle.machine.specs.Advance.{answerOf, enabledOf};
 ghost use Rattle.machine.specs.Operands.{readAtPc, respondRead, readIfDone, reportedOf};
 
-// What the instruction at PC reads. A sleeping machine executes none.
+// What the instruction at PC reads. A sleeping machine executes none. Where the image or PC is refused, the step is too,
+// so that they need no test here.
 fn read_at_pc(image: &[u8], bytes: &[u8; 256], c: Control) -> OriginRead
     ensures { λ r. ⌜ r ≡ readAtPc (now (image .entry)) (now (bytes .entry)) c ⌝ }
 {
     if c.asleep {
         return OriginRead::Nothing;
     }
-    match decode(image, c.pc) {
+    let table = timings();
+    match decode_in_range(&table, image, c.pc) {
         Decoded::Refused(_) => OriginRead::Nothing,
         Decoded::Valid {
             instruction,
@@ -33,7 +36,7 @@ fn read_at_pc(image: &[u8], bytes: &[u8; 256], c: Control) -> OriginRead
     }
 }
 
-// What a step reads that is done. Taking a request is a step that reads none.
+// What a step reads, if it is done. Taking a request is a step by itself, and reads none.
 fn read_by(image: &[u8], bytes: &[u8; 256], c: Control, request: u8) -> OriginRead
     ensures { λ r. ⌜ r ≡ respondRead (now (image .entry)) (now (bytes .entry)) c
         (requestedOf (c .mode) (enabledOf (now (bytes .entry))) request) ⌝ }

@@ -21,7 +21,7 @@ pub use state::{pack, unpack, STATE};
 pub const REPORT: usize = 8;
 
 /// The origins by their numbers.
-pub const ORIGIN_NAMES: [&str; 5] = ["none", "RAM", "register", "ROM", "nothing"];
+pub const ORIGIN_NAMES: [&str; 5] = ["none", "RAM", "register", "ROM", "no ROM"];
 
 pub fn number(answer: u64) -> u8 {
     answer as u8

@@ -43,8 +43,8 @@ cast-read c = search needs
 read-requires : tie.Need-read-requires
 read-requires c κs = search needs
 
-read-word-requires : tie.Need-read-word-requires
-read-word-requires c κs = search needs
+reading-word-requires : tie.Need-reading-word-requires
+reading-word-requires c κs = search needs
 
 returns-3 : tie.Need-returns-3
 unfolding readWord unpacked
@@ -56,7 +56,7 @@ returns-3 c =
       ← v .is-valid .ensures,
       not-false (v .is-valid .result) (u .before .if2 .left),
     )
-    (c .read-word .ensures
+    (c .reading-word .ensures
     ∙ ap readingWord (rw (u .unpack .ensures) at (c .before .read .ensures)))
 
 pub st62-read-spec : {M : Type 1} → statement M
@@ -71,5 +71,5 @@ st62-read-spec =
     unpack-requires
     cast-read
     read-requires
-    read-word-requires
+    reading-word-requires
     returns-3)

@@ -8,8 +8,11 @@ returns : tie.Need-returns
 unfolding readAtPc
 returns c = rw (c .if1 .taken)
 
-decode-requires : tie.Need-decode-requires
-decode-requires c κs = search needs
+timings-requires : tie.Need-timings-requires
+timings-requires c κs = search needs
+
+decode-in-range-requires : tie.Need-decode-in-range-requires
+decode-in-range-requires c κs = search needs
 
 enum-told : tie.Need-enum-told
 enum-told c = search needs
@@ -23,14 +26,17 @@ origin-read-requires c κs = search needs
 returns-2 : tie.Need-returns-2
 unfolding readAtPc
 returns-2 c =
-    let k = c .before .before in
-    rw (k .before .if1 .left, ← k .decode .ensures, c .enum-told .given .1)
+    let d = c .before .before in
+    let t = d .before .before in
+    rw (t .before .if1 .left, ← d .decode-in-range .ensures (t .timings .ensures), c .enum-told .given .1)
 
 returns-3 : tie.Need-returns-3
 unfolding readAtPc
 returns-3 c =
-    let k = c .before .before in
-    rw (k .before .before .before .if1 .left, ← k .before .before .decode .ensures, k .instruction .given .1)
+    let i = c .before .before in
+    let d = i .before .before in
+    let t = d .before .before in
+    rw (t .before .if1 .left, ← d .decode-in-range .ensures (t .timings .ensures), i .instruction .given .1)
     (c .origin-read .ensures)
 
 pub read-at-pc-spec : {M : Type 1} → statement M
@@ -38,7 +44,8 @@ read-at-pc-spec =
     tie.close
     (tie.spec
     returns
-    decode-requires
+    timings-requires
+    decode-in-range-requires
     enum-told
     enum-known-instruction
     origin-read-requires

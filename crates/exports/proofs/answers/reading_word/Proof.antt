@@ -1,7 +1,7 @@
--- `answers::read_word` meets its contract.
+-- `answers::reading_word` meets its contract.
 use borrow.Author.Needs.{needs}
-use Rattle.exports.proofs.answers.read_word.Statement.{statement}
-use Rattle.exports.proofs.answers.read_word.Tie as tie
+use Rattle.exports.proofs.answers.reading_word.Statement.{statement}
+use Rattle.exports.proofs.answers.reading_word.Tie as tie
 
 enum-known-answer : tie.Need-enum-known-answer
 enum-known-answer c = search needs
@@ -21,8 +21,8 @@ returns c = rw (c .before .before .answer .given .1) (c .origin-word .ensures)
 returns-2 : tie.Need-returns-2
 returns-2 c = rw (c .before .before .answer2 .given .1) (c .refused .ensures)
 
-pub read-word-spec : {M : Type 1} → statement M
-read-word-spec =
+pub reading-word-spec : {M : Type 1} → statement M
+reading-word-spec =
     tie.close
     (tie.spec
     enum-known-answer
