@@ -19,13 +19,13 @@ use Rattle.machine.specs.declared.StepReport.{StepReport}
 use Rattle.machine.specs.Advance.{answerOf, enabledOf}
 use Rattle.machine.specs.Step.{stepOf}
 
--- of what stands at PC: an instruction, or nothing that decodes. Image and PC are not tested here as in `decodeAt`: where
--- they are refused, so is the step
+-- of what stands at PC: an instruction, or nothing that decodes
 abbrev pub decodedRead : (image bytes : List ℕ) → Answer decode.Decoding → OriginRead
 decodedRead image bytes (done (decode.instruction i length cycles)) = originReadOf image bytes i
 decodedRead image bytes (refused r) = origin.Nothing
 
--- "a sleeping step with nothing to take is idle"
+-- "a sleeping step with nothing to take is idle"; else of what stands at PC. Image and PC are not tested as in `decodeAt`:
+-- where they are refused, so is the step
 unfoldable pub readAtPc : (image bytes : List ℕ) → Control → OriginRead
 readAtPc image bytes c = cond (c .asleep) origin.Nothing (decodedRead image bytes (decodeOf image (c .pc)))
 
