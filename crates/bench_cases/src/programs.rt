@@ -82,6 +82,37 @@ pub const WINDOW: [u8; 14] = [
     0x42,
 ];
 
+// RETI; LDI 0C9h,0FBh; LD A,0C9h (reads 0); SET 2,0C9h (stores 04h: the window shows 100h); LD A,40h; LDI X,0C8h; LDI
+// 0C8h,0FFh; LD A,(X) (reads 0); RES 0,0C8h (stores 0: sources disabled); NOP; SET 4,0C8h (stores 10h: enabled); NOP.
+pub const WRITE_ONLY: [u8; 23] = [
+    0x4D,
+    0x0D,
+    0xC9,
+    0xFB,
+    0x1F,
+    0xC9,
+    0x5B,
+    0xC9,
+    0x1F,
+    0x40,
+    0x0D,
+    0x80,
+    0xC8,
+    0x0D,
+    0xC8,
+    0xFF,
+    0x07,
+    0x0B,
+    0xC8,
+    0x04,
+    0x3B,
+    0xC8,
+    0x04,
+];
+
+// The request bytes for it: source 1 asks at the first NOP, and is not taken; then at the second, and is taken.
+pub const ASKED_TWICE: [u8; 13] = [0, 0, 0, 0, 0, 0, 0, 0, 0, 0, 0x02, 0, 0x02];
+
 // RETI; CALL 108h; CALL 109h; NOP; NOP; NOP; at 108h RET; at 109h INC X; RET.
 pub const SUBROUTINES: [u8; 12] = [
     0x4D,

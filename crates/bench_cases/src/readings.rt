@@ -23,12 +23,14 @@ fn put_reading(what: &[u8], image: &[u8], m: Machine, address: u8) {
     put(b"\n");
 }
 
-// A machine with a page in the ROM window register.
+// A machine with a page in the ROM window register, sources enabled, and a byte after both registers.
 fn with_page(page: u8) -> Machine {
     let mut bytes = [0u8; 256];
     bytes[0x3F] = 0x33;
     bytes[0x80] = 0x44;
+    bytes[0xC8] = 0x10;
     bytes[0xC9] = page;
+    bytes[0xCA] = 0x55;
     machine_at(0x880, false, false, bytes)
 }
 
@@ -40,6 +42,9 @@ fn put_bytes(image: &[u8]) {
     put_reading(b"41h, page 22h", image, m, 0x41);
     put_reading(b"7Fh, page 1Fh", image, with_page(0x1F), 0x7F);
     put_reading(b"40h, page 20h", image, with_page(0x20), 0x40);
+    put_reading(b"C8h, 10h stored", image, m, 0xC8);
+    put_reading(b"C9h, 22h stored", image, m, 0xC9);
+    put_reading(b"CAh, 55h stored", image, m, 0xCA);
 }
 
 // No image and a PC outside program space: 1 comes first; then that PC alone.

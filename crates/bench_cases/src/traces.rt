@@ -83,6 +83,12 @@ pub fn put_traces() {
     put_trace(b"Arithmetic and flags", &programs::ARITHMETIC, b"", 14);
     put_trace(b"Data space, pointers and bits", &programs::DATA, b"", 14);
     put_trace(b"The ROM window", &programs::WINDOW, b"", 8);
+    put_trace(
+        b"Registers that cannot be read",
+        &programs::WRITE_ONLY,
+        &programs::ASKED_TWICE,
+        15,
+    );
     put_trace(b"Subroutines", &programs::SUBROUTINES, b"", 9);
     put_trace(b"A seventh level", &[0x01, 0x10], b"", 9);
     put_trace(b"RET on an empty stack", &[0xCD], b"", 3);

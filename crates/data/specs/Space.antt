@@ -1,10 +1,10 @@
--- Data space and the ROM window (document 01, "Program space and data space"), and where a byte of it comes from
--- (document 02, W-203).
+-- Data space and the ROM window (document 01, "Program space and data space"), the two registers that can't be read
+-- (document 02, W-204), and where a byte comes from (document 02, W-203).
 use Prim.Native.Nat.{ℕ, _+_, _-_, _*_, _%_}
-use mathlib.Core.Bool.{Bool, cond, _&&_}
+use mathlib.Core.Bool.{Bool, cond, _&&_, _||_}
 use mathlib.Core.List.{List}
 use lib.ListN.{getD, set}
-use lib.Dec.{ltb, leb}
+use lib.Dec.{ltb, leb, eqb}
 use Rattle.isa.specs.Rom.{romAt}
 use Rattle.isa.specs.declared.rom.RomByte.{RomByte}
 use Rattle.isa.specs.declared.rom.RomByte.the-variants.{Byte, Outside}
@@ -17,26 +17,41 @@ use Rattle.data.specs.declared.Origin.the-variants.{Ram, Register, Rom, 
 abbrev pub inWindow : ℕ → Bool
 inWindow a = leb 0x40 a && ltb a 0x80
 
+-- "0C8h and 0C9h write-only" (W-204)
+abbrev pub isWriteOnly : ℕ → Bool
+isWriteOnly a = eqb a 0xC8 || eqb a 0xC9
+
 -- "ROM that the image lacks reads 0"
 abbrev pub shownOf : RomByte → ℕ
 shownOf (Byte byte) = byte
 shownOf Outside = 0
 
--- "address d reads the ROM byte at 64 × w + (d − 40h), w being the low six bits of 0C9h"
-abbrev pub windowAddress : List ℕ → ℕ → ℕ
-windowAddress bytes a = 64 * (getD bytes 0xC9 0 % 64) + (a - 0x40)
+-- "w being the low six bits of 0C9h": of the byte stored there, not of a program's read, which gives 0. "The stored
+-- bytes still drive the enable and the window." (W-204)
+abbrev pub windowPage : List ℕ → ℕ
+windowPage bytes = getD bytes 0xC9 0 % 64
 
--- the one read of a data byte: "00h–3Fh are 64 RAM bytes. 40h–7Fh show ROM [..]. 80h–FFh are plain bytes."
-unfoldable pub readOf : (image bytes : List ℕ) → (a : ℕ) → ℕ
-readOf image bytes a =
+-- "address d reads the ROM byte at 64 × w + (d − 40h)"
+abbrev pub windowAddress : List ℕ → ℕ → ℕ
+windowAddress bytes a = 64 * windowPage bytes + (a - 0x40)
+
+-- the byte that stands at a data address: "00h–3Fh are 64 RAM bytes. 40h–7Fh show ROM [..]. 80h–FFh are plain bytes."
+abbrev pub heldOf : (image bytes : List ℕ) → (a : ℕ) → ℕ
+heldOf image bytes a =
     cond (inWindow a) (shownOf (romAt image (windowAddress bytes a))) (getD bytes a 0)
+
+-- the one read of a data byte: of 0C8h and 0C9h "a program's read of either gives 0" (W-204), of any other address the
+-- byte that stands there
+unfoldable pub readOf : (image bytes : List ℕ) → (a : ℕ) → ℕ
+readOf image bytes a = cond (isWriteOnly a) 0 (heldOf image bytes a)
 
 -- "the ROM window with its ROM address, or the window where the image has nothing"
 abbrev pub windowOrigin : (address : ℕ) → RomByte → Origin
 windowOrigin address (Byte byte) = Rom address
 windowOrigin address Outside = NoRom
 
--- where the byte of `readOf` comes from: "RAM, a register from 80h up", or the window, at the address that is read there
+-- where the byte of `readOf` comes from: "RAM, a register from 80h up", 0C8h and 0C9h too, or the window, at the address
+-- that is read there
 unfoldable pub originOf : (image bytes : List ℕ) → (a : ℕ) → Origin
 originOf image bytes a =
     cond (inWindow a) (windowOrigin (windowAddress bytes a) (romAt image (windowAddress bytes a)))

@@ -1,5 +1,6 @@
 // Data space: the one read and the one store of a data byte, where a byte comes from, and where an operand stands. The
-// bytes are lent, by data address; those under the ROM window (40h-7Fh) are never read and never change.
+// bytes are lent, by data address; those under the ROM window (40h-7Fh) are never read and never change. A program cannot
+// read 0C8h and 0C9h; the bytes stored there drive the interrupt enable and the ROM window.
 use crate::Origin;
 use isa::Operand;
 use isa::rom::RomByte;
@@ -7,7 +8,7 @@ use isa::rom::rom_byte;
 ghost use mathlib.Core.Path.{_≡_};
 ghost use Rattle.isa.specs.Rom.{romAt};
 ghost use Prim.Native.Nat.{_≤_};
-ghost use Rattle.data.specs.Space.{inWindow, shownOf, windowAddress, readOf, originOf};
+ghost use Rattle.data.specs.Space.{inWindow, isWriteOnly, shownOf, windowAddress, heldOf, readOf, originOf};
 ghost use Rattle.data.specs.Space.{storeOf, addressOf, operandOf};
 
 // Data addresses that the paper names: X, Y, A, the interrupt option register and the ROM window register.
@@ -28,6 +29,14 @@ pub fn is_window(address: u8) -> bool
     0x40 <= address && address < 0x80
 }
 
+// Whether an address is one of the two registers that a program cannot read.
+fn is_write_only(address: u8) -> bool
+    ensures { λ r. ⌜ r ≡ isWriteOnly address ⌝ }
+{
+    let at = address as usize;
+    at == INTERRUPT_OPTION || at == ROM_WINDOW
+}
+
 // The byte of program space that the ROM window shows at an address, 0 where the image has none.
 fn shown(image: &[u8], address: u16) -> u8
     ensures { λ r. ⌜ r ≡ shownOf (romAt (now (image .entry)) address) ⌝ }
@@ -38,7 +47,7 @@ fn shown(image: &[u8], address: u16) -> u8
     }
 }
 
-// The program address that the ROM window shows at an address in it.
+// The program address that the ROM window shows at an address in it, by the byte stored in its register.
 fn window_address(bytes: &[u8; 256], address: u8) -> u16
     requires { ⌜ 0x40 ≤ address ⌝ }
     ensures { λ r. ⌜ r ≡ windowAddress (now (bytes .entry)) address ⌝ }
@@ -47,15 +56,25 @@ fn window_address(bytes: &[u8; 256], address: u8) -> u16
     64 * ((window % 64) as u16) + ((address - 0x40) as u16)
 }
 
-// The one read of a data byte.
-pub fn read(image: &[u8], bytes: &[u8; 256], address: u8) -> u8
-    ensures { λ r. ⌜ r ≡ readOf (now (image .entry)) (now (bytes .entry)) address ⌝ }
+// The byte that stands at a data address, whether a program can read it or not.
+fn held(image: &[u8], bytes: &[u8; 256], address: u8) -> u8
+    ensures { λ r. ⌜ r ≡ heldOf (now (image .entry)) (now (bytes .entry)) address ⌝ }
 {
     let at = address as usize;
     if !is_window(address) {
         return bytes[at];
     }
     shown(image, window_address(bytes, address))
+}
+
+// The one read of a data byte.
+pub fn read(image: &[u8], bytes: &[u8; 256], address: u8) -> u8
+    ensures { λ r. ⌜ r ≡ readOf (now (image .entry)) (now (bytes .entry)) address ⌝ }
+{
+    if is_write_only(address) {
+        return 0;
+    }
+    held(image, bytes, address)
 }
 
 // Where the byte that `read` gives at an address comes from.

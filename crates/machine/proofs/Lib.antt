@@ -8,3 +8,4 @@ pub mod Laws
 pub mod PairUse
 pub mod ReadForms
 pub mod OriginTold
+pub mod WriteOnly

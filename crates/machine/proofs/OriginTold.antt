@@ -91,7 +91,7 @@ transferOf m i jumps bytes =
 module _ (image : List ℕ) (m : Machine) (request : ℕ) (i : Instruction) (bytes cycles : ℕ)
     (at : Executes image m request i bytes cycles) where
   -- a step that comes to an instruction is that instruction
-  comes : stepOf image m request ≡ executedOf image m i bytes cycles
+  pub comes : stepOf image m request ≡ executedOf image m i bytes cycles
   unfolding advancedOf respondOf decodedOf
   comes =
       steps.step-advances image m request (at .image-length) (at .formed) (at .sources)

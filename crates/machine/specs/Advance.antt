@@ -89,7 +89,8 @@ unfoldable pub respondOf : (image : List ℕ) → Machine → Requested → Step
 respondOf image m (Taken source) = takenOf m source
 respondOf image m Nothing = uninterruptedOf image m
 
--- "Bit 4 of 0C8h enables sources 1 to 4."
+-- "Bit 4 of 0C8h enables sources 1 to 4.": of the byte stored there, not of a program's read, which gives 0. "The stored
+-- bytes still drive the enable and the window." (document 02, W-204)
 abbrev pub enabledOf : (bytes : List ℕ) → Bool
 enabledOf bytes = bitOf (getD bytes 0xC8 0) 4
 

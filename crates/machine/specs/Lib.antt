@@ -11,3 +11,4 @@ pub mod Refusals
 pub mod Laws
 pub mod PairUse
 pub mod OriginTold
+pub mod WriteOnly

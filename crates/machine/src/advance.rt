@@ -105,7 +105,7 @@ fn executed(
     }
 }
 
-// Bit 4 of 0C8h enables sources 1 to 4.
+// Bit 4 of 0C8h enables sources 1 to 4: of the byte stored there, which a program cannot read.
 pub fn is_enabled(bytes: &[u8; 256]) -> bool
     ensures { λ r. ⌜ r ≡ enabledOf (now (bytes .entry)) ⌝ }
 {

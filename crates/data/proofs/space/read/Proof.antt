@@ -1,50 +1,22 @@
 -- `space::read` meets its contract.
 use borrow.Author.Needs.{needs}
-use borrow.Author.Tests.{not-true, not-false}
 use Rattle.data.specs.Space.{readOf}
-use Rattle.data.proofs.Window.{window-low}
 use Rattle.data.proofs.space.read.Statement.{statement}
 use Rattle.data.proofs.space.read.Tie as tie
 
-is-window-requires : tie.Need-is-window-requires
-is-window-requires c κs = search needs
-
-element-copy-out-result : tie.Need-element-copy-out-result
-element-copy-out-result c = search needs
+is-write-only-requires : tie.Need-is-write-only-requires
+is-write-only-requires c κs = search needs
 
 returns : tie.Need-returns
 unfolding readOf
-returns c =
-    let k = c .before .before in
-    rw (← k .is-window .ensures, not-true (k .is-window .result) (c .before .if1 .taken))
+returns c = rw (← c .before .is-write-only .ensures, c .if1 .taken)
 
-window-address-requires : tie.Need-window-address-requires
-window-address-requires c κs =
-    let k = c .before in
-    window-low (k .before .before .args .address) (k .is-window .result) (k .is-window .ensures)
-    (not-false (k .is-window .result) (c .if1 .left))
-
-shown-requires : tie.Need-shown-requires
-shown-requires c κs = search needs
+held-requires : tie.Need-held-requires
+held-requires c κs = search needs
 
 returns-2 : tie.Need-returns-2
 unfolding readOf
-returns-2 c =
-    let k = c .before .before .before in
-    rw (
-      c .shown .ensures,
-      c .before .window-address .ensures,
-      ← k .is-window .ensures,
-      not-false (k .is-window .result) (c .before .before .if1 .left),
-    )
+returns-2 c = rw (c .held .ensures, ← c .before .before .is-write-only .ensures, c .before .if1 .left)
 
 pub read-spec : {M : Type 1} → statement M
-read-spec =
-    tie.close
-    (tie.spec
-    is-window-requires
-    element-copy-out-result
-    returns
-    window-address-requires
-    shown-requires
-    returns-2)
+read-spec = tie.close (tie.spec is-write-only-requires returns held-requires returns-2)
