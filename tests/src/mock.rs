@@ -1,20 +1,22 @@
 //! Stands in for the proved library: the same functions, on this crate's own
-//! emulator; only its certificate maker and its telling of origins are others.
-//! `ST62_MOCK_FAULT` names a fault to inject, so that one can see the
-//! comparison find it.
+//! emulator; only its certificate maker, its reading and its telling of origins
+//! are others. `ST62_MOCK_FAULT` names a fault to inject, so that one can see
+//! the comparison find it.
 
 mod make;
 mod origin;
+mod write_only;
 
-use crate::boundary;
-use crate::gauge::Gauged;
+use crate::boundary::{self, STATE};
+use crate::chip::MOST_STEPS;
+use crate::gauge::{Gauged, COUNT, WIDTH};
 use std::sync::OnceLock;
 
 pub use make::make;
 pub use origin::read;
 
 /// The faults that can be injected.
-pub const FAULTS: [&str; 76] = [
+pub const FAULTS: [&str; 101] = [
     "decode-bit",      // bit numbers unreversed
     "com-carry",       // COM leaves C clear
     "rlc-low",         // RLC shifts in 0
@@ -90,8 +92,41 @@ pub const FAULTS: [&str; 76] = [
     "read-ill-formed", // ill-formed machines are read
     "read-packing",    // badly packed machines are read
     "read-array",      // the window shows data bytes
-    "read-write-only", // 0C8h and 0C9h read 0
+    "read-stored-c8",  // 0C8h is read as stored
+    "read-stored-c9",  // 0C9h is
+    "read-zero-c7",    // 0C7h reads 0 too
+    "read-zero-ca",    // 0CAh does
+    "read-page-0",     // the window always shows page 0
+    "read-no-origin",  // 0C8h and 0C9h have no origin
+    "origin-unread",   // steps that read 0C8h or 0C9h tell none
+    "stored-c8",       // steps read 0C8h as stored
+    "stored-c9",       // they read 0C9h so
+    "stored-direct",   // they read both so, as direct operands
+    "stored-by-x",     // through X
+    "stored-by-y",     // through Y
+    "stored-ld",       // with LD
+    "stored-add",      // with ADD, SUB, AND and CP
+    "stored-inc",      // with INC and DEC
+    "stored-bits",     // with RES and SET, which keep the other bits
+    "stored-jump",     // with JRR and JRS
+    "stored-run",      // in runs
+    "stored-width",    // in the gauge
+    "stored-flags",    // flags follow what is stored there
+    "stored-kept",     // INC, DEC, RES and SET store nothing there
+    "zero-c7",         // steps read 0 at 0C7h too
+    "zero-ca",         // they do at 0CAh
+    "zero-enable",     // the enable reads 0 too: no source is taken
+    "zero-page",       // so does the window's page
+    "zero-state",      // states after steps have 0 at 0C8h and 0C9h
 ];
+
+/// What a step is part of.
+#[derive(Clone, Copy, PartialEq, Eq)]
+enum Operation {
+    Step,
+    Run,
+    Width,
+}
 
 fn fault() -> Option<&'static str> {
     static FAULT: OnceLock<Option<&'static str>> = OnceLock::new();
@@ -114,22 +149,34 @@ pub fn decode(image: &[u8], address: u32, out: &mut [u8]) -> u64 {
     answer
 }
 
-/// One step, with the fault.
 pub fn step(image: &[u8], state: &mut [u8], request: u32) -> u64 {
+    step_of(Operation::Step, image, state, request)
+}
+
+/// One step, with the fault.
+fn step_of(operation: Operation, image: &[u8], state: &mut [u8], request: u32) -> u64 {
     let before = state.to_vec();
-    let answer = boundary::step(image, state, request);
+    // Without the enable bit only NMI is seen.
+    let seen = if faulty("zero-enable") && request < 0x20 { request & 1 } else { request };
+    let answer = boundary::step(image, state, seen);
     let answer = origin::retold(image, &before, state, answer);
-    let Some(name) = fault() else { return answer };
     let taken = boundary::cycles(answer) == 1;
-    if boundary::number(answer) != 0 || before[260] == 1 || taken {
+    if fault().is_none() || boundary::number(answer) != 0 || before[260] == 1 || taken {
         return answer;
     }
+    write_only::misread(image, &before, state, operation);
+    wrong_effect(image, &before, state, request).unwrap_or(answer)
+}
+
+/// Changes the state after the instruction at PC, which was executed; gives
+/// the answer if that is another one.
+fn wrong_effect(image: &[u8], before: &[u8], state: &mut [u8], request: u32) -> Option<u64> {
     let pc = u16::from_le_bytes([before[256], before[257]]);
     let at = |offset: usize| image[(pc as usize + offset) % 0x1000 % image.len()];
     let pair = |mode: u8| 261 + 2 * [2, 0, 1, 2, 2][mode as usize];
     let flags = pair(before[259]);
     let top = 268 + 2 * before[258] as usize;
-    match (name, at(0)) {
+    match (fault()?, at(0)) {
         ("com-carry", 0x2D) => state[flags + 1] = 0,
         ("rlc-low", 0xAD) => state[255] &= 0xFE,
         ("call-pushes-own", opcode) if opcode & 0x0F == 1 => {
@@ -137,17 +184,18 @@ pub fn step(image: &[u8], state: &mut [u8], request: u32) -> u64 {
         }
         ("reti-flags", 0x4D) => state.copy_within(flags..flags + 2, pair(state[259])),
         ("second-nmi", _) if before[259] >= 3 && request & 1 != 0 && before[258] < 6 => {
-            state.copy_from_slice(&before);
+            state.copy_from_slice(before);
             state[top..top + 2].copy_from_slice(&pc.to_le_bytes());
             state[258] += 1;
             state[256..258].copy_from_slice(&0xFFCu16.to_le_bytes());
-            return 1 << 24;
+            return Some(1 << 24);
         }
         ("window-store", 0x7F) if at(1) & 0xC0 == 0x40 => state[flags] = before[flags],
         ("sleep-stop", 0x6D) => state[256..258].copy_from_slice(&before[256..258]),
+        ("zero-state", _) => state[0xC8..0xCA].fill(0),
         _ => {}
     }
-    answer
+    None
 }
 
 /// A run, with the fault.
@@ -181,7 +229,7 @@ fn faulty_steps(image: &[u8], state: &mut [u8], requests: &[u8], n: u32) -> (u32
     let (mut steps, mut cycles) = (0, 0);
     while steps < n {
         let request = requests.get(steps as usize).copied().unwrap_or(0);
-        let answer = step(image, state, request as u32);
+        let answer = step_of(Operation::Run, image, state, request as u32);
         if boundary::number(answer) != 0 {
             return (steps, cycles, answer);
         }
@@ -241,6 +289,9 @@ pub fn job(job: &[u8], line: &mut [u8]) -> u64 {
     answer
 }
 
+/// So few steps are soon made one by one.
+const FEW_STEPS: u16 = 2_000;
+
 pub fn width(image: &[u8], certificate: &[u8], count: u32) -> u64 {
     let answer = boundary::width(image, certificate, count);
     let refused = || boundary::number(boundary::check(image, certificate, 0));
@@ -251,6 +302,22 @@ pub fn width(image: &[u8], certificate: &[u8], count: u32) -> u64 {
         (Some("width-limit"), 0) if steps == u16::MAX => 24,
         (Some("width-number"), 23) => refused() as u64,
         (Some("width-order"), 8) if refused() != 0 => 23,
+        (Some("stored-width"), 0) if steps < FEW_STEPS => width_by_steps(image, count),
         _ => answer,
     }
+}
+
+/// A width made of steps, so that it has their faults.
+fn width_by_steps(image: &[u8], count: u32) -> u64 {
+    let mut state = vec![0; STATE];
+    boundary::reset(&mut state);
+    state[COUNT as usize] = count as u8;
+    for steps in 1..=MOST_STEPS as u64 {
+        step_of(Operation::Width, image, &mut state, 0);
+        if state[260] == 1 {
+            let width = u16::from_be_bytes(WIDTH.map(|address| state[address as usize]));
+            return steps << 40 | (width as u64) << 24;
+        }
+    }
+    24
 }

@@ -9,8 +9,10 @@ use std::thread;
 /// The part that finds a fault, where the others would only take time.
 fn part_of(fault: &str) -> Option<&'static str> {
     match fault.split('-').next() {
+        _ if fault == "stored-width" => Some("widths"),
         Some("make") => Some("makes"),
         Some("origin" | "read") => Some("origins"),
+        Some("stored" | "zero") => Some("write-only"),
         _ => None,
     }
 }
@@ -61,5 +63,39 @@ fn every_fault_is_found() {
 fn other_parts_see_origins() {
     for part in ["opcodes", "exhaustive", "steps", "refusals", "programs"] {
         is_found("origin-jump", Some(part));
+    }
+}
+
+/// So do they with what can't be read, in steps and in runs.
+#[test]
+fn other_parts_read_write_only_registers() {
+    for (fault, part) in [
+        ("stored-by-x", "opcodes"),
+        ("stored-direct", "exhaustive"),
+        ("stored-bits", "steps"),
+        ("stored-by-y", "origins"),
+        ("stored-direct", "programs"),
+        ("stored-run", "programs"),
+    ] {
+        is_found(fault, Some(part));
+    }
+}
+
+#[test]
+fn what_was_not_met_is_printed() {
+    let output = compare(None, Some("bench cases"));
+    let text = String::from_utf8_lossy(&output.stdout);
+    let line = text.lines().find(|line| line.starts_with("NOT MET: write-only registers"));
+    let line = line.unwrap_or_else(|| panic!("{text}"));
+    for what in [
+        " SET 0C8h in single steps,",
+        " LD-A direct 0C9h in runs,",
+        " CP (Y) 0C8h in runs,",
+        " source taken in single steps,",
+        " source not enabled in runs,",
+        " page in runs,",
+        " read 0C8h, read 0C9h",
+    ] {
+        assert!(line.contains(what), "{what} isn't in {line}");
     }
 }

@@ -10,17 +10,19 @@ use crate::Refusal::*;
 
 #[test]
 fn generated_programs_are_accepted() {
-    let mut rng = Rng::new(7);
-    let mut seen = [0; 8];
-    for _ in 0..2000 {
-        let p = program(&mut rng);
-        match check(&p.image, &p.certificate, p.wired) {
-            Ok(levels) => seen[levels as usize] += 1,
-            Err(TooManyLevels) => seen[7] += 1,
-            Err(other) => panic!("{other:?}"),
+    for generator in [program, write_only_program] {
+        let mut rng = Rng::new(7);
+        let mut seen = [0; 8];
+        for _ in 0..2000 {
+            let p = generator(&mut rng);
+            match check(&p.image, &p.certificate, p.wired) {
+                Ok(levels) => seen[levels as usize] += 1,
+                Err(TooManyLevels) => seen[7] += 1,
+                Err(other) => panic!("{other:?}"),
+            }
         }
+        assert!(seen.iter().all(|&count| count > 0), "{seen:?}");
     }
-    assert!(seen.iter().all(|&count| count > 0), "{seen:?}");
 }
 
 #[test]
@@ -117,8 +119,9 @@ fn mazes_and_call_graphs() {
 #[test]
 fn accepted_programs_never_stop() {
     let mut rng = Rng::new(8);
-    for _ in 0..300 {
-        let p = program(&mut rng);
+    for round in 0..600 {
+        let generator = if round % 2 == 0 { program } else { write_only_program };
+        let p = generator(&mut rng);
         let Ok(levels) = check(&p.image, &p.certificate, p.wired) else { continue };
         let mut m = Machine::default();
         for _ in 0..3000 {

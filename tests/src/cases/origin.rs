@@ -194,11 +194,11 @@ fn steps_that_move_their_operand() {
     let mut m = machine(0x900, &[(X, 0x80), (WINDOW, 0x20)]);
     let traced = m.traced_step(&at_900h(2048, &[0xE7]), 0).unwrap();
     assert_eq!((traced.origin, m.data[0x80]), (Some(Register), 0x7F));
-    // INC 0C9h, and after it the next page.
+    // INC 0C9h stores 1, and a 2K image has nothing on page 1.
     let rom = at_900h(2048, &[0x7F, 0xC9, 0x7F, 0x41]);
     let mut m = machine(0x900, &[(WINDOW, 0x24)]);
     let origins = [0, 0].map(|request| m.traced_step(&rom, request).unwrap().origin);
-    assert_eq!(origins, [Some(Register), Some(Rom(0x941))]);
+    assert_eq!(origins, [Some(Register), Some(Nothing)]);
 }
 
 #[test]
@@ -264,8 +264,8 @@ fn reading() {
         (0x1F, 0x7F, 0, Nothing),
         (0x00, 0x40, 0, Nothing),
         (0x00, 0x80, 5, Register),
-        (0x00, 0xC8, 6, Register),
-        (0xFF, 0xC9, 0xFF, Register),
+        (0x00, 0xC8, 0, Register), // it can't be read, nor the next one
+        (0xFF, 0xC9, 0, Register),
         (0x00, 0xFF, 7, Register),
     ] {
         m.data[WINDOW as usize] = page;

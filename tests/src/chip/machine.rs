@@ -122,16 +122,27 @@ impl Machine {
     #[inline(always)]
     pub(super) fn shown(&self, address: u8) -> Option<u16> {
         in_window(address).then(|| {
+            // The stored page counts, though 0C9h reads 0.
             let page = (self.data[WINDOW as usize] & 0x3F) as u16;
             page * 64 + (address - 0x40) as u16
         })
     }
 
+    /// The byte that a program reads at a data address, and that the host's
+    /// reading gives: the one place that knows what can't be read.
     #[inline(always)]
     pub(super) fn read(&self, rom: &Rom, address: u8) -> u8 {
         match self.shown(address) {
             Some(rom_address) => rom.byte(rom_address).unwrap_or(0),
-            None => self.data[address as usize],
+            None => {
+                // Loaded first, so that the choice needs no branch.
+                let stored = self.data[address as usize];
+                if write_only(address) {
+                    0
+                } else {
+                    stored
+                }
+            }
         }
     }
 
@@ -147,4 +158,11 @@ impl Machine {
 #[inline(always)]
 const fn in_window(address: u8) -> bool {
     address & 0xC0 == 0x40
+}
+
+/// Whether a program can store at a data address but not read there: 0C8h and
+/// 0C9h.
+#[inline(always)]
+const fn write_only(address: u8) -> bool {
+    matches!(address, IOR | WINDOW)
 }

@@ -25,7 +25,8 @@ pub const VECTORS: [u16; 5] = [0xFFC, 0xFF6, 0xFF4, 0xFF2, 0xFF0];
 
 pub const X: u8 = 0x80;
 pub const Y: u8 = 0x81;
-/// The interrupt option register; its bit 4 enables sources 1 to 4.
+/// The interrupt option register; its bit 4 enables sources 1 to 4. Programs
+/// store to it and to the next one, but read 0 there (document 02, W-204).
 pub const IOR: u8 = 0xC8;
 /// The data ROM window register.
 pub const WINDOW: u8 = 0xC9;

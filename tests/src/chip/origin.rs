@@ -22,7 +22,7 @@ pub struct DataByte {
 }
 
 impl Machine {
-    /// The host's reading of the data space.
+    /// The host's reading of the data space: it gives what a program reads.
     pub fn host_read(&self, image: &[u8], address: u8) -> Result<DataByte, Refusal> {
         let rom = Rom::new(image)?;
         self.well_formed()?;

@@ -104,6 +104,7 @@ impl Machine {
     /// The source that is taken now: 0 for NMI, or 1 to 4.
     fn taken(&self, request: u8) -> Option<usize> {
         let open = match self.mode {
+            // The stored bit counts, though 0C8h reads 0.
             Mode::Normal if self.data[IOR as usize] & 0x10 != 0 => 0x1F,
             Mode::Normal | Mode::Interrupt => 0x01,
             Mode::Reset | Mode::NmiOverNormal | Mode::NmiOverInterrupt => 0,

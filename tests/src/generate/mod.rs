@@ -19,7 +19,7 @@ pub use graph::call_graph;
 pub use machine::{ill_formed, machine, request, requests, spoil};
 pub use marked::{dense, p11, round_the_end, sparse, written};
 pub use maze::maze;
-pub use program::program;
+pub use program::{program, write_only_program};
 pub use rng::{Rng, EDGES};
 pub use sizing::sizing;
 pub use timed::{soonest, timed};

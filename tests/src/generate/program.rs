@@ -3,7 +3,7 @@
 
 use super::routine::{Builder, End, Routine};
 use super::{Program, Rng};
-use crate::chip::{decode_at, Instruction, Rom, IOR, RESET_VECTOR, SIZES, VECTORS};
+use crate::chip::{decode_at, Instruction, Rom, IOR, RESET_VECTOR, SIZES, VECTORS, WINDOW, X, Y};
 use Instruction::*;
 
 /// Subroutines by the levels that they need.
@@ -19,7 +19,17 @@ struct Needs {
 /// A program with its certificate. Most are accepted; some need more than six
 /// levels.
 pub fn program(rng: &mut Rng) -> Program {
+    program_using(rng, &[])
+}
+
+/// The same, with much use of the registers that can't be read.
+pub fn write_only_program(rng: &mut Rng) -> Program {
+    program_using(rng, &[IOR, WINDOW, IOR, WINDOW, X, Y])
+}
+
+fn program_using(rng: &mut Rng, cells: &'static [u8]) -> Program {
     let mut b = Builder::new(rng);
+    b.cells = cells;
     let wired = if b.rng.chance(15) { 0 } else { b.rng.byte() & 0x1F };
     b.program.wired = wired;
     let needs = needs(b.rng, wired);

@@ -3,7 +3,6 @@
 
 use super::{image_length, Program, Rng};
 use crate::chip::{write, Instruction, Operand};
-use crate::gauge::{COUNT, WIDTH};
 use Instruction::*;
 
 #[derive(Clone, Copy, PartialEq)]
@@ -30,8 +29,10 @@ pub(super) struct Builder<'r> {
     pub base: usize,
     /// Where the next routine may start.
     pub cursor: usize,
-    /// Whether the code is to use the gauge's cells, and may sleep anywhere.
-    pub sizing: bool,
+    /// Cells that the code is to use often, also through pointers.
+    pub cells: &'static [u8],
+    /// Whether it may sleep anywhere.
+    pub sleeps_anywhere: bool,
 }
 
 /// Code stays below the vectors.
@@ -48,7 +49,7 @@ impl<'r> Builder<'r> {
         }
         let program = Program { image, certificate: vec![0; length], wired: 0 };
         let cursor = base + rng.below(0x100) + if length == 4096 { rng.below(0xA00) } else { 0 };
-        Builder { rng, program, base, cursor, sizing: false }
+        Builder { rng, program, base, cursor, cells: &[], sleeps_anywhere: false }
     }
 
     pub fn put(&mut self, address: usize, instruction: Instruction) -> usize {
@@ -60,9 +61,15 @@ impl<'r> Builder<'r> {
         self.program.certificate[address - self.base] = kind << 4 | need;
     }
 
+    /// Now and then one of the cells that are to be used.
+    fn cell(&mut self) -> Option<u8> {
+        let wanted = !self.cells.is_empty() && self.rng.chance(40);
+        wanted.then(|| self.rng.pick(self.cells))
+    }
+
     fn data_address(&mut self) -> u8 {
-        if self.sizing && self.rng.chance(40) {
-            return self.rng.pick(&[COUNT, WIDTH[0], WIDTH[1]]);
+        if let Some(cell) = self.cell() {
+            return cell;
         }
         match self.rng.below(10) {
             0..=3 => self.rng.below(0x40) as u8,
@@ -88,7 +95,12 @@ impl<'r> Builder<'r> {
             0 => LdA(self.operand(true)),
             1 => LdTo(self.operand(true)),
             2 => LdiA(self.rng.byte()),
-            3 => Ldi { address: self.data_address(), value: self.rng.byte() },
+            3 => {
+                let address = self.data_address();
+                // X and Y are to point at the cells.
+                let value = self.cell().unwrap_or_else(|| self.rng.byte());
+                Ldi { address, value }
+            }
             4 => Inc(self.operand(true)),
             5 => Dec(self.operand(true)),
             6 => Add(self.operand(false)),
@@ -138,7 +150,7 @@ impl<'r> Builder<'r> {
 
     /// The instructions of a routine, jumps not yet aimed.
     fn body(&mut self, wanted: &Routine) -> Vec<Instruction> {
-        let sleepy = (wanted.kind != 4 || self.sizing) && self.rng.chance(15);
+        let sleepy = (wanted.kind != 4 || self.sleeps_anywhere) && self.rng.chance(15);
         let mut body: Vec<Instruction> = Vec::new();
         for _ in 0..self.rng.below(14) {
             body.push(match self.rng.below(10) {

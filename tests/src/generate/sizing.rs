@@ -8,6 +8,8 @@ use crate::gauge::{COUNT, WIDTH};
 use Instruction::*;
 use Operand::{ByX, ByY, Direct, Short};
 
+/// The cells of the gauge.
+const CELLS: [u8; 3] = [COUNT, WIDTH[0], WIDTH[1]];
 /// V, W and two cells of RAM, as counters of loops.
 const COUNTERS: [u8; 4] = [0x82, 0x83, 0x10, 0x3F];
 /// The bytes that JRNZ can go back over, itself included.
@@ -17,7 +19,8 @@ const SHORT_BACK: usize = 16;
 /// part after it, then sleep.
 pub fn sizing(rng: &mut Rng) -> Program {
     let mut b = Builder::new(rng);
-    b.sizing = true;
+    b.cells = &CELLS;
+    b.sleeps_anywhere = true;
     if b.rng.chance(60) {
         b.rng.fill(&mut b.program.image); // tables
     }
@@ -88,6 +91,9 @@ fn look_up(rng: &mut Rng) -> Vec<Instruction> {
     // Upper pages are in every image; bits 6 and 7 don't matter.
     let page = if rng.chance(70) { 0x20 | rng.byte() } else { rng.byte() };
     code.push(Ldi { address: WINDOW, value: page });
+    if rng.chance(20) {
+        code.push(Add(Direct(WINDOW))); // 0, whatever the page
+    }
     code.push(rng.pick(&[LdA(through), Add(through), Sub(through), And(through)]));
     code.extend(store(rng));
     code

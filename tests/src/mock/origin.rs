@@ -1,5 +1,5 @@
-//! Origins told in another way than the second emulator's: by opcode, from a
-//! packed machine.
+//! Data bytes read and their origins told in another way than the second
+//! emulator's: by opcode, from a packed machine.
 
 use super::{fault, faulty};
 use crate::boundary::{self, unpack, STATE};
@@ -27,15 +27,29 @@ pub fn read(image: &[u8], state: &[u8], address: u32) -> u64 {
 }
 
 fn byte_and_origin(image: &[u8], state: &[u8], address: u8) -> u64 {
+    let page_bits = if faulty("read-page-0") { 0 } else { 0x3F };
     let byte = match address {
-        0xC8 | 0xC9 if faulty("read-write-only") => 0,
+        _ if reads_zero(address) => 0,
         0x40..=0x7F if !faulty("read-array") => {
-            let index = shown(state, address, 0x3F).wrapping_sub(base(image));
+            let index = shown(state, address, page_bits).wrapping_sub(base(image));
             image.get(index).copied().unwrap_or(0)
         }
         _ => state[address as usize],
     };
-    told(image, state, address) | (byte as u64) << 24
+    let told = match address {
+        0xC8 | 0xC9 if faulty("read-no-origin") => 0,
+        _ => told(image, state, address),
+    };
+    told | (byte as u64) << 24
+}
+
+/// Whether a register can't be read.
+fn reads_zero(address: u8) -> bool {
+    match (fault(), address) {
+        (Some("read-stored-c8"), 0xC8) | (Some("read-stored-c9"), 0xC9) => false,
+        (Some("read-zero-c7"), 0xC7) | (Some("read-zero-ca"), 0xCA) => true,
+        _ => matches!(address, 0xC8 | 0xC9),
+    }
 }
 
 /// The ROM address that the window shows at a data address.
@@ -91,12 +105,17 @@ pub fn retold(image: &[u8], before: &[u8], after: &[u8], answer: u64) -> u64 {
 /// The data address that the instruction at PC reads, with the pointers of
 /// another state.
 fn operand_at_pc(image: &[u8], before: &[u8], state: &[u8]) -> Option<u8> {
-    let pc = u16::from_le_bytes([before[256], before[257]]) as usize;
-    let code = [pc, pc + 1].map(|address| {
+    let code = code_at_pc(image, before);
+    wrong_operand(code, state).unwrap_or_else(|| operand(code, state))
+}
+
+/// The opcode at PC and the byte after it; 0 where the image has nothing.
+pub(super) fn code_at_pc(image: &[u8], state: &[u8]) -> [u8; 2] {
+    let pc = u16::from_le_bytes([state[256], state[257]]) as usize;
+    [pc, pc + 1].map(|address| {
         let index = (address & 0xFFF).wrapping_sub(base(image));
         image.get(index).copied().unwrap_or(0)
-    });
-    wrong_operand(code, state).unwrap_or_else(|| operand(code, state))
+    })
 }
 
 /// The number of the register that a short operand names, as an address.
@@ -105,7 +124,7 @@ fn short(opcode: u8) -> u8 {
 }
 
 /// By the opcode's low digit, and by its row where that isn't enough.
-fn operand([opcode, second]: [u8; 2], state: &[u8]) -> Option<u8> {
+pub(super) fn operand([opcode, second]: [u8; 2], state: &[u8]) -> Option<u8> {
     let odd_row = opcode & 0x10 != 0;
     match opcode & 0x0F {
         0x3 | 0xB => Some(second),
@@ -126,6 +145,7 @@ fn wrong_operand([opcode, second]: [u8; 2], state: &[u8]) -> Option<Option<u8>> 
     let direct = opcode & 0x1F == 0x1F && opcode != 0x9F;
     let is_short = matches!(opcode & 0x3F, 0x15 | 0x35 | 0x1D);
     let changes = matches!(opcode & 0x7F, 0x67 | 0x6F | 0x7F) || opcode & 0x37 == 0x15;
+    let unread = matches!(operand([opcode, second], state), Some(0xC8 | 0xC9));
     let told = match (fault()?, opcode) {
         ("origin-pointer", 0x07) | ("origin-store-x", 0x87) => Some(0x80),
         ("origin-pointer", 0x0F) | ("origin-store-x", 0x8F) => Some(0x81),
@@ -144,6 +164,7 @@ fn wrong_operand([opcode, second]: [u8; 2], state: &[u8]) -> Option<Option<u8>> 
         ("origin-bits", _) if opcode & 0x0F == 0x0B => None,
         ("origin-inc", _) if changes => None,
         ("origin-cp", 0x27 | 0x2F | 0x3F) => None,
+        ("origin-unread", _) if unread => None,
         _ => return None,
     };
     Some(told)

@@ -1,9 +1,11 @@
 //! Counts what was compared, and prints it.
 
 use crate::make_counts::MakeCounts;
+use crate::opcode_map::operations;
 use crate::origin_counts::OriginCounts;
 use crate::width_counts::WidthCounts;
-use second::boundary::{self, FIELDS, FORMS, FORM_NAMES};
+use crate::write_only_counts::{Ahead, Made, WriteOnlyCounts};
+use second::boundary::{self, FORMS, FORM_NAMES};
 use second::chip::Rom;
 use second::library::KINDS;
 use second::play::{report, Call, Outcome};
@@ -30,6 +32,7 @@ pub struct Counts {
     pub widths: WidthCounts,
     pub makes: MakeCounts,
     origins: OriginCounts,
+    write_only: WriteOnlyCounts,
     pub unused_differ: u64,
     pub demand3_calls: u64,
     form_of: [Option<u8>; 256],
@@ -52,9 +55,10 @@ impl Counts {
             widths: WidthCounts::new(),
             makes: MakeCounts::new(),
             origins: OriginCounts::new(),
+            write_only: WriteOnlyCounts::new(),
             unused_differ: 0,
             demand3_calls: 0,
-            form_of: forms_by_opcode(),
+            form_of: operations().map(|operation| operation.map(|[form, _]| form)),
         }
     }
 
@@ -72,8 +76,13 @@ impl Counts {
                 self.widths.add(image, certificate, outcome.answer);
             }
             Call::Make { image, wired, .. } => self.makes.add(image, *wired, outcome.answer),
-            Call::Step { image, state, .. } => self.add_step(image, state, outcome.answer),
-            Call::Read { image, .. } => self.origins.add_read(image, outcome.answer),
+            Call::Step { image, state, request } => {
+                self.add_step(image, state, *request, outcome.answer);
+            }
+            Call::Read { image, state, address } => {
+                self.origins.add_read(image, outcome.answer);
+                self.write_only.add_read(state, *address, outcome.answer);
+            }
             _ if number != 0 => {}
             Call::Decode { .. } => self.decoded_forms[outcome.out.bytes()[0] as usize] += 1,
             Call::Write { fields, .. } => self.written_forms[fields[0] as usize] += 1,
@@ -83,24 +92,30 @@ impl Counts {
         }
     }
 
-    fn add_step(&mut self, image: &[u8], state: &[u8], answer: u64) {
+    fn add_step(&mut self, image: &[u8], state: &[u8], request: u32, answer: u64) {
         self.origins.add_step(image, state, answer);
-        match boundary::cycles(answer) {
-            _ if boundary::number(answer) != 0 => {}
+        if boundary::number(answer) != 0 {
+            return;
+        }
+        let rom = Rom::new(image).expect("the step was not refused");
+        let machine = boundary::unpack(state).expect("the step was not refused");
+        let ahead = self.write_only.ahead(&rom, &machine, request as u8);
+        self.add_made(&ahead, &Made::single(answer));
+    }
+
+    /// Counts a step, alone or in a run.
+    fn add_made(&mut self, ahead: &Ahead, made: &Made) {
+        match made.cycles {
             0 => self.idle += 1,
             1 => self.taken += 1,
             _ => {
-                let pc = u16::from_le_bytes([state[256], state[257]]);
-                let rom = Rom::new(image).expect("the step was not refused");
-                self.step_forms[self.form_at(&rom, pc)] += 1;
+                let opcode = ahead.opcode.expect("executed");
+                let form = self.form_of[opcode as usize].expect("defined") as usize;
+                let forms = if made.in_run { &mut self.run_forms } else { &mut self.step_forms };
+                forms[form] += 1;
             }
         }
-    }
-
-    /// The form of the instruction at an address, which was executed.
-    fn form_at(&self, rom: &Rom, address: u16) -> usize {
-        let opcode = rom.byte(address).expect("executed");
-        self.form_of[opcode as usize].expect("defined") as usize
+        self.write_only.add_step(ahead, made);
     }
 
     /// Plays a run as single steps of the second emulator: the run must be
@@ -111,16 +126,11 @@ impl Counts {
         let (mut steps, mut cycles, mut stop) = (0, 0, 0);
         while steps < n {
             let request = requests.get(steps as usize).copied().unwrap_or(0);
-            let pc = machine.pc;
-            match machine.step(image, request) {
-                Ok(0) => self.idle += 1,
-                Ok(1) => {
-                    self.taken += 1;
-                    cycles += 1;
-                }
-                Ok(more) => {
-                    cycles += more;
-                    self.run_forms[self.form_at(&rom, pc)] += 1;
+            let ahead = self.write_only.ahead(&rom, &machine, request);
+            match machine.traced_step(image, request) {
+                Ok(traced) => {
+                    cycles += traced.cycles;
+                    self.add_made(&ahead, &Made::in_run(traced));
                 }
                 Err(refusal) => {
                     stop = refusal.number();
@@ -157,6 +167,7 @@ impl Counts {
         self.widths.print();
         self.makes.print();
         self.origins.print();
+        self.write_only.print();
         println!("calls that demand 3 speaks of, all as it says: {}", self.demand3_calls);
         println!("calls that differ only in return addresses not in use: {}", self.unused_differ);
         self.print_not_met();
@@ -180,20 +191,8 @@ impl Counts {
         self.widths.print_not_met();
         self.makes.print_not_met();
         self.origins.print_not_met();
+        self.write_only.print_not_met();
     }
-}
-
-fn forms_by_opcode() -> [Option<u8>; 256] {
-    let mut form_of = [None; 256];
-    let mut image = vec![0; 4096];
-    for opcode in 0..=255u8 {
-        image[0] = opcode;
-        let mut fields = [0; FIELDS];
-        if boundary::number(boundary::decode(&image, 0, &mut fields)) == 0 {
-            form_of[opcode as usize] = Some(fields[0]);
-        }
-    }
-    form_of
 }
 
 /// The number that a job's line gives; 0 for an accepted one.

@@ -1,5 +1,6 @@
 //! Compares the second emulator with the proved library.
 
+mod case;
 mod certificates;
 mod counts;
 mod harness;
@@ -8,12 +9,15 @@ mod jobs;
 mod machines;
 mod make_counts;
 mod makes;
+mod opcode_map;
 mod origin_counts;
 mod origins;
 mod programs;
 mod refusals;
 mod width_counts;
 mod widths;
+mod write_only;
+mod write_only_counts;
 
 use harness::Harness;
 use std::process::exit;
@@ -91,6 +95,7 @@ fn run_parts(h: &mut Harness, options: &Options) -> usize {
     part("widths", &mut |h| widths::widths(h, scale(300)));
     part("makes", &mut |h| makes::makes(h, scale(1000)));
     part("origins", &mut |h| origins::origins(h, scale(20_000)));
+    part("write-only", &mut write_only::write_only);
     parts
 }
 

@@ -1,18 +1,12 @@
 //! Counts where data bytes came from, in steps and in reads.
 
 use crate::counts::listed;
+use crate::opcode_map::{different_operations, operand_address, reads, KINDS, SHORT};
 use second::boundary::{self, FIELDS, FORMS, FORM_NAMES, ORIGIN_NAMES};
-use second::chip::{SIZES, SPACE};
+use second::chip::SPACE;
 
 /// What `read` answers: done, or one of its refusals.
 const ANSWERS: [usize; 4] = [0, 1, 2, 8];
-/// The forms that read a data operand.
-const READING: [&str; 11] =
-    ["JRR", "JRS", "RES", "SET", "LD-A", "INC", "DEC", "ADD", "SUB", "AND", "CP"];
-/// The kinds of operand as fields have them; 0 is a data address that belongs
-/// to the form, or none at all.
-const KINDS: [&str; 5] = ["", " direct", " short", " (X)", " (Y)"];
-const SHORT: u8 = 2;
 
 type ByOrigin = [u64; ORIGIN_NAMES.len()];
 
@@ -56,10 +50,11 @@ impl OriginCounts {
         let pc = u16::from_le_bytes([state[256], state[257]]);
         let mut fields = [0; FIELDS];
         boundary::decode(image, pc as u32, &mut fields);
-        let read = operand(fields, state).map_or(0, |at| boundary::read(image, state, at as u32));
+        let [form, kind, field, ..] = fields;
+        let address = reads(FORM_NAMES[form as usize]).then(|| operand_address(kind, field, state));
+        let read = address.map_or(0, |address| boundary::read(image, state, address as u32));
         assert_eq!(answer >> 32, read >> 32, "a step tells its operand's origin");
-        let [form, kind, ..] = fields.map(usize::from);
-        self.executed[form][kind][boundary::origin(answer)] += 1;
+        self.executed[form as usize][kind as usize][boundary::origin(answer)] += 1;
         self.by_steps.add(image, answer);
     }
 
@@ -119,7 +114,7 @@ impl OriginCounts {
     /// can have and that no step told.
     fn steps_not_met(&self) -> Vec<String> {
         let mut missing = Vec::new();
-        for [form, kind] in forms_and_kinds() {
+        for [form, kind] in different_operations() {
             let name = FORM_NAMES[form as usize];
             let possible = match kind {
                 _ if !reads(name) => 0..1,
@@ -136,36 +131,6 @@ impl OriginCounts {
         }
         missing
     }
-}
-
-fn reads(form: &str) -> bool {
-    READING.contains(&form)
-}
-
-/// The data address that an instruction reads.
-fn operand([form, kind, low, ..]: [u8; FIELDS], state: &[u8]) -> Option<u8> {
-    reads(FORM_NAMES[form as usize]).then(|| match KINDS[kind as usize] {
-        " short" => 0x80 + low,
-        " (X)" => state[0x80],
-        " (Y)" => state[0x81],
-        _ => low,
-    })
-}
-
-/// Each form of the opcode map with each kind of operand that it has.
-fn forms_and_kinds() -> Vec<[u8; 2]> {
-    let mut all = Vec::new();
-    let mut image = vec![0; 4096];
-    for opcode in (0..=255u8).filter(|&opcode| SIZES[opcode as usize].length > 0) {
-        image[0] = opcode;
-        let mut fields = [0; FIELDS];
-        boundary::decode(&image, 0, &mut fields);
-        let [form, kind, ..] = fields;
-        if !all.contains(&[form, kind]) {
-            all.push([form, kind]);
-        }
-    }
-    all
 }
 
 /// The counts that aren't 0, each with its origin.

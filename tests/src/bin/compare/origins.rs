@@ -1,9 +1,11 @@
 //! Where data bytes come from: steps with operands at every address, and
 //! reads.
 
+use crate::case::Case;
 use crate::harness::Harness;
+use crate::opcode_map::{BY_X, BY_Y, DIRECT};
 use crate::refusals::LENGTHS;
-use second::generate::{machine, spoil, Rng};
+use second::generate::{machine, spoil};
 use second::play::Call;
 use std::borrow::Cow::{Borrowed, Owned};
 
@@ -31,46 +33,6 @@ pub fn origins(h: &mut Harness, reads: usize) {
     random_reads(h, reads);
 }
 
-/// An image with an instruction, and a machine that stands at it.
-struct Case {
-    image: Vec<u8>,
-    state: Vec<u8>,
-    pc: usize,
-}
-
-impl Case {
-    /// A random image, and an awake machine without a reason to stop.
-    fn new(rng: &mut Rng, length: usize, pc: usize) -> Self {
-        let mut image = vec![0; length];
-        rng.fill(&mut image);
-        let mut state = machine(rng);
-        state[256..258].copy_from_slice(&(pc as u16).to_le_bytes());
-        state[258] = 1 + rng.below(5) as u8;
-        state[260] = 0;
-        // Good return addresses, for any number of levels.
-        for address in state[268..].chunks_exact_mut(2) {
-            address.copy_from_slice(&(rng.below(0x1000) as u16).to_le_bytes());
-        }
-        Case { image, state, pc }
-    }
-
-    /// Writes the instruction, as far as the image has its place.
-    fn write(&mut self, code: [u8; 3]) {
-        let base = 0x1000 - self.image.len();
-        for (offset, byte) in code.into_iter().enumerate() {
-            let index = ((self.pc + offset) & 0xFFF).wrapping_sub(base);
-            if let Some(place) = self.image.get_mut(index) {
-                *place = byte;
-            }
-        }
-    }
-
-    fn step(&self, h: &mut Harness, request: u32) {
-        let (image, state) = (Borrowed(&self.image[..]), Borrowed(&self.state[..]));
-        h.compare(Call::Step { image, state, request });
-    }
-}
-
 /// Every opcode, with every second byte, every X and every Y, and on some
 /// pages where that lies in the window.
 fn every_operand(h: &mut Harness, length: usize) {
@@ -91,14 +53,9 @@ fn every_operand(h: &mut Harness, length: usize) {
 /// An address as the second byte, through X, and through Y, the others being
 /// something else.
 fn operands(h: &mut Harness, case: &mut Case, opcode: u8, address: u8, page: u8) {
-    for place in 0..3 {
-        let mut places = [h.rng.byte(), h.rng.byte(), h.rng.byte()];
-        places[place] = address;
-        let [second, x, y] = places;
-        case.write([opcode, second, h.rng.byte()]);
+    for kind in [DIRECT, BY_X, BY_Y] {
+        case.aim(&mut h.rng, opcode, kind, address);
         case.state[0xC9] = page;
-        case.state[0x80..0x82].copy_from_slice(&[x, y]);
-        case.state[0xFF] = h.rng.byte();
         case.step(h, 0);
     }
 }
@@ -133,7 +90,7 @@ fn every_situation(h: &mut Harness, length: usize) {
         for pc in [0x7FF, 0x987, 0xFFE, 0xFFF] {
             let mut case = Case::new(&mut h.rng, length, pc);
             for address in EDGE_ADDRESSES {
-                case.write([opcode, address, h.rng.byte()]);
+                case.write(&[opcode, address, h.rng.byte()]);
                 case.state[0x80..0x82].fill(address);
                 case.state[0xC9] = h.rng.byte();
                 for (given, request) in SITUATIONS {
@@ -153,7 +110,7 @@ fn every_page(h: &mut Harness, length: usize) {
     for page in 0..=255u8 {
         for address in 0x3F..=0x80 {
             let opcode = h.rng.pick(&READING);
-            case.write([opcode, address, h.rng.byte()]);
+            case.write(&[opcode, address, h.rng.byte()]);
             case.state[0x80..0x82].fill(address);
             case.state[0xC9] = page;
             case.step(h, 0);
@@ -161,7 +118,7 @@ fn every_page(h: &mut Harness, length: usize) {
     }
 }
 
-fn read(h: &mut Harness, image: &[u8], state: &[u8], address: u32) {
+pub fn read(h: &mut Harness, image: &[u8], state: &[u8], address: u32) {
     h.compare(Call::Read { image: Borrowed(image), state: Borrowed(state), address });
 }
 

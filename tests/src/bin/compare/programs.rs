@@ -2,7 +2,7 @@
 
 use crate::harness::{state_after, Harness};
 use second::boundary::{self, REPORT};
-use second::generate::{ill_formed, machine, program, requests, Program};
+use second::generate::{ill_formed, machine, program, requests, write_only_program, Program};
 use second::library::KINDS;
 use second::play::{Call, Outcome};
 use std::borrow::Cow::{Borrowed, Owned};
@@ -12,7 +12,8 @@ use std::process::exit;
 pub fn programs(h: &mut Harness, steps: u64) {
     let wanted = h.counts.steps_in_runs + steps;
     while h.counts.steps_in_runs < wanted {
-        let program = program(&mut h.rng);
+        let generator = if h.rng.chance(20) { write_only_program } else { program };
+        let program = generator(&mut h.rng);
         play(h, &program);
     }
 }
