@@ -24,7 +24,8 @@ module _ (image bytes : List ℕ) (a : ℕ) where
 
   -- a byte that can be read, by the tests of the window's two ends, and of 80h
   by-tests :
-      isWriteOnly a ≡ false → (low : Bool) → leb 0x40 a ≡ low → (high : Bool) → ltb a 0x80 ≡ high → (up : Bool) → leb 0x80 a ≡ up →
+      isWriteOnly a ≡ false → (low : Bool) → leb 0x40 a ≡ low → (high : Bool) → ltb a 0x80 ≡ high →
+      (up : Bool) → leb 0x80 a ≡ up →
       ComesFrom image bytes a
       (cond (low && high) (shownOf (romAt image (windowAddress bytes a))) (getD bytes a 0))
       (cond (low && high) (windowOrigin (windowAddress bytes a) (romAt image (windowAddress bytes a)))

@@ -1,4 +1,4 @@
--- What the test of the two write-only registers says.
+-- Reads and stores at the two write-only registers, and what is read at every other address.
 use Prim.Native.Nat.{ℕ, _≤_, _<_}
 use mathlib.Core.Path.{_≡_, refl}
 use mathlib.Core.Logic.{_⊎_, inl, inr}

@@ -50,8 +50,8 @@ abbrev pub windowOrigin : (address : ℕ) → RomByte → Origin
 windowOrigin address (Byte byte) = Rom address
 windowOrigin address Outside = NoRom
 
--- where the byte of `readOf` comes from: "RAM, a register from 80h up", 0C8h and 0C9h too, or the window, at the address
--- that is read there
+-- where the byte of `readOf` comes from: "RAM, a register from 80h up" (0C8h and 0C9h too), or the window, at the
+-- address that is read there
 unfoldable pub originOf : (image bytes : List ℕ) → (a : ℕ) → Origin
 originOf image bytes a =
     cond (inWindow a) (windowOrigin (windowAddress bytes a) (romAt image (windowAddress bytes a)))

@@ -1,6 +1,6 @@
 // Data space: the one read and the one store of a data byte, where a byte comes from, and where an operand stands. The
-// bytes are lent, by data address; those under the ROM window (40h-7Fh) are never read and never change. A program cannot
-// read 0C8h and 0C9h; the bytes stored there drive the interrupt enable and the ROM window.
+// bytes are lent, by data address; those under the ROM window (40h-7Fh) are never read and never change. 0C8h and 0C9h
+// read 0; the bytes stored there drive the interrupt enable and the ROM window.
 use crate::Origin;
 use isa::Operand;
 use isa::rom::RomByte;

@@ -1,5 +1,5 @@
 -- 0C8h and 0C9h read 0, and what is stored there drives the enable and the window.
-use Prim.Native.Nat.{ℕ, _%_, _^_}
+use Prim.Native.Nat.{ℕ}
 use mathlib.Core.Path.{_≡_, refl, sym, ap, _∙_}
 use mathlib.Core.Logic.{_≢_}
 use mathlib.Core.Bool.{true}
@@ -7,19 +7,18 @@ use mathlib.Core.List.{List}
 use native.Mathlib.Omega.{arith}
 use lib.ListN.{getD, set}
 use lib.Seq.{getD-set-other}
-use Rattle.isa.specs.ControlFlow.{flowOf}
+use Rattle.alu.specs.Alu.{weightOf}
+use Rattle.isa.specs.Displacement.{forwardOf}
 use Rattle.isa.specs.declared.Operand.{Operand}
 use Rattle.isa.specs.declared.Operand.the-variants.{Direct, Short, ThroughX, ThroughY}
 use Rattle.isa.specs.declared.Instruction.{Instruction}
 use Rattle.isa.specs.declared.Instruction.the-variants as I
-use Rattle.data.specs.Space.{isWriteOnly, readOf, storeOf, addressOf, operandOf}
-use Rattle.data.specs.Effect.{storeResultOf, effectOf}
+use Rattle.data.specs.Space.{isWriteOnly, storeOf, addressOf, operandOf}
+use Rattle.data.specs.Effect.{Data, storeResultOf, effectOf}
 use Rattle.data.proofs.WriteOnly.{of-both, reads-zero, reads-held, reads-window, is-register, stores-there}
-use Rattle.control.specs.declared.Stop.the-variants as stop
-use Rattle.control.specs.Transfers.{advanceOf}
 use Rattle.machine.specs.declared.Machine.{Machine}
 use Rattle.machine.specs.Execute.{executeOf}
-use Rattle.machine.specs.State.{withByte}
+use Rattle.machine.specs.State.{viewOf, withByte}
 use Rattle.machine.specs.Advance.{Step, completedOf, executedOf, advancedOf}
 use Rattle.machine.specs.Step.{stepOf}
 use Rattle.machine.specs.Reading.{readingOf}
@@ -35,6 +34,7 @@ use Rattle.machine.specs.WriteOnly.{
   StoresFromZero,
 }
 use Rattle.machine.proofs.StepByStep as steps
+use Rattle.machine.proofs.ReadForms.{MadeOf, is-set, is-res, is-inc, is-dec, made-of}
 use Rattle.machine.proofs.OriginTold.{comes, origin-told}
 
 -- what is stored at either changes neither A nor a pointer
@@ -53,22 +53,21 @@ module _ (bytes : List ℕ) (a value : ℕ) (w : isWriteOnly a ≡ true) where
   same-address ThroughX = sym (other 0x80 (λ e. omega arith) (λ e. omega arith))
   same-address ThroughY = sym (other 0x81 (λ e. omega arith) (λ e. omega arith))
 
-module _ (image : List ℕ) (m : Machine) (o : Operand) (value : ℕ) (w : isWriteOnly (addressOf (m .bytes) o) ≡ true) where
-  -- with another byte there all that an instruction uses is the same
-  agree :
-      (i : Instruction) → AgreeOn image m image (withByte m (addressOf (m .bytes) o) value) i o
-  agree i =
-      let same = same-address (m .bytes) (addressOf (m .bytes) o) value w o in
-      record {
-        control = refl;
-        stack = refl;
-        flags = refl;
-        accumulator = λ uses. sym (other (m .bytes) (addressOf (m .bytes) o) value w 0xFF (λ e. omega arith) (λ e. omega arith));
-        address = same;
-        byte =
-            reads-zero image (m .bytes) (addressOf (m .bytes) o) w
-            ∙ sym (rw (← same) (reads-zero image (storeOf (m .bytes) (addressOf (m .bytes) o) value) (addressOf (m .bytes) o) w));
-      }
+-- with another byte there, all that an instruction uses is the same
+agree :
+    (image : List ℕ) (m : Machine) (i : Instruction) (o : Operand) (a value : ℕ) → isWriteOnly a ≡ true →
+    addressOf (m .bytes) o ≡ a → AgreeOn image m image (withByte m a value) i o
+agree image m i o a value w e =
+    let same = same-address (m .bytes) a value w o in
+    record {
+      control = refl;
+      stack = refl;
+      flags = refl;
+      accumulator = λ uses. sym (other (m .bytes) a value w 0xFF (λ e. omega arith) (λ e. omega arith));
+      address = same;
+      byte =
+          rw (← same, e) (reads-zero image (m .bytes) a w ∙ sym (reads-zero image (storeOf (m .bytes) a value) a w));
+    }
 
 pub write-only : WriteOnly
 unfolding operandOf readingOf advancedOf
@@ -76,7 +75,7 @@ write-only = record {
   reads = λ image m a e. reads-zero image (m .bytes) a e;
   operands = λ image m o e. reads-zero image (m .bytes) _ e;
   unseen = λ image m request i bytes cycles o value reads w at at′.
-      origin-told .used image m image _ request request i bytes cycles o at at′ reads (agree image m o value w i);
+      origin-told .used image m image _ request request i bytes cycles o at at′ reads (agree image m i o _ value w refl);
   reading = λ image m a e i w. rw (i, w, reads-zero image (m .bytes) a e, is-register image (m .bytes) a e);
   others = λ image m a e. reads-held image (m .bytes) a e;
   stores = λ m a value e. stores-there (m .bytes) value a e;
@@ -84,40 +83,42 @@ write-only = record {
   window = λ image m a low high. reads-window image (m .bytes) a low high;
 }
 
--- the bytes after an instruction that does not stop are those of its effect
+-- data space after an instruction is that of its effect
+space-after :
+    (image : List ℕ) (m : Machine) (i : Instruction) (bytes : ℕ) →
+    executionAt image m i bytes .space ≡ effectOf image (viewOf m) i
+unfolding executeOf
+space-after image m i bytes = refl
+
+-- the bytes after an instruction that reads are those of its effect
 bytes-after :
-    (image : List ℕ) (m : Machine) (request : ℕ) (i : Instruction) (bytes cycles : ℕ) →
-    Executes image m request i bytes cycles → executionAt image m i bytes .stop ≡ stop.None →
-    stepOf image m request .machine .bytes ≡ executionAt image m i bytes .space .bytes
+    {i : Instruction} {o : Operand} → MadeOf i o → (image : List ℕ) (m : Machine) (request bytes cycles : ℕ) →
+    Executes image m request i bytes cycles →
+    stepOf image m request .machine .bytes ≡ effectOf image (viewOf m) i .bytes
 unfolding executedOf completedOf
-bytes-after image m request i bytes cycles at goes =
-    ap (λ (s : Step). s .machine .bytes) (comes image m request i bytes cycles at) ∙ rw goes
-
-module _ (image : List ℕ) (m : Machine) (bytes a : ℕ) where
-  goes-on :
-      (i : Instruction) (value : ℕ) → FromZero (m .bytes) a i value → executionAt image m i bytes .stop ≡ stop.None
-  unfolding executeOf advanceOf flowOf
-  goes-on _ _ (set-bit n) = refl
-  goes-on _ _ (reset-bit n) = refl
-  goes-on _ _ (increment o e) = refl
-  goes-on _ _ (decrement o e) = refl
-
-  leaves :
-      isWriteOnly a ≡ true → (i : Instruction) (value : ℕ) → FromZero (m .bytes) a i value →
-      executionAt image m i bytes .space .bytes ≡ set (m .bytes) a value
-  unfolding executeOf effectOf storeResultOf
-  leaves w _ _ (set-bit n) = rw (reads-zero image (m .bytes) a w) (stores-there (m .bytes) (2 ^ (n % 8)) a w)
-  leaves w _ _ (reset-bit n) = rw (reads-zero image (m .bytes) a w) (stores-there (m .bytes) 0 a w)
-  leaves w _ _ (increment o e) = rw (e, reads-zero image (m .bytes) a w) (stores-there (m .bytes) 1 a w)
-  leaves w _ _ (decrement o e) = rw (e, reads-zero image (m .bytes) a w) (stores-there (m .bytes) 0xFF a w)
+bytes-after {i} {o} made image m request bytes cycles at =
+    let executed : stepOf image m request .machine .bytes ≡ executionAt image m i bytes .space .bytes =
+    ap (λ (s : Step). s .machine .bytes) (comes image m request i bytes cycles at)
+    ∙ rw (made .goes image (viewOf m) (m .stack) (m .control) (forwardOf (m .control .pc) bytes)) in
+    executed ∙ ap (λ (d : Data). d .bytes) (space-after image m i bytes)
 
 modified :
     (image : List ℕ) (m : Machine) (request : ℕ) (i : Instruction) (bytes cycles a value : ℕ) →
     Executes image m request i bytes cycles → isWriteOnly a ≡ true → FromZero (m .bytes) a i value →
     stepOf image m request .machine .bytes ≡ set (m .bytes) a value
-modified image m request i bytes cycles a value at w from =
-    bytes-after image m request i bytes cycles at (goes-on image m bytes a i value from)
-    ∙ leaves image m bytes a w i value from
+unfolding effectOf storeResultOf
+modified image m request _ bytes cycles a _ at w (set-bit n) =
+    bytes-after (made-of _ _ (is-set n a)) image m request bytes cycles at
+    ∙ rw (reads-zero image (m .bytes) a w) (stores-there (m .bytes) (weightOf n) a w)
+modified image m request _ bytes cycles a _ at w (reset-bit n) =
+    bytes-after (made-of _ _ (is-res n a)) image m request bytes cycles at
+    ∙ rw (reads-zero image (m .bytes) a w) (stores-there (m .bytes) 0 a w)
+modified image m request _ bytes cycles a _ at w (increment o e) =
+    bytes-after (made-of _ _ (is-inc o)) image m request bytes cycles at
+    ∙ rw (e, reads-zero image (m .bytes) a w) (stores-there (m .bytes) 1 a w)
+modified image m request _ bytes cycles a _ at w (decrement o e) =
+    bytes-after (made-of _ _ (is-dec o)) image m request bytes cycles at
+    ∙ rw (e, reads-zero image (m .bytes) a w) (stores-there (m .bytes) 0xFF a w)
 
 pub stores-from-zero : StoresFromZero
 stores-from-zero = record {

@@ -1,10 +1,10 @@
 -- What holds of 0C8h and 0C9h, which a program can't read (document 02, W-204).
-use Prim.Native.Nat.{ℕ, _+_, _-_, _*_, _%_, _^_, _≤_, _<_}
+use Prim.Native.Nat.{ℕ, _+_, _-_, _*_, _%_, _≤_, _<_}
 use mathlib.Core.Path.{_≡_}
 use mathlib.Core.Bool.{true, false}
 use mathlib.Core.List.{List}
 use lib.ListN.{length, getD, set}
-use Rattle.alu.specs.Alu.{bitOf}
+use Rattle.alu.specs.Alu.{bitOf, weightOf}
 use Rattle.isa.specs.Refusals.{done}
 use Rattle.isa.specs.Sources.{namesOnlySources}
 use Rattle.isa.specs.Rom.{isImage, romAt}
@@ -31,8 +31,8 @@ pub record WriteOnly : Type 0 where
   pub operands :
       (image : List ℕ) (m : Machine) (o : Operand) → isWriteOnly (addressOf (m .bytes) o) ≡ true →
       operandOf image (m .bytes) o ≡ 0
-  -- .. and in every instruction: where one that reads stands at PC and its operand is either, the step is alike
-  -- whatever byte is stored there
+  -- .. and in every instruction that reads: two steps that come to one whose operand is either are alike, whatever byte
+  -- is stored there. (With another byte at 0C8h a request may be taken; then the step does not come to it.)
   pub unseen :
       (image : List ℕ) (m : Machine) (request : ℕ) (i : Instruction) (bytes cycles : ℕ) (o : Operand) (value : ℕ) →
       operandReadOf i ≡ Is o → isWriteOnly (addressOf (m .bytes) o) ≡ true →
@@ -62,20 +62,22 @@ pub record WriteOnly : Type 0 where
       (image : List ℕ) (m : Machine) (a : ℕ) → 0x40 ≤ a → a < 0x80 →
       readOf image (m .bytes) a ≡ shownOf (romAt image (64 * (getD (m .bytes) 0xC9 0 % 64) + (a - 0x40)))
 
--- the instructions that change what they read and store it again, each with what it stores at an address a that reads 0
+-- the instructions that change what they read and store it again, each with what it stores at an address a that reads 0:
+-- bit n alone, nothing, 0 and 1, 0 less 1 modulo 256
 pub data FromZero (bytes : List ℕ) (a : ℕ) : Instruction → (value : ℕ) → Type 0 where
-  set-bit : (n : ℕ) → FromZero bytes a (I.Set n a) (2 ^ (n % 8))
+  set-bit : (n : ℕ) → FromZero bytes a (I.Set n a) (weightOf n)
   reset-bit : (n : ℕ) → FromZero bytes a (I.Res n a) 0
   increment : (o : Operand) → addressOf bytes o ≡ a → FromZero bytes a (I.Inc o) 1
   decrement : (o : Operand) → addressOf bytes o ≡ a → FromZero bytes a (I.Dec o) 0xFF
 
+-- what SET, RES, INC and DEC store at 0C8h and 0C9h
 -- proved by stores-from-zero, proofs/WriteOnly
 pub record StoresFromZero : Type 0 where
   -- "so SET 4,0C8h stores 10h whatever was there"
   pub example :
       (image : List ℕ) (m : Machine) (request bytes cycles : ℕ) → Executes image m request (I.Set 4 0xC8) bytes cycles →
       stepOf image m request .machine .bytes ≡ set (m .bytes) 0xC8 0x10
-  -- and so do its kin, at both registers, direct or through X or Y: a step that comes to one of them stores a byte that
+  -- with its kin, at both registers, INC and DEC through X or Y too: a step that comes to one of them stores a byte that
   -- does not depend on what was there, and changes no other
   pub kin :
       (image : List ℕ) (m : Machine) (request : ℕ) (i : Instruction) (bytes cycles a value : ℕ) →
