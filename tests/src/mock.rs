@@ -7,16 +7,15 @@ mod make;
 mod origin;
 mod write_only;
 
-use crate::boundary::{self, STATE};
-use crate::chip::MOST_STEPS;
-use crate::gauge::{Gauged, COUNT, WIDTH};
+use crate::boundary;
+use crate::gauge::Gauged;
 use std::sync::OnceLock;
 
 pub use make::make;
 pub use origin::read;
 
 /// The faults that can be injected.
-pub const FAULTS: [&str; 101] = [
+pub const FAULTS: [&str; 100] = [
     "decode-bit",      // bit numbers unreversed
     "com-carry",       // COM leaves C clear
     "rlc-low",         // RLC shifts in 0
@@ -110,7 +109,6 @@ pub const FAULTS: [&str; 101] = [
     "stored-bits",     // with RES and SET, which keep the other bits
     "stored-jump",     // with JRR and JRS
     "stored-run",      // in runs
-    "stored-width",    // in the gauge
     "stored-flags",    // flags follow what is stored there
     "stored-kept",     // INC, DEC, RES and SET store nothing there
     "zero-c7",         // steps read 0 at 0C7h too
@@ -119,14 +117,6 @@ pub const FAULTS: [&str; 101] = [
     "zero-page",       // so does the window's page
     "zero-state",      // states after steps have 0 at 0C8h and 0C9h
 ];
-
-/// What a step is part of.
-#[derive(Clone, Copy, PartialEq, Eq)]
-enum Operation {
-    Step,
-    Run,
-    Width,
-}
 
 fn fault() -> Option<&'static str> {
     static FAULT: OnceLock<Option<&'static str>> = OnceLock::new();
@@ -150,11 +140,11 @@ pub fn decode(image: &[u8], address: u32, out: &mut [u8]) -> u64 {
 }
 
 pub fn step(image: &[u8], state: &mut [u8], request: u32) -> u64 {
-    step_of(Operation::Step, image, state, request)
+    any_step(false, image, state, request)
 }
 
-/// One step, with the fault.
-fn step_of(operation: Operation, image: &[u8], state: &mut [u8], request: u32) -> u64 {
+/// One step, alone or in a run, with the fault.
+fn any_step(in_run: bool, image: &[u8], state: &mut [u8], request: u32) -> u64 {
     let before = state.to_vec();
     // Without the enable bit only NMI is seen.
     let seen = if faulty("zero-enable") && request < 0x20 { request & 1 } else { request };
@@ -164,7 +154,7 @@ fn step_of(operation: Operation, image: &[u8], state: &mut [u8], request: u32) -
     if fault().is_none() || boundary::number(answer) != 0 || before[260] == 1 || taken {
         return answer;
     }
-    write_only::misread(image, &before, state, operation);
+    write_only::misread(image, &before, state, in_run);
     wrong_effect(image, &before, state, request).unwrap_or(answer)
 }
 
@@ -229,7 +219,7 @@ fn faulty_steps(image: &[u8], state: &mut [u8], requests: &[u8], n: u32) -> (u32
     let (mut steps, mut cycles) = (0, 0);
     while steps < n {
         let request = requests.get(steps as usize).copied().unwrap_or(0);
-        let answer = step_of(Operation::Run, image, state, request as u32);
+        let answer = any_step(true, image, state, request as u32);
         if boundary::number(answer) != 0 {
             return (steps, cycles, answer);
         }
@@ -289,9 +279,6 @@ pub fn job(job: &[u8], line: &mut [u8]) -> u64 {
     answer
 }
 
-/// So few steps are soon made one by one.
-const FEW_STEPS: u16 = 2_000;
-
 pub fn width(image: &[u8], certificate: &[u8], count: u32) -> u64 {
     let answer = boundary::width(image, certificate, count);
     let refused = || boundary::number(boundary::check(image, certificate, 0));
@@ -302,22 +289,6 @@ pub fn width(image: &[u8], certificate: &[u8], count: u32) -> u64 {
         (Some("width-limit"), 0) if steps == u16::MAX => 24,
         (Some("width-number"), 23) => refused() as u64,
         (Some("width-order"), 8) if refused() != 0 => 23,
-        (Some("stored-width"), 0) if steps < FEW_STEPS => width_by_steps(image, count),
         _ => answer,
     }
-}
-
-/// A width made of steps, so that it has their faults.
-fn width_by_steps(image: &[u8], count: u32) -> u64 {
-    let mut state = vec![0; STATE];
-    boundary::reset(&mut state);
-    state[COUNT as usize] = count as u8;
-    for steps in 1..=MOST_STEPS as u64 {
-        step_of(Operation::Width, image, &mut state, 0);
-        if state[260] == 1 {
-            let width = u16::from_be_bytes(WIDTH.map(|address| state[address as usize]));
-            return steps << 40 | (width as u64) << 24;
-        }
-    }
-    24
 }

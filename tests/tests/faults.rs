@@ -9,7 +9,6 @@ use std::thread;
 /// The part that finds a fault, where the others would only take time.
 fn part_of(fault: &str) -> Option<&'static str> {
     match fault.split('-').next() {
-        _ if fault == "stored-width" => Some("widths"),
         Some("make") => Some("makes"),
         Some("origin" | "read") => Some("origins"),
         Some("stored" | "zero") => Some("write-only"),

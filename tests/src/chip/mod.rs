@@ -28,7 +28,7 @@ pub const Y: u8 = 0x81;
 /// The interrupt option register; its bit 4 enables sources 1 to 4. Programs
 /// store to it and to the next one, but read 0 there (document 02, W-204).
 pub const IOR: u8 = 0xC8;
-/// The data ROM window register.
+/// The data ROM window register; programs read 0 there too.
 pub const WINDOW: u8 = 0xC9;
 pub const A: u8 = 0xFF;
 

@@ -42,8 +42,8 @@ impl Case {
     }
 
     /// Writes an instruction, and puts an address where a kind of operand has
-    /// it: in X, in Y, or in the second byte. The two others are something
-    /// else, as are A and the flags.
+    /// it: in X, in Y, or in the second byte. The two others are random,
+    /// as are A and the flags.
     pub fn aim(&mut self, rng: &mut Rng, opcode: u8, kind: u8, address: u8) {
         let [mut second, mut x, mut y] = [rng.byte(), rng.byte(), rng.byte()];
         match kind {

@@ -1,10 +1,11 @@
 //! Counts what was compared, and prints it.
 
+use crate::counted_step::{AfterStep, BeforeStep};
 use crate::make_counts::MakeCounts;
 use crate::opcode_map::operations;
 use crate::origin_counts::OriginCounts;
 use crate::width_counts::WidthCounts;
-use crate::write_only_counts::{Ahead, Made, WriteOnlyCounts};
+use crate::write_only_counts::WriteOnlyCounts;
 use second::boundary::{self, FORMS, FORM_NAMES};
 use second::chip::Rom;
 use second::library::KINDS;
@@ -99,23 +100,23 @@ impl Counts {
         }
         let rom = Rom::new(image).expect("the step was not refused");
         let machine = boundary::unpack(state).expect("the step was not refused");
-        let ahead = self.write_only.ahead(&rom, &machine, request as u8);
-        self.add_made(&ahead, &Made::single(answer));
+        let before = BeforeStep::new(&rom, machine, request as u8);
+        self.add_done(&before, &AfterStep::single(answer));
     }
 
     /// Counts a step, alone or in a run.
-    fn add_made(&mut self, ahead: &Ahead, made: &Made) {
-        match made.cycles {
+    fn add_done(&mut self, before: &BeforeStep, after: &AfterStep) {
+        match after.cycles {
             0 => self.idle += 1,
             1 => self.taken += 1,
             _ => {
-                let opcode = ahead.opcode.expect("executed");
+                let opcode = before.opcode.expect("executed");
                 let form = self.form_of[opcode as usize].expect("defined") as usize;
-                let forms = if made.in_run { &mut self.run_forms } else { &mut self.step_forms };
+                let forms = if after.in_run { &mut self.run_forms } else { &mut self.step_forms };
                 forms[form] += 1;
             }
         }
-        self.write_only.add_step(ahead, made);
+        self.write_only.add_step(before, after);
     }
 
     /// Plays a run as single steps of the second emulator: the run must be
@@ -126,11 +127,11 @@ impl Counts {
         let (mut steps, mut cycles, mut stop) = (0, 0, 0);
         while steps < n {
             let request = requests.get(steps as usize).copied().unwrap_or(0);
-            let ahead = self.write_only.ahead(&rom, &machine, request);
+            let before = BeforeStep::new(&rom, machine.clone(), request);
             match machine.traced_step(image, request) {
                 Ok(traced) => {
                     cycles += traced.cycles;
-                    self.add_made(&ahead, &Made::in_run(traced));
+                    self.add_done(&before, &AfterStep::in_run(traced));
                 }
                 Err(refusal) => {
                     stop = refusal.number();

@@ -2,6 +2,7 @@
 
 mod case;
 mod certificates;
+mod counted_step;
 mod counts;
 mod harness;
 mod instructions;

@@ -11,9 +11,8 @@ use second::generate::image_length;
 const REGISTERS: [u8; 2] = [IOR, WINDOW];
 /// With those beside them, which can be read.
 const ADDRESSES: [u8; 4] = [0xC7, IOR, WINDOW, 0xCA];
-/// LDI of a data address, and LD A and ADD of one.
+/// LDI and ADD of a data address.
 const LDI: u8 = 0x0D;
-const LD_A: u8 = 0x1F;
 const ADD: u8 = 0x5F;
 
 pub fn write_only(h: &mut Harness) {
@@ -24,7 +23,6 @@ pub fn write_only(h: &mut Harness) {
         }
     }
     every_enable(h);
-    stored_and_used(h);
     every_read(h);
 }
 
@@ -57,6 +55,10 @@ fn stored_and_read(h: &mut Harness, opcode: u8) {
             code.extend(&[opcode, register, 0x01][..length]);
             code.extend([ADD, window_address(h)]);
             case.write(&code);
+            // Only normal mode takes sources.
+            if h.rng.chance(50) {
+                case.state[259] = 1;
+            }
             let request = source(h);
             case.run(h, &[0, 0, 0, 0, request], 5);
         }
@@ -82,20 +84,6 @@ fn every_enable(h: &mut Harness) {
             let (levels, asleep) = (h.rng.below(7) as u8, h.rng.chance(30) as u8);
             case.state[258..261].copy_from_slice(&[levels, mode, asleep]);
             case.step(h, request);
-        }
-    }
-}
-
-/// Runs that store every byte in a register, try to read it, and then use the
-/// window or take a request.
-fn stored_and_used(h: &mut Harness) {
-    for register in REGISTERS {
-        for stored in 0..=255u8 {
-            let mut case = any_case(h);
-            case.write(&[LDI, register, stored, LD_A, register, ADD, window_address(h)]);
-            case.state[259] = 1;
-            let request = source(h);
-            case.run(h, &[0, 0, request], 3);
         }
     }
 }

@@ -1,11 +1,12 @@
 //! Counts how 0C8h and 0C9h were read, which gives 0, where another byte is
 //! stored; and how the stored bytes drove the enable and the window.
 
+use crate::counted_step::{AfterStep, BeforeStep};
 use crate::opcode_map::{
     different_operations, operand_address, operations, reads, reads_anywhere, Operation, KINDS,
 };
 use second::boundary::{self, FORMS, FORM_NAMES};
-use second::chip::{Machine, Mode, Origin, Rom, Traced, IOR, SPACE, WINDOW};
+use second::chip::{Mode, IOR, WINDOW};
 
 const REGISTERS: [(u8, &str); 2] = [(IOR, "0C8h"), (WINDOW, "0C9h")];
 /// The first ROM address that page 0 of the window doesn't show.
@@ -21,41 +22,6 @@ pub struct WriteOnlyCounts {
     by_reads: ByRegister,
 }
 
-/// A step before it is made, as far as it is counted.
-pub struct Ahead {
-    /// At PC.
-    pub opcode: Option<u8>,
-    /// The form, the kind of operand and the number of the register that the
-    /// instruction at PC reads.
-    read: Option<[usize; 3]>,
-    /// In normal mode with a source requested, but no NMI: the enable bit.
-    enabled: Option<bool>,
-}
-
-/// What a step did that was neither refused nor stopped.
-pub struct Made {
-    pub cycles: u32,
-    /// Of the byte that it read; 0 if that wasn't in ROM.
-    rom_address: u16,
-    pub in_run: bool,
-}
-
-impl Made {
-    /// A single step, by its answer.
-    pub fn single(answer: u64) -> Self {
-        let (cycles, rom_address) = (boundary::cycles(answer), boundary::rom_address(answer));
-        Made { cycles, rom_address, in_run: false }
-    }
-
-    pub fn in_run(Traced { cycles, origin }: Traced) -> Self {
-        let rom_address = match origin {
-            Some(Origin::Rom(address)) => address,
-            _ => 0,
-        };
-        Made { cycles, rom_address, in_run: true }
-    }
-}
-
 impl WriteOnlyCounts {
     pub fn new() -> Self {
         let reading = operations().map(|operation| operation.filter(reads_anywhere));
@@ -63,36 +29,31 @@ impl WriteOnlyCounts {
         WriteOnlyCounts { reading, single, in_runs, by_reads: [0; REGISTERS.len()] }
     }
 
-    pub fn ahead(&self, rom: &Rom, machine: &Machine, request: u8) -> Ahead {
-        let opcode = rom.byte(machine.pc);
-        let source = request & 0x1E != 0 && request & 0x01 == 0;
-        let enabled = (machine.mode == Mode::Normal && source)
-            .then_some(machine.data[IOR as usize] & 0x10 != 0);
-        Ahead { opcode, read: opcode.and_then(|opcode| self.read(rom, machine, opcode)), enabled }
-    }
-
-    fn read(&self, rom: &Rom, machine: &Machine, opcode: u8) -> Option<[usize; 3]> {
-        let [form, kind] = self.reading[opcode as usize]?;
-        let second = rom.byte((machine.pc + 1) % SPACE).unwrap_or(0);
-        let register = stored_in(operand_address(kind, second, &machine.data), &machine.data)?;
-        Some([form as usize, kind as usize, register])
-    }
-
     /// Counts a step of the second emulator. The stored bit must have decided
     /// whether a source was taken.
-    pub fn add_step(&mut self, ahead: &Ahead, made: &Made) {
-        let steps = if made.in_run { &mut self.in_runs } else { &mut self.single };
-        if let Some(enabled) = ahead.enabled {
-            assert_eq!(made.cycles == 1, enabled, "sources are taken if they are enabled");
+    pub fn add_step(&mut self, before: &BeforeStep, after: &AfterStep) {
+        let read = self.read(before);
+        let steps = if after.in_run { &mut self.in_runs } else { &mut self.single };
+        if let Some(enabled) = enabled(before) {
+            assert_eq!(after.cycles == 1, enabled, "sources are taken if they are enabled");
             steps.sources[enabled as usize] += 1;
         }
-        if made.cycles < 2 {
+        if after.cycles < 2 {
             return;
         }
-        if let Some([form, kind, register]) = ahead.read {
+        if let Some([form, kind, register]) = read {
             steps.read[form][kind][register] += 1;
         }
-        steps.pages += (made.rom_address >= PAGE_1) as u64;
+        steps.pages += (after.rom_address >= PAGE_1) as u64;
+    }
+
+    /// The form, the kind of operand and the number of the register that the
+    /// instruction at PC reads.
+    fn read(&self, before: &BeforeStep) -> Option<[usize; 3]> {
+        let [form, kind] = self.reading[before.opcode? as usize]?;
+        let data = &before.machine.data;
+        let address = operand_address(kind, before.second.unwrap_or(0), data);
+        Some([form as usize, kind as usize, stored_in(address, data)?])
     }
 
     pub fn add_read(&mut self, state: &[u8], address: u32, answer: u64) {
@@ -122,7 +83,7 @@ impl WriteOnlyCounts {
             let Steps { sources: [not_enabled, enabled], pages, .. } = steps;
             println!(
                 "  {way}: sources taken {enabled}, not enabled {not_enabled}, \
-                 bytes read in the window beyond page 0 {pages}"
+                 ROM bytes of other pages than 0 read in the window {pages}"
             );
         }
     }
@@ -150,7 +111,7 @@ struct Steps {
     read: [[ByRegister; KINDS.len()]; FORMS],
     /// Requests without and with the enable bit.
     sources: [u64; 2],
-    /// Reads of the window on other pages than 0.
+    /// ROM bytes of other pages than 0 that were read in the window.
     pages: u64,
 }
 
@@ -172,6 +133,12 @@ impl Steps {
         }
         missing
     }
+}
+
+/// In normal mode with a source requested, but no NMI: the enable bit.
+fn enabled(BeforeStep { machine, request, .. }: &BeforeStep) -> Option<bool> {
+    let source = request & 0x1E != 0 && request & 0x01 == 0;
+    (machine.mode == Mode::Normal && source).then_some(machine.data[IOR as usize] & 0x10 != 0)
 }
 
 /// The number of a register at an address with another byte than 0 in it.
