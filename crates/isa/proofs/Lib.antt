@@ -1,4 +1,5 @@
 pub mod Finite
+pub mod ShortDisplacement
 pub mod Column
 pub mod Prefix
 pub mod GoesOn

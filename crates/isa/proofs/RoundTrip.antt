@@ -25,6 +25,7 @@ use Rattle.isa.specs.Encode.{encodeOf, bytes, inField, withByte, withByt
 use Rattle.isa.specs.Encode.{bitJump, bitDirect, onData, onShort}
 use Rattle.isa.proofs.Column.{Each, pick, pick8, pick16, rows}
 use Rattle.isa.proofs.Finite.{at, atSigned, eqZ, eqZ→eq, eqB, eqB→eq, sameN}
+use Rattle.isa.proofs.ShortDisplacement.{short-magnitude}
 
 -- an opcode with the two bytes that follow makes the instruction, and takes n bytes
 abbrev Makes : ℕ → ℕ → ℕ → Instruction → ℕ → Type 0
@@ -224,9 +225,7 @@ Again k f s = formBytes (formOf k f s) ≡ take (bytesOf (entryOf k)) (k ∷ f �
 
 short-again : (base k : ℕ) → k < 256 → k % 8 ≡ base → bytes (shortJump base (shortDisplacement k)) ≡ k ∷ []
 short-again base k h e =
-    let fits : inField 5 (shortDisplacement k) ≡ true =
-    eqB→eq (inField 5 (shortDisplacement k)) true
-    (at (λ j. eqB (inField 5 (shortDisplacement j)) true) 256 tt k h) in
+    let fits : inField 5 (shortDisplacement k) ≡ true = lt-ltb (mag (shortDisplacement k)) 16 (short-magnitude k h) in
     let field : modulo 32 (shortDisplacement k) ≡ k / 8 =
     sameN (λ j. modulo 32 (shortDisplacement j)) (λ j. j / 8) tt k h in
     let whole : k / 8 * 8 + base ≡ k = omega arith in

@@ -8,7 +8,7 @@ use lib.IntN.{ℤ, pos, negsuc, _+ℤ_, _-ℤ_}
 abbrev pub signed : ℕ → ℕ → ℤ
 signed bits n = cond (ltb n (2 ^ (bits - 1))) (pos n) (pos n -ℤ pos (2 ^ bits))
 
--- the opcode's top five bits, signed: -16 to 15
+-- "The short displacement is the opcode's top five bits, signed, −16 to 15": below 16 the number itself, else less 32
 abbrev pub shortDisplacement : ℕ → ℤ
 shortDisplacement opcode = signed 5 (opcode / 8)
 

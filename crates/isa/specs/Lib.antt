@@ -1,4 +1,5 @@
 pub mod Displacement
+pub mod ShortDisplacement
 pub mod Map
 pub mod Refusals
 pub mod Rom
