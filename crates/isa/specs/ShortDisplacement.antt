@@ -9,10 +9,11 @@ use Rattle.isa.specs.Displacement.{shortDisplacement}
 abbrev pub shortFormula : ℕ → ℤ
 shortFormula opcode = pos ((opcode / 8 + 16) % 32) -ℤ pos 16
 
--- "Let it be proved once over all 256 opcodes that this equals document 01's signed value", which lies from −16 (that is
--- `negsuc 15`) to 15
+-- of every opcode
 -- proved by short-displacement-formula, proofs/ShortDisplacement
 pub record ShortDisplacementFormula : Type 0 where
+  -- "proved once over all 256 opcodes that this equals document 01's signed value"
   pub equal : (opcode : ℕ) → opcode < 256 → shortFormula opcode ≡ shortDisplacement opcode
+  -- document 01: "signed, −16 to 15"; `negsuc 15` is -16
   pub at-least : (opcode : ℕ) → opcode < 256 → negsuc 15 ≤ℤ shortDisplacement opcode
   pub at-most : (opcode : ℕ) → opcode < 256 → shortDisplacement opcode ≤ℤ pos 15

@@ -4,7 +4,8 @@ ghost use Rattle.isa.specs.Displacement.{shortDisplacement, longDisplace
 ghost use Rattle.isa.specs.Displacement.{forwardOf, targetOf, shortTarget, longTarget};
 ghost use Rattle.isa.specs.Encode.{inField};
 
-// The opcode's top five bits, signed, as the formula `shortFormula`: no comparison and no branch.
+// The opcode's top five bits, signed, by the formula `shortFormula` (specs/ShortDisplacement): no comparison and no
+// branch.
 pub fn short_displacement(opcode: u8) -> i8
     ensures { λ r. ⌜ r ≡ shortDisplacement opcode ⌝ }
 {
