@@ -7,6 +7,7 @@ import re
 import shutil
 import subprocess
 import sys
+import tempfile
 
 PROGRAM = "tests/target/release/count"
 SIDES = ("proved", "second", "packed")
@@ -27,6 +28,7 @@ WORKS = [
     ("make 2K with six marks, a byte", "make-sparse-2k", 64, 2048),
     ("make 4K with six marks, a byte", "make-sparse-4k", 64, 4096),
     ("make 4K, six zigzag chains, a byte", "make-zigzag", 2, 4096),
+    ("playing of 32,767 steps, a step", "play", 1, 32767),
 ]
 
 
@@ -40,6 +42,22 @@ def total(work, side, times):
     return int(found.group(1))
 
 
+def inclusive(lines, symbol):
+    """Instructions of a function with all that it calls, from callgrind_annotate's lines."""
+    found = [line for line in lines if re.search(rf":{re.escape(symbol)} ", line)]
+    return int(found[0].split()[0].replace(",", "")) if found else None
+
+
+def tell_playing():
+    """What a playing takes beside the single steps of the machine operation that it calls."""
+    with tempfile.NamedTemporaryFile() as out:
+        subprocess.run(["valgrind", "--tool=callgrind", f"--callgrind-out-file={out.name}", PROGRAM, "play", "proved", "1"], capture_output=True, check=True)
+        done = subprocess.run(["callgrind_annotate", "--inclusive=yes", out.name], capture_output=True, text=True)
+    play, step = (inclusive(done.stdout.splitlines(), symbol) for symbol in ("st62_play", "machine::step::step"))
+    if play and step:
+        print(f"a playing takes {play / step:.2f} times the instructions of the calls of machine::step::step in it")
+
+
 def main():
     if not shutil.which("valgrind"):
         print("instructions not counted: there is no valgrind")
@@ -49,6 +67,7 @@ def main():
         counts = [(total(work, side, 2 * times) - total(work, side, times)) / (times * units) for side in SIDES]
         proved, second, packed = counts
         print(f"{title:38}" + "".join(f"{count:10.2f}" for count in counts) + f"   {proved / second:.2f}, {proved / packed:.2f}")
+    tell_playing()
 
 
 if __name__ == "__main__":

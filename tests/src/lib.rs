@@ -10,6 +10,8 @@ pub mod job;
 #[macro_use]
 pub mod library;
 pub mod maker;
+pub mod player;
+pub mod record;
 
 #[cfg(feature = "mock")]
 pub mod mock;
@@ -58,6 +60,9 @@ pub enum Refusal {
     NoSleep,
     CertificateBuffer,
     NoCertificate,
+    RecordVersion,
+    RecordLength,
+    RecordEntry,
 }
 
 impl Refusal {
@@ -90,6 +95,9 @@ impl Refusal {
             NoSleep => 24,
             CertificateBuffer => 25,
             NoCertificate => 26,
+            RecordVersion => 27,
+            RecordLength => 28,
+            RecordEntry => 29,
         }
     }
 

@@ -19,6 +19,7 @@ macro_rules! functions {
             st62_width width(image: &[u8], certificate: &[u8], count: u32);
             st62_make make(image: &[u8], wired: u32, out: &mut [u8]);
             st62_read read(image: &[u8], state: &[u8], address: u32);
+            st62_play play(image: &[u8], record: &[u8], state: &mut [u8], report: &mut [u8]);
         }
     };
 }

@@ -1,10 +1,11 @@
 //! Stands in for the proved library: the same functions, on this crate's own
-//! emulator; only its certificate maker, its reading and its telling of origins
-//! are others. `ST62_MOCK_FAULT` names a fault to inject, so that one can see
-//! the comparison find it.
+//! emulator; only its certificate maker, its player, its reading and its
+//! telling of origins are others. `ST62_MOCK_FAULT` names a fault to inject,
+//! so that one can see the comparison find it.
 
 mod make;
 mod origin;
+mod play;
 mod write_only;
 
 use crate::boundary;
@@ -13,9 +14,10 @@ use std::sync::OnceLock;
 
 pub use make::make;
 pub use origin::read;
+pub use play::play;
 
 /// The faults that can be injected.
-pub const FAULTS: [&str; 100] = [
+pub const FAULTS: [&str; 139] = [
     "decode-bit",      // bit numbers unreversed
     "com-carry",       // COM leaves C clear
     "rlc-low",         // RLC shifts in 0
@@ -116,6 +118,45 @@ pub const FAULTS: [&str; 100] = [
     "zero-enable",     // the enable reads 0 too: no source is taken
     "zero-page",       // so does the window's page
     "zero-state",      // states after steps have 0 at 0C8h and 0C9h
+    "play-from-1",     // the entry that ends a playing is counted from 1
+    "play-last",       // at the end the last entry's number is given
+    "play-byte",       // entry numbers are cut to a byte
+    "play-stores",     // stores aren't counted as entries
+    "play-resets",     // resets aren't
+    "play-store-cost", // a store costs a cycle
+    "play-reset-cost", // a reset does
+    "play-reset-sum",  // a reset clears the sum of cycles
+    "play-reset-data", // it clears all data
+    "play-end-cycles", // the entry that ends a playing costs cycles
+    "play-late",       // the machine that it gives has gone past the stop
+    "play-early",      // it is the one before the entry before
+    "play-fresh",      // it is a fresh one
+    "play-skip-10",    // refused stores are passed over
+    "play-skip-11",    // refused steps are
+    "play-no-request", // steps get no requests
+    "play-address",    // a stop's address isn't given
+    "play-value",      // the cycles are in the word too
+    "play-1-late",     // 1 after the record's refusals
+    "play-27-first",   // 27 before 28 of a short record
+    "play-28-first",   // 28 of a wrong count before 27
+    "play-29-first",   // 29 before 28 of a wrong count
+    "play-29-late",    // 29 only when the entry is reached
+    "play-cut-last",   // a cut entry is passed over
+    "play-kind-mask",  // two bits of an entry's first byte are looked at
+    "play-count-le",   // the count's low byte first
+    "play-count-15",   // the count has 15 bits
+    "play-count-mod",  // bytes are counted modulo 65,536
+    "play-more",       // bytes past the count are passed over
+    "play-empty",      // a record without entries is refused
+    "play-lent",       // played from the lent state
+    "play-lent-data",  // played from what reset makes of it
+    "play-looks",      // a lent state that is no machine is refused
+    "play-281",        // longer states are taken
+    "play-9-first",    // 9 before 2
+    "play-2-first",    // 2 and 9 before the playing's own
+    "play-report",     // the report is written with a refusal
+    "play-state",      // the state is written with 9
+    "play-rest",       // the report is written past its eight bytes
 ];
 
 fn fault() -> Option<&'static str> {

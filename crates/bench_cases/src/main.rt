@@ -1,12 +1,13 @@
 // Runs what no proof repeats: the manual's worked examples beside document 01's P1 to P12 (which
 // specs/BenchCases.antt has, proved), small programs step by step and as a run, bytes read with their origins, keys
-// pressed on one machine, the lines that jobs print, the widths of programs for the gauge, and certificates as they are
-// made.
+// pressed on one machine, the lines that jobs print, the widths of programs for the gauge, certificates as they are
+// made, and records played.
 mod examples;
 mod jumps;
 mod keys;
 mod lines;
 mod making;
+mod playing;
 mod programs;
 mod readings;
 mod sample;
@@ -24,4 +25,5 @@ fn main() {
     lines::put_lines();
     widths::put_widths();
     making::put_making();
+    playing::put_playings();
 }

@@ -64,6 +64,15 @@ pub fn put_state(m: Machine) {
     put(b"\n");
 }
 
+// How a run or a playing ended, and the end of the line.
+pub fn put_ending(ending: Ending) {
+    match ending {
+        Ending::Done => put(b"done"),
+        Ending::Refused(refusal) => put_refusal(refusal),
+    }
+    put(b"\n");
+}
+
 // How many steps a run completed, in how many cycles, and how it ended.
 pub fn put_report(report: Report) {
     let ending = report.ending;
@@ -71,11 +80,7 @@ pub fn put_report(report: Report) {
     put(b" steps, ");
     put_number(report.cycles);
     put(b" cycles, ");
-    match ending {
-        Ending::Done => put(b"done"),
-        Ending::Refused(refusal) => put_refusal(refusal),
-    }
-    put(b"\n");
+    put_ending(ending);
 }
 
 // Where a data byte came from.

@@ -4,5 +4,6 @@ pub mod Clamping
 pub mod JobLine
 pub mod Inverse
 pub mod Runs
+pub mod Plays
 pub mod RefusalsLeave
 pub mod Reading

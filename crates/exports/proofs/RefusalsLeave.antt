@@ -34,6 +34,7 @@ use Rattle.exports.specs.Lent.{storeBy, storeLent, stepBy, stepLent, job
 use Rattle.exports.specs.Laws.{Leaves, RefusalsLeave}
 use Rattle.exports.proofs.Inverse.{packing-inverts}
 use Rattle.exports.proofs.Runs.{step-keeps, run-leaves}
+use Rattle.exports.proofs.Plays.{play-leaves}
 
 -- what is done has no number
 done-number : (v : ℕ) → word 0 0 v % 0x100 ≡ 0
@@ -113,6 +114,7 @@ refusals-leave = record {
   by-store = λ s bytes a value. in-range s bytes a value (leb a 255 && leb value 255);
   by-step = λ image s bytes request. by-state s bytes image request (unpacked s) refl;
   by-run = run-leaves;
+  by-play = play-leaves;
   by-job = λ job line. with-room line (fits (lineOf (jobOf job)) line) (length (lineOf (jobOf job))) _;
   by-make = λ image wired out l m. made out image wired (l .buffer) (l .answer) (m .made) (m .answer-is) (m .makes);
 }

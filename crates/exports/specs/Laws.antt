@@ -20,6 +20,7 @@ use Rattle.machine.specs.Step.{stepOf}
 use Rattle.machine.specs.Run.{stepsOf, requestsFit, runOf}
 use Rattle.data.specs.declared.OriginRead.{OriginRead}
 use Rattle.gauge.specs.Sleep.{sizeAs}
+use Rattle.playback.specs.Play.{Playing, playOf}
 use Rattle.exports.specs.Answers.{word, answerWord, originNumber, romAddress, originWord, sizeWord, isRefusedRun}
 use Rattle.exports.specs.States.{valid, unpacked, packed}
 use Rattle.exports.specs.Fields.{packedInstruction, unpackedInstruction}
@@ -34,6 +35,7 @@ use Rattle.exports.specs.Lent.{
   storeLent,
   stepLent,
   runLent,
+  playLent,
   jobLent,
   MakeLent,
 }
@@ -152,6 +154,28 @@ pub record RunLeaves (image s requests before : List ℕ) (l : LentRun) : Type 0
       → (l .state ≡ s) × (l .report ≡ before)
   pub stopped : StopNumber (numberOf (l .answer)) → KeepsSteps image s requests before l
 
+-- W-206: the numbers of an entry that ends a playing, 4 to 7, 10 and 11; the playing's own and the buffers' are 1, 2, 9
+-- and 27 to 29
+pub data EntryNumber : (number : ℕ) → Type 0 where
+  stop : (number : ℕ) → StopNumber number → EntryNumber number
+  store : EntryNumber 10
+  step : EntryNumber 11
+
+-- the record was played: state and report are the machine, the entries and the cycles answered
+pub record KeepsPlayed (image session before : List ℕ) (l : LentRun) : Type 0 where
+  pub playing : Playing
+  pub plays : playOf image session ≡ done playing
+  pub state : l .state ≡ packed (playing .machine)
+  pub report : l .report ≡ reportBytes (playing .entries) (playing .cycles) ++ drop 8 before
+
+-- a record that is not played, 1 and 27 to 29, a state of another length, 2, and a short report, 9, leave state and
+-- report; a whole record, 0, and one that an entry ended leave what was played
+pub record PlayLeaves (image session s before : List ℕ) (l : LentRun) : Type 0 where
+  pub refused :
+      numberOf (l .answer) ≢ 0 → (EntryNumber (numberOf (l .answer)) → ⊥) → (l .state ≡ s) × (l .report ≡ before)
+  pub whole : numberOf (l .answer) ≡ 0 → KeepsPlayed image session before l
+  pub ended : EntryNumber (numberOf (l .answer)) → KeepsPlayed image session before l
+
 -- "A refusal is a number, and leaves buffers and machine untouched", of every function that is lent a buffer. A job's
 -- own refusals, 20 to 22 and the check's, are lines that are written; what is refused is a buffer too short for the
 -- line, with 9.
@@ -165,6 +189,9 @@ pub record RefusalsLeave : Type 0 where
   pub by-run :
       (image s requests report : List ℕ) → Bytes image → (n : ℕ) →
       RunLeaves image s requests report (runLent image s requests n report)
+  pub by-play :
+      (image session s report : List ℕ) → Bytes image →
+      PlayLeaves image session s report (playLent image session s report)
   pub by-job : (job line : List ℕ) → Leaves line (jobLent job line)
   pub by-make :
       (image : List ℕ) (wired : ℕ) (out : List ℕ) (l : Lent) → MakeLent image wired out l → Leaves out l

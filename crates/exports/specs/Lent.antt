@@ -4,8 +4,8 @@ use mathlib.Core.Path.{_≡_}
 use mathlib.Core.Bool.{cond, _&&_}
 use mathlib.Core.List.{List, [], _∷_, _++_}
 use lib.ListN.{length, drop}
-use lib.Dec.{leb}
-use Rattle.isa.specs.Refusals.{plain, Answer, done, refused}
+use lib.Dec.{leb, eqb}
+use Rattle.isa.specs.Refusals.{plain, Answer, done, refused, unless}
 use Rattle.isa.specs.Decode.{decodeAt}
 use Rattle.isa.specs.Decode as decode
 use Rattle.isa.specs.Write.{outcome, bufferAfter}
@@ -17,6 +17,7 @@ use Rattle.machine.specs.Run.{Run, runOf}
 use Rattle.machine.specs.Reading.{readingOf}
 use Rattle.machine.specs.Operands.{stepReadOf}
 use Rattle.maker.specs.Make.{Makes}
+use Rattle.playback.specs.Play.{Playing, playOf}
 use Rattle.jobs.specs.CheckJob.{jobOf}
 use Rattle.jobs.specs.Line.{lineOf}
 use Rattle.jobs.specs.Answer.{fits}
@@ -74,7 +75,7 @@ readBy image a invalid = invalidWord image
 unfoldable pub readWord : (image s : List ℕ) → (a : ℕ) → ℕ
 readWord image s a = cond (leb a 255) (readBy image a (unpacked s)) (refusalWord (plain 8))
 
--- a run's answer, and state and report after it
+-- the answer of a run or a playing, and state and report after it
 pub record LentRun : Type 0 where
   pub answer : ℕ
   pub state : List ℕ
@@ -83,7 +84,7 @@ pub record LentRun : Type 0 where
 abbrev pub lentRun : (answer : ℕ) → (state report : List ℕ) → LentRun
 lentRun answer state report = record { answer = answer; state = state; report = report }
 
--- steps and cycles, four bytes each, low byte first
+-- steps, or entries, and cycles, four bytes each, low byte first
 unfoldable pub reportBytes : (steps cycles : ℕ) → List ℕ
 reportBytes steps cycles =
     steps / 1 % 256 ∷ steps / 0x100 % 256 ∷ steps / 0x10000 % 256 ∷ steps / 0x1000000 % 256
@@ -104,6 +105,20 @@ runBy image s requests n report invalid = lentRun (invalidWord image) s report
 
 unfoldable pub runLent : (image s requests : List ℕ) → (n : ℕ) → (report : List ℕ) → LentRun
 runLent image s requests n report = runBy image s requests n report (unpacked s)
+
+-- W-206: the playing's own refusals come first and leave both buffers, and so do 2 for a state of another length and 9
+-- for a short report; else state and report are the machine, the entries and the cycles answered, with the word of the
+-- entry that ended the playing
+unfoldable pub playedLent : (s report : List ℕ) → Answer Playing → LentRun
+playedLent s report (done p) =
+    unless (eqb (length s) 280) (lentRun (refusalWord (plain 2)) s report)
+    (unless (leb 8 (length report)) (lentRun (refusalWord (plain 9)) s report)
+    (lentRun (endedWord (p .ending)) (packed (p .machine))
+    (reportBytes (p .entries) (p .cycles) ++ drop 8 report)))
+playedLent s report (refused n) = lentRun (refusalWord n) s report
+
+unfoldable pub playLent : (image session s report : List ℕ) → LentRun
+playLent image session s report = playedLent s report (playOf image session)
 
 -- decoding's own refusals come first, then 9
 unfoldable pub decodedLent : List ℕ → Answer decode.Decoding → Lent

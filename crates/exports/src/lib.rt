@@ -39,13 +39,15 @@ use machine::step::step;
 use maker::make::make;
 use packing::pack;
 use packing::report_bytes;
+use playback::PlayAnswer;
+use playback::play::play;
 use states::is_valid;
 use states::unpack;
 ghost use mathlib.Core.Path.{_≡_};
 ghost use Rattle.certificate.specs.Check.{checkOf};
 ghost use Rattle.exports.specs.Answers.{answerWord, widthWord};
 ghost use Rattle.exports.specs.Lent.{lent, lentRun, decodeLent, writeLent, resetLent, storeLent, stepLent};
-ghost use Rattle.exports.specs.Lent.{readWord, runLent, jobLent, MakeLent};
+ghost use Rattle.exports.specs.Lent.{readWord, runLent, playLent, jobLent, MakeLent};
 
 // Decodes at an address of the image into `out`.
 #[no_mangle]
@@ -169,6 +171,39 @@ pub extern "C" fn st62_run(
     pack(state, m);
     put(report, 0, &bytes);
     ending_word(ending)
+}
+
+// Plays a session's record on a fresh machine, whatever the state held before. Where nothing is played, where the state
+// has not 280 bytes, and where the report has fewer than eight, both are left.
+#[no_mangle]
+pub extern "C" fn st62_play(
+    image: &[u8],
+    session: &[u8],
+    state: &mut [u8],
+    report: &mut [u8],
+) -> u64
+    ensures { λ r. ⌜ lentRun r (now (state .exit)) (now (report .exit))
+        ≡ playLent (now (image .entry)) (now (session .entry)) (now (state .entry)) (now (report .entry)) ⌝ }
+{
+    let played = play(image, session);
+    let m = played.machine;
+    let answer = played.answer;
+    match answer {
+        PlayAnswer::Refused(refusal) => refused(refusal),
+        PlayAnswer::Ended(reported) => {
+            if state.len() != 280 {
+                return refused(Refusal::IllFormedMachine);
+            }
+            if report.len() < 8 {
+                return refused(Refusal::BufferLength);
+            }
+            let ending = reported.ending;
+            let bytes = report_bytes(reported.entries, reported.cycles);
+            pack(state, m);
+            put(report, 0, &bytes);
+            ending_word(ending)
+        }
+    }
 }
 
 #[no_mangle]

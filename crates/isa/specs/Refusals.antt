@@ -42,6 +42,11 @@ numbered R.NoSleep = plain 24
 -- W-202: "25 when the buffer isn't the image's length, then 26 exactly when no certificate would be accepted"
 numbered R.CertificateBuffer = plain 25
 numbered R.NoCertificate = plain 26
+-- W-206: "27 for a first byte other than 1, 28 for a record under three bytes or a wrong count, and 29 for an unknown
+-- or cut entry"
+numbered R.RecordVersion = plain 27
+numbered R.RecordLength = plain 28
+numbered R.RecordEntry = plain 29
 
 -- the program's number of a refusal
 abbrev pub asNumbered : Number → Numbered

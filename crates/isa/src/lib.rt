@@ -96,6 +96,9 @@ pub enum Refusal {
     NoSleep,
     CertificateBuffer,
     NoCertificate,
+    RecordVersion,
+    RecordLength,
+    RecordEntry,
 }
 
 // A refusal's number, alone or with an address.

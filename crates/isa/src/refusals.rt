@@ -35,5 +35,8 @@ pub fn number_of(refusal: Refusal) -> Number
         Refusal::NoSleep => Number::Plain(24),
         Refusal::CertificateBuffer => Number::Plain(25),
         Refusal::NoCertificate => Number::Plain(26),
+        Refusal::RecordVersion => Number::Plain(27),
+        Refusal::RecordLength => Number::Plain(28),
+        Refusal::RecordEntry => Number::Plain(29),
     }
 }

@@ -3,14 +3,14 @@
 //! own, without the start of the program. `benches/instructions.py` does that.
 
 use second::generate::Order;
-use second::workload::{Checks, Decodes, Makes, Runs, Side, Steps, Widths, Work};
+use second::workload::{Checks, Decodes, Makes, Plays, Runs, Side, Steps, Widths, Work};
 use std::process::exit;
 
 const USAGE: &str = "\
 count WORK SIDE N
   WORK  run (65535 steps), step, check-2k, check-4k, sparse-2k, sparse-4k, decode (256 opcodes),
         width, make-2k, make-4k, make-program-2k, make-program-4k, make-sparse-2k,
-        make-sparse-4k, make-zigzag
+        make-sparse-4k, make-zigzag, play (32767 steps)
   SIDE  proved, second, packed
   N     how often";
 
@@ -31,6 +31,7 @@ fn work(name: &str) -> Option<Box<dyn Work>> {
         "make-sparse-2k" => Box::new(Makes::sparse(2048)),
         "make-sparse-4k" => Box::new(Makes::sparse(4096)),
         "make-zigzag" => Box::new(Makes::chains(Order::Zigzag, 6, false)),
+        "play" => Box::new(Plays::default()),
         _ => return None,
     })
 }

@@ -2,8 +2,8 @@
 //! same inputs, in the same process, in turns.
 
 use second::workload::{
-    worst, Checks, Decodes, Makes, Runs, Side, Steps, Widths, Work, IMAGES, OPCODES, RUN, SIDES,
-    WIDTH_STEPS,
+    worst, Checks, Decodes, Makes, Plays, Runs, Side, Steps, Widths, Work, IMAGES, OPCODES,
+    PLAY_STEPS, RUN, SIDES, WIDTH_STEPS,
 };
 
 /// Many short rounds: other work on the same cores then spoils only some.
@@ -167,6 +167,23 @@ fn widths() {
     print_ratio("time of proved width / run of as many steps:", &times[0], &times[SIDES.len()]);
 }
 
+/// Playings of a record of steps, and the proved library's single steps and
+/// runs of as many in the same rounds.
+fn plays() {
+    let per_round = 3;
+    let mut plays = Plays::default();
+    let times = race(SIDES.len() + 2, |contestant| match SIDES.get(contestant) {
+        Some(&(side, _)) => plays.work(side, per_round),
+        None if contestant == SIDES.len() => plays.proved_steps(per_round),
+        None => plays.proved_runs(per_round),
+    });
+    let title = format!("playings of a record of {PLAY_STEPS} steps");
+    print(&title, "steps", (per_round * PLAY_STEPS) as f64, &times);
+    let [steps, runs] = [&times[SIDES.len()], &times[SIDES.len() + 1]];
+    print_ratio("time of proved playing / as many single steps:", &times[0], steps);
+    print_ratio("time of proved playing / run of as many steps:", &times[0], runs);
+}
+
 /// Makes of 2K and of 4K images, all in the same rounds, and the proved
 /// library's checks of what was made.
 fn makes(name: &str, of: fn(usize) -> Makes, per_round: usize) {
@@ -214,4 +231,5 @@ fn main() {
     makes("in generated programs", Makes::programs, 2 * IMAGES);
     makes("with six marks", Makes::sparse, 2 * IMAGES);
     worst_makes();
+    plays();
 }

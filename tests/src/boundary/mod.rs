@@ -12,6 +12,7 @@ use crate::check::check as check_certificate;
 use crate::chip::{self, DataByte, Origin, Traced, SIZES};
 use crate::gauge::{gauge, Gauged};
 use crate::maker::make as make_certificate;
+use crate::player::{play as play_record, Played};
 use crate::{job as jobs, Refusal};
 use fields::{fields, instruction};
 
@@ -124,12 +125,19 @@ pub fn run(image: &[u8], state: &mut [u8], requests: &[u8], n: u32, report: &mut
         chip::Rom::new(image)?;
         let mut machine = unpack(state)?;
         let ran = machine.run(image, requests, n)?;
-        let place = report.get_mut(..REPORT).ok_or(Refusal::Buffer)?;
-        place[..4].copy_from_slice(&ran.steps.to_le_bytes());
-        place[4..].copy_from_slice(&ran.cycles.to_le_bytes());
+        write_report(report, ran.steps, ran.cycles)?;
         pack(&machine, state);
         ran.stop.map_or(Ok(0), Err)
     })())
+}
+
+/// Puts the report of a run or a playing into a buffer; what comes after it
+/// stays.
+pub fn write_report(report: &mut [u8], count: u32, cycles: u32) -> Result<(), Refusal> {
+    let place = report.get_mut(..REPORT).ok_or(Refusal::Buffer)?;
+    place[..4].copy_from_slice(&count.to_le_bytes());
+    place[4..].copy_from_slice(&cycles.to_le_bytes());
+    Ok(())
 }
 
 /// A wired byte beyond its byte is as bad as any with bit 7.
@@ -166,6 +174,19 @@ pub fn width(image: &[u8], certificate: &[u8], count: u32) -> u64 {
 /// The value is what the check answers for the made certificate.
 pub fn make(image: &[u8], wired: u32, out: &mut [u8]) -> u64 {
     answer(make_certificate(image, wired_byte(wired), out).map(u32::from))
+}
+
+/// The state is only written; what it holds before doesn't matter.
+pub fn play(image: &[u8], record: &[u8], state: &mut [u8], report: &mut [u8]) -> u64 {
+    answer((|| {
+        let Played { machine, entries, cycles, end } = play_record(image, record)?;
+        if state.len() != STATE {
+            return Err(Refusal::IllFormed);
+        }
+        write_report(report, entries, cycles)?;
+        pack(&machine, state);
+        end.map_or(Ok(0), Err)
+    })())
 }
 
 /// The cycles of an answer of [`step`].

@@ -11,6 +11,7 @@ mod map;
 mod modes;
 mod origin;
 mod packing;
+mod player;
 mod write_only;
 
 use crate::chip::{Flags, Machine, Mode, SIZES};

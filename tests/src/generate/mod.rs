@@ -7,6 +7,7 @@ mod machine;
 mod marked;
 mod maze;
 mod program;
+mod record;
 mod rng;
 mod routine;
 mod sizing;
@@ -20,6 +21,7 @@ pub use machine::{ill_formed, machine, request, requests, spoil};
 pub use marked::{dense, p11, round_the_end, sparse, written};
 pub use maze::maze;
 pub use program::{program, write_only_program};
+pub use record::{damage_record, entries, mix, Mix};
 pub use rng::{Rng, EDGES};
 pub use sizing::sizing;
 pub use timed::{soonest, timed};
@@ -43,6 +45,15 @@ pub fn image_length(rng: &mut Rng) -> usize {
 pub fn random_image(rng: &mut Rng) -> Vec<u8> {
     let mut image = vec![0; image_length(rng)];
     rng.fill(&mut image);
+    image
+}
+
+/// A 2K image of 00h with bytes at some addresses.
+pub fn coded(code: &[(usize, &[u8])]) -> Vec<u8> {
+    let mut image = vec![0; 2048];
+    for (address, bytes) in code {
+        image[address - 0x800..][..bytes.len()].copy_from_slice(bytes);
+    }
     image
 }
 

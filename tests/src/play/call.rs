@@ -7,8 +7,8 @@ use std::borrow::Cow;
 type Bytes<'a> = Cow<'a, [u8]>;
 
 /// One call, with everything it is given. Buffers that are only written are
-/// given by their lengths, but for a certificate's, which are written whole or
-/// not at all.
+/// given by their lengths, but for those of a certificate and of a playing: of
+/// them it is seen that they, or their ends, stay.
 #[derive(Clone)]
 pub enum Call<'a> {
     Decode { image: Bytes<'a>, address: u32, out: usize },
@@ -22,6 +22,7 @@ pub enum Call<'a> {
     Width { image: Bytes<'a>, certificate: Bytes<'a>, count: u32 },
     Make { image: Bytes<'a>, wired: u32, out: Bytes<'a> },
     Read { image: Bytes<'a>, state: Bytes<'a>, address: u32 },
+    Play { image: Bytes<'a>, record: Bytes<'a>, state: Bytes<'a>, report: Bytes<'a> },
 }
 
 impl Call<'_> {
@@ -39,6 +40,7 @@ impl Call<'_> {
             Call::Width { .. } => 8,
             Call::Make { .. } => 9,
             Call::Read { .. } => 10,
+            Call::Play { .. } => 11,
         }
     }
 
@@ -50,7 +52,8 @@ impl Call<'_> {
             | Call::Store { state, .. }
             | Call::Step { state, .. }
             | Call::Run { state, .. }
-            | Call::Read { state, .. } => Lent::holding(state),
+            | Call::Read { state, .. }
+            | Call::Play { state, .. } => Lent::holding(state),
             _ => Lent::none(),
         };
         let out = match self {
@@ -58,7 +61,7 @@ impl Call<'_> {
             | Call::Write { out: length, .. }
             | Call::Run { report: length, .. }
             | Call::Job { line: length, .. } => Lent::of_length(*length),
-            Call::Make { out, .. } => Lent::holding(out),
+            Call::Make { out, .. } | Call::Play { report: out, .. } => Lent::holding(out),
             _ => Lent::none(),
         };
         (state, out)
@@ -84,6 +87,9 @@ impl Call<'_> {
             }
             Call::Make { image, wired, .. } => (library.make)(image, *wired, out.buffer()),
             Call::Read { image, address, .. } => (library.read)(image, state.bytes(), *address),
+            Call::Play { image, record, .. } => {
+                (library.play)(image, record, state.buffer(), out.buffer())
+            }
         };
         Outcome { answer, state, out }
     }
@@ -93,6 +99,15 @@ impl Call<'_> {
         match self {
             Call::Read { state, .. } => outcome.state.bytes() == &state[..],
             _ => true,
+        }
+    }
+
+    /// Whether the call has written a machine, if it gave this number. A
+    /// playing has where an entry was refused or stopped: the one before it.
+    pub(super) fn writes_machine(&self, number: u8) -> bool {
+        match self {
+            Call::Play { .. } => matches!(number, 0 | 4..=7 | 10 | 11),
+            _ => matches!(number, 0 | 4..=7),
         }
     }
 
@@ -120,13 +135,10 @@ impl Call<'_> {
             Call::Step { image, state, request } => {
                 Call::Step { image: own(image), state: own(state), request }
             }
-            Call::Run { image, state, requests, n, report } => Call::Run {
-                image: own(image),
-                state: own(state),
-                requests: own(requests),
-                n,
-                report,
-            },
+            Call::Run { image, state, requests, n, report } => {
+                let [image, state, requests] = [image, state, requests].map(own);
+                Call::Run { image, state, requests, n, report }
+            }
             Call::Check { image, certificate, wired } => {
                 Call::Check { image: own(image), certificate: own(certificate), wired }
             }
@@ -139,6 +151,10 @@ impl Call<'_> {
             }
             Call::Read { image, state, address } => {
                 Call::Read { image: own(image), state: own(state), address }
+            }
+            Call::Play { image, record, state, report } => {
+                let [image, record, state, report] = [image, record, state, report].map(own);
+                Call::Play { image, record, state, report }
             }
         }
     }
@@ -160,6 +176,9 @@ impl Call<'_> {
             }
             Call::Job { job, .. } => vec![job.to_mut()],
             Call::Make { image, out, .. } => vec![out.to_mut(), image.to_mut()],
+            Call::Play { image, record, state, report } => {
+                vec![state.to_mut(), report.to_mut(), record.to_mut(), image.to_mut()]
+            }
         }
     }
 
@@ -172,7 +191,9 @@ impl Call<'_> {
             Call::Run { n, .. } => vec![n],
             Call::Check { wired, .. } | Call::Make { wired, .. } => vec![wired],
             Call::Width { count, .. } => vec![count],
-            Call::Write { .. } | Call::Reset { .. } | Call::Job { .. } => vec![],
+            Call::Write { .. } | Call::Reset { .. } | Call::Job { .. } | Call::Play { .. } => {
+                vec![]
+            }
         }
     }
 }

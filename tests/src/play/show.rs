@@ -2,6 +2,7 @@
 
 use super::Call;
 use crate::library::KINDS;
+use crate::record::{pieces, read};
 use std::fmt::{self, Write};
 
 /// The length of a byte string and its bytes that aren't 0, in runs.
@@ -39,6 +40,27 @@ fn show_certificate(
     show(f, "image", image, base(image))
 }
 
+/// How many entries of a record are printed at each of its ends, at most.
+const PRINTED: usize = 40;
+
+/// The header of a record, then its entries, each with its number.
+fn show_record(f: &mut fmt::Formatter, record: &[u8]) -> fmt::Result {
+    let (header, pieces) = pieces(record);
+    write!(f, "\n  record: {} bytes, {header:02X?}", record.len())?;
+    if let Err(fault) = read(record) {
+        write!(f, " ({fault:?})")?;
+    }
+    let last = pieces.len().saturating_sub(PRINTED);
+    for (number, piece) in pieces.iter().enumerate() {
+        if number < PRINTED || number >= last {
+            write!(f, "\n    {number}: {piece:02X?}")?;
+        } else if number == PRINTED {
+            write!(f, "\n    and {} more, up to", last - PRINTED)?;
+        }
+    }
+    Ok(())
+}
+
 fn base(image: &[u8]) -> usize {
     0x1000usize.saturating_sub(image.len())
 }
@@ -49,7 +71,7 @@ impl Call<'_> {
         match self {
             Call::Decode { address, out, .. } => format!(" at {address:X}h, out of {out} bytes"),
             Call::Write { fields, out } => format!(" fields {fields:02X?}, out of {out} bytes"),
-            Call::Reset { .. } => String::new(),
+            Call::Reset { .. } | Call::Play { .. } => String::new(),
             Call::Store { address, value, .. } => format!(" {value:X}h at {address:X}h"),
             Call::Step { request, .. } => format!(" with request {request:X}h"),
             Call::Run { n, report, .. } => format!(" of {n} steps, report of {report} bytes"),
@@ -82,6 +104,11 @@ impl fmt::Display for Call<'_> {
             }
             Call::Job { job, .. } => show(f, "job", job, 0),
             Call::Make { image, out, .. } => show_certificate(f, "buffer", out, image),
+            Call::Play { image, record, state, report } => {
+                show_record(f, record)?;
+                show(f, "report", report, 0)?;
+                show_state(f, state, image)
+            }
         }
     }
 }

@@ -1,22 +1,27 @@
 //! Makes a call that differs smaller.
 
-use super::{verdict, Call, Verdict};
-use crate::library::{PROVED, SECOND};
+use super::Call;
+use crate::record::{count, pieces};
+use std::ops::Range;
 use std::time::{Duration, Instant};
 
 /// No longer than this: some calls are large, and each attempt plays one.
 const LIMIT: Duration = Duration::from_secs(30);
 const PASSES: usize = 4;
+/// Of a long record no more than so many parts are tried in turn.
+const PARTS: usize = 512;
 
 /// Makes a call that differs smaller: lower numbers, shorter lists, fewer
-/// set bytes.
-pub fn shrink(call: Call) -> Call<'static> {
-    let mut shrinking = Shrinking { best: call.into_owned(), start: Instant::now() };
+/// entries, fewer set bytes.
+pub fn shrink(call: Call, differs: &dyn Fn(&Call) -> bool) -> Call<'static> {
+    let mut shrinking = Shrinking { best: call.into_owned(), differs, start: Instant::now() };
     for _ in 0..PASSES {
         let lower = shrinking.lower_numbers();
         let shorter = shrinking.shorten_requests();
+        let fewer = shrinking.drop_entries();
         let cleared = shrinking.clear_bytes();
-        if !(lower || shorter || cleared) {
+        let lowered = shrinking.lower_record();
+        if !(lower || shorter || fewer || cleared || lowered) {
             break;
         }
     }
@@ -24,12 +29,13 @@ pub fn shrink(call: Call) -> Call<'static> {
 }
 
 /// The smallest call so far that differs.
-struct Shrinking {
+struct Shrinking<'a> {
     best: Call<'static>,
+    differs: &'a dyn Fn(&Call) -> bool,
     start: Instant,
 }
 
-impl Shrinking {
+impl Shrinking<'_> {
     /// Keeps a changed call if it still differs.
     fn attempt(&mut self, change: &dyn Fn(&mut Call<'static>)) -> bool {
         if self.start.elapsed() > LIMIT {
@@ -37,7 +43,7 @@ impl Shrinking {
         }
         let mut other = self.best.clone();
         change(&mut other);
-        let differs = verdict(&other.play(&SECOND), &other.play(&PROVED)) == Verdict::Differ;
+        let differs = (self.differs)(&other);
         if differs {
             self.best = other;
         }
@@ -89,6 +95,60 @@ impl Shrinking {
         }
     }
 
+    /// Takes ever fewer entries out of a record. What is no entry counts as
+    /// one here.
+    fn drop_entries(&mut self) -> bool {
+        let mut progress = false;
+        let mut size = self.entries();
+        while size > 0 && self.entries() / size <= PARTS {
+            let mut from = 0;
+            while from < self.entries() {
+                let dropped = from..from + size;
+                if self.attempt(&|call| without(call, &dropped)) {
+                    progress = true;
+                } else {
+                    from += size;
+                }
+            }
+            size /= 2;
+        }
+        progress
+    }
+
+    /// Takes ever smaller parts off each byte of a record that is short now.
+    fn lower_record(&mut self) -> bool {
+        let mut progress = false;
+        let length = self.record().len();
+        for index in 0..if length <= PARTS { length } else { 0 } {
+            let mut cut = 128;
+            while cut > 0 {
+                let lower = |call: &mut Call<'static>| {
+                    if let Call::Play { record, .. } = call {
+                        record.to_mut()[index] -= cut;
+                    }
+                };
+                if self.record()[index] >= cut && self.attempt(&lower) {
+                    progress = true;
+                } else {
+                    cut /= 2;
+                }
+            }
+        }
+        progress
+    }
+
+    /// The record of a playing; empty for other calls.
+    fn record(&self) -> &[u8] {
+        match &self.best {
+            Call::Play { record, .. } => record,
+            _ => &[],
+        }
+    }
+
+    fn entries(&self) -> usize {
+        pieces(self.record()).1.len()
+    }
+
     /// Clears ever smaller parts of each byte string.
     fn clear_bytes(&mut self) -> bool {
         let mut progress = false;
@@ -107,4 +167,19 @@ impl Shrinking {
         }
         progress
     }
+}
+
+/// Takes some of a record's entries out; its count stays right if it was.
+fn without(call: &mut Call<'static>, dropped: &Range<usize>) {
+    let Call::Play { record, .. } = call else { return };
+    let (header, pieces) = pieces(record);
+    let kept = pieces.iter().enumerate().filter(|(index, _)| !dropped.contains(index));
+    let mut shorter = header.to_vec();
+    kept.for_each(|(_, piece)| shorter.extend_from_slice(piece));
+    let mut counted = record.to_vec();
+    count(&mut counted);
+    if counted == **record {
+        count(&mut shorter);
+    }
+    *record = shorter.into();
 }

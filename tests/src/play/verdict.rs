@@ -1,6 +1,6 @@
 //! What a call gave, and how the outcomes of both sides stand to each other.
 
-use super::Lent;
+use super::{Call, Lent};
 use crate::boundary::{self, REPORT, STATE};
 use std::fmt::Write;
 
@@ -14,7 +14,7 @@ pub struct Outcome {
     pub out: Lent,
 }
 
-/// The steps and cycles of a written report.
+/// The two numbers of a written report: steps or entries, and cycles.
 pub fn report(outcome: &Outcome) -> (u32, u32) {
     let report = &outcome.out.bytes()[..REPORT];
     let word = |index: usize| u32::from_le_bytes(report[index..index + 4].try_into().unwrap());
@@ -30,13 +30,13 @@ pub enum Verdict {
     Differ,
 }
 
-/// Compares two outcomes. Return addresses that aren't in use after a call
-/// that was not turned down are no part of the machine.
-pub fn verdict(a: &Outcome, b: &Outcome) -> Verdict {
+/// Compares two outcomes of a call. Return addresses that aren't in use after
+/// a call that was not turned down are no part of the machine.
+pub fn verdict(call: &Call, a: &Outcome, b: &Outcome) -> Verdict {
     if a == b {
         return Verdict::Same;
     }
-    let changed = matches!(boundary::number(a.answer), 0 | 4..=7);
+    let changed = call.writes_machine(boundary::number(a.answer));
     let (before, after) = (a.state.bytes(), b.state.bytes());
     if a.answer == b.answer && a.out == b.out && changed && before.len() == STATE {
         let used = 268 + 2 * (before[258] as usize).min(6);
@@ -50,10 +50,10 @@ pub fn verdict(a: &Outcome, b: &Outcome) -> Verdict {
 /// How many bytes of a buffer are printed, at most.
 const PRINTED: usize = 32;
 
-/// Where two outcomes differ.
-pub fn difference(second: &Outcome, proved: &Outcome) -> String {
+/// Where two outcomes differ, each with its name.
+pub fn difference(named: [(&str, &Outcome); 2]) -> String {
     let mut text = String::new();
-    for (name, outcome) in [("second", second), ("proved", proved)] {
+    for (name, outcome) in named {
         let answer = outcome.answer;
         let _ = writeln!(
             text,
@@ -65,13 +65,13 @@ pub fn difference(second: &Outcome, proved: &Outcome) -> String {
             if answer >> 56 == 0 { "" } else { ", and bits above 55" },
         );
     }
-    for (name, a, b) in [("state", &second.state, &proved.state), ("out", &second.out, &proved.out)]
-    {
+    let [(one, first), (other, second)] = named;
+    for (name, a, b) in [("state", &first.state, &second.state), ("out", &first.out, &second.out)] {
         let length = a.bytes().len() as isize;
         let more = a.differences(b).count().saturating_sub(PRINTED);
         for (index, a, b) in a.differences(b).take(PRINTED) {
             let outside = if (0..length).contains(&index) { "" } else { " (outside it)" };
-            let _ = writeln!(text, "  {name}[{index}]{outside}: second {a:02X}, proved {b:02X}");
+            let _ = writeln!(text, "  {name}[{index}]{outside}: {one} {a:02X}, {other} {b:02X}");
         }
         if more > 0 {
             let _ = writeln!(text, "  and {more} more bytes of {name}");

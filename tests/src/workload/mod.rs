@@ -1,6 +1,7 @@
 //! What is measured: `speed` takes its time and `count` its instructions.
 
 mod makes;
+mod plays;
 mod widths;
 
 use crate::check::check;
@@ -10,6 +11,7 @@ use crate::{boundary, proved};
 use std::hint::black_box;
 
 pub use makes::{worst, Makes};
+pub use plays::{Plays, STEPS as PLAY_STEPS};
 pub use widths::{Widths, STEPS as WIDTH_STEPS};
 
 /// Who works: the proved library, the second emulator by itself, or the same

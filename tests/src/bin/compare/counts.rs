@@ -4,6 +4,7 @@ use crate::counted_step::{AfterStep, BeforeStep};
 use crate::make_counts::MakeCounts;
 use crate::opcode_map::operations;
 use crate::origin_counts::OriginCounts;
+use crate::play_counts::PlayCounts;
 use crate::width_counts::WidthCounts;
 use crate::write_only_counts::WriteOnlyCounts;
 use second::boundary::{self, FORMS, FORM_NAMES};
@@ -12,7 +13,7 @@ use second::library::KINDS;
 use second::play::{report, Call, Outcome};
 
 /// The greatest number of a refusal.
-const NUMBERS: usize = 26;
+const NUMBERS: usize = 29;
 
 pub struct Counts {
     calls: [u64; KINDS.len()],
@@ -32,6 +33,7 @@ pub struct Counts {
     lines: [u64; NUMBERS + 1],
     pub widths: WidthCounts,
     pub makes: MakeCounts,
+    pub plays: PlayCounts,
     origins: OriginCounts,
     write_only: WriteOnlyCounts,
     pub unused_differ: u64,
@@ -55,6 +57,7 @@ impl Counts {
             lines: [0; NUMBERS + 1],
             widths: WidthCounts::new(),
             makes: MakeCounts::new(),
+            plays: PlayCounts::new(),
             origins: OriginCounts::new(),
             write_only: WriteOnlyCounts::new(),
             unused_differ: 0,
@@ -84,6 +87,7 @@ impl Counts {
                 self.origins.add_read(image, outcome.answer);
                 self.write_only.add_read(state, *address, outcome.answer);
             }
+            Call::Play { record, .. } => self.plays.add(record, outcome),
             _ if number != 0 => {}
             Call::Decode { .. } => self.decoded_forms[outcome.out.bytes()[0] as usize] += 1,
             Call::Write { fields, .. } => self.written_forms[fields[0] as usize] += 1,
@@ -169,6 +173,7 @@ impl Counts {
         self.makes.print();
         self.origins.print();
         self.write_only.print();
+        self.plays.print();
         println!("calls that demand 3 speaks of, all as it says: {}", self.demand3_calls);
         println!("calls that differ only in return addresses not in use: {}", self.unused_differ);
         self.print_not_met();
@@ -193,6 +198,7 @@ impl Counts {
         self.makes.print_not_met();
         self.origins.print_not_met();
         self.write_only.print_not_met();
+        self.plays.print_not_met();
     }
 }
 

@@ -2,8 +2,8 @@
 
 use crate::counts::Counts;
 use second::generate::Rng;
-use second::library::{KINDS, PROVED, SECOND};
-use second::play::{difference, shrink, verdict, Call, Outcome, Verdict};
+use second::library::{Library, KINDS, PROVED, SECOND};
+use second::play::{difference, shrink, verdict, Call, OneByOne, Outcome, Verdict};
 use std::process::exit;
 
 /// How many calls come to one of which it is seen whether what was lent for
@@ -33,7 +33,7 @@ impl Harness {
             println!("WRITTEN TO BYTES LENT FOR READING\n{call}");
             exit(1);
         }
-        match verdict(&outcome, &proved) {
+        match verdict(&call, &outcome, &proved) {
             Verdict::Same => {}
             Verdict::UnusedDiffer if self.strict => {
                 report_difference("return addresses that aren't in use differ", call)
@@ -41,17 +41,69 @@ impl Harness {
             Verdict::UnusedDiffer => self.counts.unused_differ += 1,
             Verdict::Differ => {
                 eprintln!("a difference in {}; making it smaller", KINDS[call.kind()]);
-                report_difference("DIFFERENCE", shrink(call))
+                report_difference("DIFFERENCE", shrink(call, &sides_differ))
             }
         }
         self.counts.add(&call, &outcome);
         outcome
     }
+
+    /// Plays a record on both sides, and there its entries one by one, which
+    /// must be the same. Gives the second emulator's outcome, and what its
+    /// entries gave unless the playing was turned down.
+    pub fn compare_playing(&mut self, call: Call) -> (Outcome, Option<OneByOne>) {
+        let outcome = self.compare(call.clone());
+        let proved = entries_agree(&call, &outcome, ("proved", &PROVED));
+        let entries = entries_agree(&call, &outcome, ("second", &SECOND));
+        let way = |entries: &OneByOne| (entries.deepest, entries.steps);
+        if proved.as_ref().map(way) != entries.as_ref().map(way) {
+            println!("DIFFERENCE in levels or kinds of steps between the entries\n{call}");
+            exit(1);
+        }
+        if let (Call::Play { record, .. }, Some(entries)) = (&call, &entries) {
+            self.counts.plays.add_entries(record, entries);
+        }
+        (outcome, entries)
+    }
+}
+
+fn sides_differ(call: &Call) -> bool {
+    verdict(call, &call.play(&SECOND), &call.play(&PROVED)) == Verdict::Differ
 }
 
 fn report_difference(title: &str, call: Call) -> ! {
     println!("{title}\n{call}");
-    print!("{}", difference(&call.play(&SECOND), &call.play(&PROVED)));
+    let (second, proved) = (call.play(&SECOND), call.play(&PROVED));
+    print!("{}", difference([("second", &second), ("proved", &proved)]));
+    exit(1)
+}
+
+/// The entries of a playing one by one on a side. Ends the comparison unless
+/// they give what the playing gave.
+fn entries_agree(
+    call: &Call,
+    outcome: &Outcome,
+    (side, library): (&str, &Library),
+) -> Option<OneByOne> {
+    let entries = call.one_by_one(library)?;
+    if verdict(call, outcome, &entries.outcome) == Verdict::Differ {
+        report_entries(call, side, library)
+    }
+    Some(entries)
+}
+
+fn report_entries(call: &Call, side: &str, library: &Library) -> ! {
+    let outcomes = |call: &Call| Some((call.play(library), call.one_by_one(library)?.outcome));
+    let differ = |call: &Call| {
+        outcomes(call)
+            .is_some_and(|(playing, entries)| verdict(call, &playing, &entries) == Verdict::Differ)
+    };
+    eprintln!("a difference in the entries of a record; making it smaller");
+    let call = shrink(call.clone(), &differ);
+    println!("DIFFERENCE between a playing of {side} and its entries one by one\n{call}");
+    if let Some((playing, entries)) = outcomes(&call) {
+        print!("{}", difference([("playing", &playing), ("entries", &entries)]));
+    }
     exit(1)
 }
 

@@ -13,7 +13,10 @@ mod makes;
 mod opcode_map;
 mod origin_counts;
 mod origins;
+mod play_counts;
+mod playing;
 mod programs;
+mod records;
 mod refusals;
 mod width_counts;
 mod widths;
@@ -97,6 +100,7 @@ fn run_parts(h: &mut Harness, options: &Options) -> usize {
     part("makes", &mut |h| makes::makes(h, scale(1000)));
     part("origins", &mut |h| origins::origins(h, scale(20_000)));
     part("write-only", &mut write_only::write_only);
+    part("playing", &mut |h| playing::playing(h, scale(800)));
     parts
 }
 

@@ -81,6 +81,15 @@ enum-told-16 c = search needs
 enum-told-17 : tie.Need-enum-told-17
 enum-told-17 c = search needs
 
+enum-told-18 : tie.Need-enum-told-18
+enum-told-18 c = search needs
+
+enum-told-19 : tie.Need-enum-told-19
+enum-told-19 c = search needs
+
+enum-told-20 : tie.Need-enum-told-20
+enum-told-20 c = search needs
+
 returns : tie.Need-returns
 returns c = rw (c .enum-told .given .1)
 
@@ -159,6 +168,15 @@ returns-25 c = rw (c .enum-told16 .given .1)
 returns-26 : tie.Need-returns-26
 returns-26 c = rw (c .enum-told17 .given .1)
 
+returns-27 : tie.Need-returns-27
+returns-27 c = rw (c .enum-told18 .given .1)
+
+returns-28 : tie.Need-returns-28
+returns-28 c = rw (c .enum-told19 .given .1)
+
+returns-29 : tie.Need-returns-29
+returns-29 c = rw (c .enum-told20 .given .1)
+
 pub number-of-spec : {M : Type 1} → statement M
 number-of-spec =
     tie.close
@@ -189,6 +207,9 @@ number-of-spec =
     enum-told-15
     enum-told-16
     enum-told-17
+    enum-told-18
+    enum-told-19
+    enum-told-20
     returns
     returns-2
     returns-3
@@ -214,4 +235,7 @@ number-of-spec =
     returns-23
     returns-24
     returns-25
-    returns-26)
+    returns-26
+    returns-27
+    returns-28
+    returns-29)

@@ -1,0 +1,113 @@
+-- What `st62_play` leaves: both buffers where nothing is played or one has the wrong length, else what was played.
+use Prim.Native.Nat.{ℕ, _≤_, _<_}
+use native.Mathlib.Omega.{arith}
+use mathlib.Core.Path.{_≡_, refl}
+use mathlib.Core.Logic.{_≢_, _⊎_, inl, inr}
+use mathlib.Core.Bool.{Bool, true, false}
+use mathlib.Core.List.{List, _++_}
+use lib.Dec.{leb, eqb}
+use lib.ListN.{length, drop}
+use Rattle.isa.specs.Refusals.{Numbered, plain, located, Answer, Ended, done, refused, unless}
+use Rattle.isa.specs.RoundTrip.{Bytes}
+use Rattle.playback.specs.declared.Entry.{Entry}
+use Rattle.playback.specs.Play.{Playing, playOf}
+use Rattle.playback.specs.Refusals.{PlayRefused}
+use Rattle.playback.specs.Refusals as why
+use Rattle.playback.specs.Safety.{EndsOrStops}
+use Rattle.playback.specs.Safety as ends
+use Rattle.playback.proofs.Refusals.{has-entries, play-refusals}
+use Rattle.playback.proofs.Endings.{ends-by-entry}
+use Rattle.exports.specs.Answers.{word, refusalWord, endedWord}
+use Rattle.exports.specs.States.{packed}
+use Rattle.exports.specs.Lent.{LentRun, lentRun, reportBytes, playedLent, playLent}
+use Rattle.exports.specs.Laws.{numberOf, EntryNumber, KeepsPlayed, PlayLeaves}
+use Rattle.exports.specs.Laws as entry
+
+-- an entry's numbers lie between the others
+record Apart (number : ℕ) : Type 0 where
+  pub least : 4 ≤ number
+  pub most : number ≤ 11
+  pub not-9 : number ≡ 9 → ⊥
+
+apart : (number : ℕ) → EntryNumber number → Apart number
+apart number (entry.stop _ is) =
+    record { least = is .least; most = omega (arith, is .most); not-9 = λ e. omega (arith, is .most, e) }
+apart _ entry.store = record { least = omega arith; most = omega arith; not-9 = λ e. omega (arith, e) }
+apart _ entry.step = record { least = omega arith; most = omega arith; not-9 = λ e. omega (arith, e) }
+
+module _ (image session s before : List ℕ) where
+  abbrev Left : LentRun → Type 0
+  Left = PlayLeaves image session s before
+
+  -- both buffers are left
+  left :
+      (number : ℕ) → 0 < number → number < 0x100 → (EntryNumber number → ⊥) →
+      Left (lentRun (word number 0 0) s before)
+  left number some byte other =
+      let same : numberOf (word number 0 0) ≡ number = omega arith in
+      record {
+        refused = λ nonzero none. (refl, refl);
+        whole = λ none. absurd (omega (arith, same, none));
+        ended = λ is. absurd (other (rw same at is));
+      }
+
+  refusing : (n : Numbered) → PlayRefused image session n → Left (lentRun (refusalWord n) s before)
+  refusing _ (why.image-length _) = left 1 (omega arith) (omega arith) (λ is. omega (arith, apart 1 is .least))
+  refusing _ (why.too-short _ _) = left 28 (omega arith) (omega arith) (λ is. omega (arith, apart 28 is .most))
+  refusing _ (why.other-version _ _ _) = left 27 (omega arith) (omega arith) (λ is. omega (arith, apart 27 is .most))
+  refusing _ (why.wrong-count _ _ _ _) = left 28 (omega arith) (omega arith) (λ is. omega (arith, apart 28 is .most))
+  refusing _ (why.no-entries _ _ _ _ _) = left 29 (omega arith) (omega arith) (λ is. omega (arith, apart 29 is .most))
+
+  -- how a playing ended is 0 or an entry's number
+  numbered :
+      (entries : List Entry) (n : ℕ) (ending : Ended) → EndsOrStops entries n ending →
+      (numberOf (endedWord ending) ≡ 0) ⊎ EntryNumber (numberOf (endedWord ending))
+  numbered entries _ _ (ends.safely _ _ ends.all-played) = inl refl
+  numbered entries _ _ (ends.safely _ _ (ends.step-refused _ _ _)) = inr entry.step
+  numbered entries _ _ (ends.safely _ _ (ends.store-refused _ _ _ _)) = inr entry.store
+  numbered entries _ _ (ends.step-stops _ _ reason _ stop) =
+      let number = numberOf (refusalWord (located (stop .number) (stop .address))) in
+      let least : 4 ≤ number = omega (arith, stop .least, stop .most) in
+      let most : number ≤ 7 = omega (arith, stop .most) in
+      rw (stop .is) (inr (entry.stop number (record { least = least; most = most })))
+
+  module _ (p : Playing) (plays : playOf image session ≡ done p) where
+    abbrev played : LentRun
+    played =
+        lentRun (endedWord (p .ending)) (packed (p .machine)) (reportBytes (p .entries) (p .cycles) ++ drop 8 before)
+
+    kept : (numberOf (played .answer) ≡ 0) ⊎ EntryNumber (numberOf (played .answer)) → Left played
+    kept by =
+        let is : KeepsPlayed image session before played =
+        record { playing = p; plays = plays; state = refl; report = refl } in
+        record { refused = λ nonzero none. absurd (neither by nonzero none); whole = λ _. is; ended = λ _. is }
+      where
+        neither :
+            (numberOf (played .answer) ≡ 0) ⊎ EntryNumber (numberOf (played .answer)) →
+            numberOf (played .answer) ≢ 0 → (EntryNumber (numberOf (played .answer)) → ⊥) → ⊥
+        neither (inl zero) nonzero none = nonzero zero
+        neither (inr is) nonzero none = none is
+
+    with-room :
+        (b c : Bool) → Left played →
+        Left
+        (unless b (lentRun (refusalWord (plain 2)) s before)
+        (unless c (lentRun (refusalWord (plain 9)) s before) played))
+    with-room false c k = left 2 (omega arith) (omega arith) (λ is. omega (arith, apart 2 is .least))
+    with-room true false k = left 9 (omega arith) (omega arith) (λ is. apart 9 is .not-9 refl)
+    with-room true true k = k
+
+  by-answer : Bytes image → (a : Answer Playing) → playOf image session ≡ a → Left (playedLent s before a)
+  unfolding playedLent
+  by-answer all (refused n) plays = refusing n (play-refusals .only image session n plays)
+  by-answer all (done p) plays =
+      let has = has-entries image session p plays in
+      let ending = ends-by-entry image all session (has .entries) (has .reads) p plays in
+      with-room p plays (eqb (length s) 280) (leb 8 (length before))
+      (kept p plays (numbered (has .entries) (p .entries) (p .ending) ending))
+
+pub play-leaves :
+    (image session s report : List ℕ) → Bytes image →
+    PlayLeaves image session s report (playLent image session s report)
+unfolding playLent
+play-leaves image session s report all = by-answer image session s report all (playOf image session) refl

@@ -1,0 +1,12 @@
+pub mod Reading
+pub mod Record
+pub mod Playing
+pub mod Refusals
+pub mod Keys
+pub mod Endings
+pub mod Safety
+pub mod Cases
+pub mod Presses
+pub mod Turns
+pub mod Counted
+pub mod ValueWalk

@@ -1,0 +1,38 @@
+-- `header::count_of` meets its contract.
+use native.Mathlib.Omega.{arith}
+use borrow.Author.Needs.{needs}
+use Rattle.playback.proofs.header.count_of.Statement.{statement}
+use Rattle.playback.proofs.header.count_of.Tie as tie
+
+shared-slice-read-result : tie.Need-shared-slice-read-result
+shared-slice-read-result c = search needs
+
+cast-result : tie.Need-cast-result
+cast-result c = omega (arith, c .shared-slice-known .given 1, c .shared-slice-known .given 2)
+
+mul-result : tie.Need-mul-result
+mul-result c = omega (arith, c .shared-slice-known .given 1, c .shared-slice-known .given 2)
+
+shared-slice-read-result-2 : tie.Need-shared-slice-read-result-2
+shared-slice-read-result-2 c = search needs
+
+cast-result-2 : tie.Need-cast-result-2
+cast-result-2 c = omega (arith, c .shared-slice-known2 .given 1, c .shared-slice-known2 .given 2)
+
+add-result : tie.Need-add-result
+add-result c = omega (arith, c .shared-slice-known2 .given 1, c .shared-slice-known2 .given 2)
+
+returns : tie.Need-returns
+returns c = search needs
+
+pub count-of-spec : {M : Type 1} → statement M
+count-of-spec =
+    tie.close
+    (tie.spec
+    shared-slice-read-result
+    cast-result
+    mul-result
+    shared-slice-read-result-2
+    cast-result-2
+    add-result
+    returns)

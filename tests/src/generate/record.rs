@@ -1,0 +1,152 @@
+//! Records of sessions, and damage to them.
+
+use super::Rng;
+use crate::record::{count, pieces, HEADER, RESET, STEP, STORE, VERSION};
+
+/// What the entries of a record are to be.
+#[derive(Clone, Copy)]
+pub struct Mix {
+    /// How often steps, stores and resets come.
+    pub kinds: [usize; 3],
+    /// The bits that requests may set.
+    pub requests: u8,
+    /// How many of a hundred steps have a request.
+    pub requested: usize,
+    /// How many of a thousand steps and stores are refused.
+    pub refused: usize,
+}
+
+/// Any mixture, its requests within a mask.
+pub fn mix(rng: &mut Rng, requests: u8) -> Mix {
+    const KINDS: [[usize; 3]; 9] = [
+        [1, 0, 0],
+        [0, 1, 0],
+        [0, 0, 1],
+        [1, 1, 1],
+        [1, 9, 1],
+        [20, 5, 1],
+        [100, 5, 1],
+        [1000, 1, 1],
+        [1000, 50, 1],
+    ];
+    Mix {
+        kinds: rng.pick(&KINDS),
+        requests,
+        requested: rng.pick(&[0, 2, 10, 50, 100]),
+        refused: rng.pick(&[0, 0, 0, 1, 10, 200]),
+    }
+}
+
+/// Entries of exactly so many bytes. Where one doesn't fit any more, a reset
+/// has its place.
+pub fn entries(rng: &mut Rng, mix: &Mix, length: usize) -> Vec<u8> {
+    let mut entries = Vec::with_capacity(length);
+    while entries.len() < length {
+        let room = length - entries.len();
+        let kind = kind(rng, &mix.kinds);
+        match kind {
+            STEP if room >= 2 => entries.extend([STEP, request(rng, mix)]),
+            STORE if room >= 3 => entries.extend([STORE, address(rng, mix), rng.byte()]),
+            _ => entries.push(RESET),
+        }
+    }
+    entries
+}
+
+fn kind(rng: &mut Rng, [steps, stores, resets]: &[usize; 3]) -> u8 {
+    match rng.below(steps + stores + resets) {
+        drawn if drawn < *steps => STEP,
+        drawn if drawn < steps + stores => STORE,
+        _ => RESET,
+    }
+}
+
+fn refused(rng: &mut Rng, mix: &Mix) -> bool {
+    mix.refused > 0 && rng.below(1000) < mix.refused
+}
+
+/// A refused one has at least one of the bits 5 to 7, and may have others.
+fn request(rng: &mut Rng, mix: &Mix) -> u8 {
+    let bad = if refused(rng, mix) { 0x20 << rng.below(3) } else { 0 };
+    let asked = if rng.chance(mix.requested) { rng.byte() & mix.requests } else { 0 };
+    bad | asked
+}
+
+/// Of a store: in the ROM window if it is to be refused. 0C8h comes often, so
+/// that sources are enabled.
+fn address(rng: &mut Rng, mix: &Mix) -> u8 {
+    if refused(rng, mix) {
+        return 0x40 + rng.below(0x40) as u8;
+    }
+    if rng.chance(20) {
+        return rng.pick(&[0xC8, 0xC8, 0xC8, 0xC9, 0x3F, 0x80, 0x81, 0xFF]);
+    }
+    match rng.byte() {
+        window @ 0x40..=0x7F => window ^ 0xC0,
+        address => address,
+    }
+}
+
+/// Spoils a record in one way, or in none by chance.
+pub fn damage_record(rng: &mut Rng, record: &mut Vec<u8>) {
+    match rng.below(8) {
+        0 => put(record, 0, rng.pick(&[0, 2, 3, 0x10, 0x80, 0xFF, VERSION])),
+        1 => other_count(rng, record),
+        2 => record.truncate(rng.below(record.len() + 1)),
+        3 => {
+            record.truncate(rng.below(record.len() + 1));
+            count(record);
+        }
+        4 => lengthen(rng, record),
+        5 => {
+            lengthen(rng, record);
+            count(record);
+        }
+        6 => record.truncate(rng.below(HEADER + 2)),
+        _ => unknown(rng, record),
+    }
+}
+
+fn put(record: &mut [u8], index: usize, byte: u8) {
+    if let Some(place) = record.get_mut(index) {
+        *place = byte;
+    }
+}
+
+/// A count that is one off, far off, or the other way round.
+fn other_count(rng: &mut Rng, record: &mut [u8]) {
+    let [_, high, low, ..] = record else { return };
+    let now = u16::from_be_bytes([*high, *low]);
+    let other = match rng.below(6) {
+        0 => now.wrapping_add(1),
+        1 => now.wrapping_sub(1),
+        2 => now.swap_bytes(),
+        3 => now.wrapping_add(HEADER as u16), // the whole record's
+        4 => now ^ 1 << rng.below(16),
+        _ => rng.draw() as u16,
+    };
+    [*high, *low] = other.to_be_bytes();
+}
+
+fn lengthen(rng: &mut Rng, record: &mut Vec<u8>) {
+    for _ in 0..1 + rng.below(4) {
+        let byte = if rng.chance(80) { rng.below(4) as u8 } else { rng.byte() };
+        record.push(byte);
+    }
+}
+
+/// A byte that begins no entry in place of one that does.
+fn unknown(rng: &mut Rng, record: &mut [u8]) {
+    let (header, pieces) = pieces(record);
+    if pieces.is_empty() {
+        return;
+    }
+    let number = match rng.below(3) {
+        0 => 0,
+        1 => pieces.len() - 1,
+        _ => rng.below(pieces.len()),
+    };
+    let before: usize = pieces[..number].iter().map(|piece| piece.len()).sum();
+    let index = header.len() + before;
+    record[index] = 3 + rng.below(253) as u8;
+}
