@@ -2,18 +2,17 @@
 use Prim.Native.Nat.{ℕ, suc, _+_}
 use native.Mathlib.Omega.{arith}
 use mathlib.Core.Path.{_≡_, refl, sym, ap, _∙_}
-use mathlib.Core.Bool.{Bool, true, false, not, false≢true}
+use mathlib.Core.Bool.{Bool, true, false, false≢true}
 use mathlib.Core.List.{List, [], _∷_}
 use lib.ListN.{length}
 use Rattle.isa.specs.Refusals.{Numbered, plain, Answer, Ended, done, refused, unless}
 use Rattle.isa.specs.RoundTrip.{Bytes}
 use Rattle.isa.specs.Rom.{isImage}
-use Rattle.data.specs.Space.{inWindow}
 use Rattle.machine.specs.declared.Machine.{Machine}
-use Rattle.machine.specs.State.{isWellFormed, withByte, freshOf, resetOf, hostStored, hostStoreOf}
+use Rattle.machine.specs.State.{isWellFormed, freshOf, resetOf, hostStoreOf}
 use Rattle.machine.specs.Step.{stepOf}
 use Rattle.machine.specs.Refusals as why
-use Rattle.machine.specs.Refusals.{StepRefused}
+use Rattle.machine.specs.Refusals.{StepRefused, StoreRefused}
 use Rattle.machine.proofs.Refusals.{step-refusals}
 use Rattle.machine.proofs.StepDoes.{stops-numbered}
 use Rattle.machine.proofs.StaysWellFormed.{stays-well-formed}
@@ -25,6 +24,7 @@ use Rattle.playback.specs.Play.{withoutCycles, Playing, playFrom, played
 use Rattle.playback.specs.Safety.{IsEntry, EndsSafely, EndsOrStops, EndsByEntry}
 use Rattle.playback.specs.Safety as ends
 use Rattle.playback.proofs.Playing.{Next}
+use Rattle.playback.proofs.Keys.{store-only}
 
 pub first : (e : Entry) (rest : List Entry) → IsEntry (e ∷ rest) 0 e
 first e rest = record { rest = rest; stands = refl }
@@ -94,20 +94,9 @@ module _ (image : List ℕ) (all : Bytes image) (size : isImage (length image) �
           ends = step-ends request reason (step-refusals .only image m request reason is);
         }
 
-    only-10 : (address value : ℕ) (reason : Numbered) → hostStoreOf m address value .ending ≡ refused reason
-        → reason ≡ plain 10
-    unfolding hostStoreOf
-    only-10 address value reason is = by-tests (isWellFormed m) formed (not (inWindow address)) is
-      where
-        by-tests :
-            (b : Bool) → b ≡ true → (c : Bool) →
-            unless b (hostStored m (refused (plain 2)))
-            (unless c (hostStored m (refused (plain 10))) (hostStored (withByte m address value) (done tt)))
-            .ending
-            ≡ refused reason → reason ≡ plain 10
-        by-tests false fits c is = absurd (false≢true fits)
-        by-tests true fits false is = cc
-        by-tests true fits true is = let z : _≡_ {A = ℕ} 0 1 = cc in absurd (omega arith)
+    only-10 : (address : ℕ) (reason : Numbered) → StoreRefused m address reason → reason ≡ plain 10
+    only-10 address _ (why.ill-formed w) = absurd (false≢true (sym w ∙ formed))
+    only-10 address _ (why.window-address w low high) = refl
 
     by-store :
         (address value : ℕ) (a : Ended) → hostStoreOf m address value .ending ≡ a →
@@ -117,7 +106,7 @@ module _ (image : List ℕ) (all : Bytes image) (size : isImage (length image) �
         one-before n (Store address value) rest _
         (more (n + 1) (cycles + 0) _ (stays-well-formed .by-store m formed address value))
     by-store address value (refused reason) is =
-        rw (only-10 address value reason is)
+        rw (only-10 address reason (store-only m address value reason is))
         (record {
           count = 0;
           number = omega arith;

@@ -2,16 +2,19 @@
 use Prim.Native.Nat.{ℕ, suc, _+_}
 use native.Mathlib.Omega.{arith}
 use mathlib.Core.Path.{_≡_, refl, sym, ap, _∙_}
-use mathlib.Core.Bool.{Bool, true, false, not}
+use mathlib.Core.Bool.{Bool, true, false, not, _&&_}
 use mathlib.Core.List.{List, [], _∷_}
+use lib.Dec.{leb, ltb}
 use lib.ListN.{take}
+use borrow.Author.Tests.{leb-true, ltb-true}
 use Rattle.isa.specs.Refusals.{Numbered, plain, Answer, Ended, done, refused, unless}
-use Rattle.data.specs.Space.{inWindow}
 use Rattle.machine.specs.declared.Machine.{Machine}
 use Rattle.machine.specs.State.{isWellFormed, withByte, HostStore, resetOf, hostStored, hostStoreOf}
 use Rattle.machine.specs.Step.{stepOf}
 use Rattle.machine.specs.Step as stepping
-use Rattle.machine.proofs.Refusals.{step-refusals}
+use Rattle.machine.specs.Refusals as why
+use Rattle.machine.specs.Refusals.{StoreRefused}
+use Rattle.machine.proofs.Refusals.{step-refusals, store-refusals}
 use Rattle.bench.specs.Calls.{leaves, leavesAll}
 use Rattle.playback.specs.declared.Entry.{Entry}
 use Rattle.playback.specs.declared.Entry.the-variants.{Step, Store, Reset}
@@ -31,24 +34,35 @@ pub step-keeps :
 step-keeps image m request why is =
     sym (step-refusals .given image m request why (step-refusals .only image m request why is))
 
--- and so does a host store
-pub store-keeps :
-    (m : Machine) (address value : ℕ) (why : Numbered) → hostStoreOf m address value .ending ≡ refused why →
-    hostStored m (refused why) ≡ hostStoreOf m address value
+-- why a host store was refused
+pub store-only :
+    (m : Machine) (address value : ℕ) (reason : Numbered) → hostStoreOf m address value .ending ≡ refused reason →
+    StoreRefused m address reason
 unfolding hostStoreOf
-store-keeps m address value why is = by-tests (isWellFormed m) (not (inWindow address)) is
+store-only m address value reason is =
+    by-tests (isWellFormed m) refl (leb 0x40 address) refl (ltb address 0x80) refl is
   where
-    tested : Bool → Bool → HostStore
-    tested formed outside =
-        unless formed (hostStored m (refused (plain 2)))
-        (unless outside (hostStored m (refused (plain 10))) (hostStored (withByte m address value) (done tt)))
-
     by-tests :
-        (formed outside : Bool) → tested formed outside .ending ≡ refused why →
-        hostStored m (refused why) ≡ tested formed outside
-    by-tests false outside is = ap (hostStored m) (sym is)
-    by-tests true false is = ap (hostStored m) (sym is)
-    by-tests true true is = let z : _≡_ {A = ℕ} 0 1 = cc in absurd (omega arith)
+        (w : Bool) → isWellFormed m ≡ w → (low : Bool) → leb 0x40 address ≡ low →
+        (high : Bool) → ltb address 0x80 ≡ high →
+        unless w (hostStored m (refused (plain 2)))
+        (unless (not (low && high)) (hostStored m (refused (plain 10)))
+        (hostStored (withByte m address value) (done tt)))
+        .ending
+        ≡ refused reason → StoreRefused m address reason
+    by-tests false w low f high g is = let same : plain 2 ≡ reason = cc in rw (← same) (why.ill-formed w)
+    by-tests true w true f true g is =
+        let same : plain 10 ≡ reason = cc in
+        rw (← same) (why.window-address w (leb-true 0x40 address f) (ltb-true address 0x80 g))
+    by-tests true w false f high g is = let z : _≡_ {A = ℕ} 0 1 = cc in absurd (omega arith)
+    by-tests true w true f false g is = let z : _≡_ {A = ℕ} 0 1 = cc in absurd (omega arith)
+
+-- a host store that is refused leaves the machine as it was
+pub store-keeps :
+    (m : Machine) (address value : ℕ) (reason : Numbered) → hostStoreOf m address value .ending ≡ refused reason →
+    hostStored m (refused reason) ≡ hostStoreOf m address value
+store-keeps m address value reason is =
+    sym (store-refusals .given m address value reason (store-only m address value reason is))
 
 module _ (image : List ℕ) where
   none-spent :

@@ -54,7 +54,8 @@ module _ (version high low : ℕ) (body : List ℕ) (byte : low < 256) (entries 
       (long : Bool) → (one : Bool) → eqb version 1 ≡ one →
       (right : Bool) → eqb (length session - 3) (countOf session) ≡ right →
       readBody
-      (unless long (refused (plain 28)) (unless one (refused (plain 27)) (unless right (refused (plain 28)) (done body))))
+      (unless long (refused (plain 28))
+      (unless one (refused (plain 27)) (unless right (refused (plain 28)) (done body))))
       ≡ done entries →
       recordBytes entries ≡ session
   by-tests true true f true g reads =

@@ -28,7 +28,9 @@ module _ (image : List ℕ) (levels : ℕ) where
     pub within : levelsInUse (p .machine) ≤ levels
 
   -- .. with one entry before them
-  one-before : (n : ℕ) (e : Entry) (rest : List Entry) (p : Playing) → PlayedWithin (n + 1) rest p → PlayedWithin n (e ∷ rest) p
+  one-before :
+      (n : ℕ) (e : Entry) (rest : List Entry) (p : Playing) → PlayedWithin (n + 1) rest p →
+      PlayedWithin n (e ∷ rest) p
   one-before n e rest p w =
       record {
         count = suc (w .count);

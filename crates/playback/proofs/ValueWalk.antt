@@ -1,5 +1,5 @@
--- The call of a function on values, as a walk makes it (bench/proofs has no walk that makes one). Of the function no more
--- is known than that it meets its contract.
+-- The call of a function on values, as a walk makes it (bench/proofs has no walk that makes one). Of the function no
+-- more is known than that it meets its contract.
 --     doubled          what a Copy type owns is had twice
 --     readied          the tokens, and what the arguments own, are all that the function asks where its `requires`
 --                      holds

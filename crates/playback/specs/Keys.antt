@@ -19,9 +19,9 @@ abbrev pub stepLeft : Machine → Answer ℕ → stepping.Step
 stepLeft held answer = record { machine = held; answer = answer }
 
 -- The keys of `bench` pressed in the order of a list of entries on one held machine, after some entries with their
--- cycles. What is asked of each press is its key's contract (bench, src/keys), but for the origin that a step tells: the
--- machine that it leaves in the place of the one that it was lent, with what it returns. A key that refuses or stops is
--- the last.
+-- cycles. What is asked of each press is its key's contract (bench, src/keys), but for the origin that a step tells:
+-- the machine that it leaves in the place of the one that it was lent, with what it returns. A key that refuses or
+-- stops is the last.
 pub data Presses (image : List ℕ) : (entries cycles : ℕ) → Machine → List Entry → Playing → Type 0 where
   all-pressed : (n cycles : ℕ) (m : Machine) → Presses image n cycles m [] (playingAs m n cycles (done tt))
   step-done :

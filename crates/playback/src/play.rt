@@ -51,8 +51,8 @@ fn ended(machine: Machine, turn: Turn) -> Played
     }
 }
 
-// Plays the entries of a body: one machine is held here, and lent to the key of each entry. The body is short enough for
-// the sum of the cycles to have 32 bits.
+// Plays the entries of a body: one machine is held here, and lent to the key of each entry. The body is short enough
+// for the sum of the cycles to have 32 bits.
 fn play_entries(image: &[u8], body: &[u8]) -> Played
     requires { ⌜ (isBody (now body) ≡ true) × (length (now body) ≤ 0xFFFFFF) ⌝ }
     ensures { λ r. ⌜ playedOf r ≡ playedBy (now (image .entry)) (entriesOf (now (body .entry))) ⌝ }

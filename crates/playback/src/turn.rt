@@ -23,8 +23,8 @@ ghost use Rattle.playback.specs.Turn.{AfterAny, AfterStep, AfterStore, A
 pub struct Turn {
     // Whether an entry is to be played.
     pub more: bool,
-    // The entry, as plain bytes that the loop of keys tests and passes on: kind 0 is a step with the request `first`, 1 a
-    // store of `second` at `first`, and 2 a reset.
+    // The entry, as plain bytes that the loop of keys tests and passes on: kind 0 is a step with the request `first`, 1
+    // a store of `second` at `first`, and 2 a reset.
     pub kind: u8,
     pub first: u8,
     pub second: u8,
