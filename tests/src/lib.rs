@@ -63,6 +63,7 @@ pub enum Refusal {
     RecordVersion,
     RecordLength,
     RecordEntry,
+    RecordTooLong,
 }
 
 impl Refusal {
@@ -98,6 +99,7 @@ impl Refusal {
             RecordVersion => 27,
             RecordLength => 28,
             RecordEntry => 29,
+            RecordTooLong => 30,
         }
     }
 

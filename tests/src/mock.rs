@@ -17,7 +17,7 @@ pub use origin::read;
 pub use play::play;
 
 /// The faults that can be injected.
-pub const FAULTS: [&str; 139] = [
+pub const FAULTS: [&str; 180] = [
     "decode-bit",      // bit numbers unreversed
     "com-carry",       // COM leaves C clear
     "rlc-low",         // RLC shifts in 0
@@ -157,6 +157,47 @@ pub const FAULTS: [&str; 139] = [
     "play-report",     // the report is written with a refusal
     "play-state",      // the state is written with 9
     "play-rest",       // the report is written past its eight bytes
+    "long-unknown",    // version 2 isn't known
+    "long-version-0",  // version 0 is taken as 1
+    "long-version-3",  // version 3 is taken as 2
+    "long-version-82", // 82h is
+    "long-version-up", // every version above 2 is
+    "long-count-2",    // the count of version 2 has two bytes
+    "long-count-le",   // it has its low byte first
+    "long-count-turn", // it has its high byte last
+    "long-count-mod",  // it is compared modulo 65,536
+    "long-count-24",   // bytes are counted modulo 16,777,216
+    "long-count-own",  // it counts the header too
+    "long-more",       // bytes past it are passed over
+    "long-header-3",   // the entries begin with its last byte
+    "long-header-5",   // it has four bytes
+    "long-few",        // small counts are taken in version 2
+    "long-few-27",     // they give 27
+    "long-few-30",     // they give 30
+    "long-empty",      // a count of 0 is taken
+    "long-65535",      // a count of 65,535 is
+    "long-65536",      // 65,536 is refused
+    "long-many",       // no count is too large
+    "long-1048576",    // 1,048,576 is too large
+    "long-1048577",    // 1,048,577 isn't
+    "long-30-first",   // 30 before 28 of a wrong count
+    "long-30-length",  // 30 before 27 and 28, by the record's length
+    "long-30-late",    // 30 after 2 and 9
+    "long-30-28",      // 28 in place of 30
+    "long-30-29",      // 29 in place of 30
+    "long-30-state",   // the state is written with 30
+    "long-29-first",   // 29 before 30
+    "long-29-late",    // 29 past 65,535 bytes only when the entry is reached
+    "long-three-0",    // a version 2 record of three bytes plays
+    "long-three-27",   // it gives 27
+    "long-three-30",   // it gives 30
+    "long-number-16",  // entry numbers have 16 bits
+    "long-number-max", // they go up to 65,535
+    "long-cycles-18",  // cycles have 18 bits, enough for version 1
+    "long-bytes",      // the playing ends after 65,535 bytes
+    "long-entries",    // it ends after 65,535 entries
+    "long-first-3",    // version 1's count has three bytes too
+    "long-first-most", // 65,535 is refused in version 1
 ];
 
 fn fault() -> Option<&'static str> {

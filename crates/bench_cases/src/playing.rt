@@ -71,13 +71,29 @@ fn put_stopped() {
 }
 
 fn put_refused(image: &[u8]) {
-    put_playing(b"short image", b"\x00", b"\x02");
-    put_playing(b"two bytes of version 2", image, b"\x02\x00");
-    put_playing(b"version 2, wrong count", image, b"\x02\x00\x01");
+    put_playing(b"short image", b"\x00", b"\x03");
+    put_playing(b"two bytes of version 3", image, b"\x03\x00");
+    put_playing(b"version 3, wrong count", image, b"\x03\x00\x01");
+    put_playing(b"three bytes of version 2", image, b"\x02\x00\x00");
+    put_playing(b"version 2, one reset", image, b"\x02\x00\x00\x01\x02");
     put_playing(b"wrong count", image, b"\x01\x00\x02\x03");
     put_playing(b"unknown entry", image, b"\x01\x00\x03\x00\x00\x03");
     put_playing(b"cut step", image, b"\x01\x00\x01\x00");
     put_playing(b"cut store", image, b"\x01\x00\x02\x01\x22");
+}
+
+// Version 2 with the least number of bytes that it is for, and with one less.
+// Every byte is 2 at first: the version, and resets.
+fn put_long(image: &[u8]) {
+    let mut session = [2u8; 65540];
+    session[1] = 1;
+    session[2] = 0;
+    session[3] = 0;
+    put_playing(b"version 2, 65536 resets", image, &session);
+    session[1] = 0;
+    session[2] = 0xFF;
+    session[3] = 0xFF;
+    put_playing(b"version 2, 65535 resets", image, &session[..65539]);
 }
 
 pub fn put_playings() {
@@ -86,4 +102,5 @@ pub fn put_playings() {
     put_ended(&image);
     put_stopped();
     put_refused(&image);
+    put_long(&image);
 }

@@ -11,7 +11,7 @@ use Rattle.isa.specs.Refusals.{Numbered, plain, located, Answer, Ended, done, r
 use Rattle.isa.specs.RoundTrip.{Bytes}
 use Rattle.playback.specs.declared.Entry.{Entry}
 use Rattle.playback.specs.Play.{Playing, playOf}
-use Rattle.playback.specs.Refusals.{PlayRefused}
+use Rattle.playback.specs.Refusals.{HeaderRefused, PlayRefused}
 use Rattle.playback.specs.Refusals as why
 use Rattle.playback.specs.Safety.{EndsOrStops}
 use Rattle.playback.specs.Safety as ends
@@ -51,12 +51,24 @@ module _ (image session s before : List ℕ) where
         ended = λ is. absurd (other (rw same at is));
       }
 
+  -- the record's own numbers, 27 to 30, lie above an entry's
+  above : (number : ℕ) → 27 ≤ number → number ≤ 30 → Left (lentRun (word number 0 0) s before)
+  above number least most =
+      left number (omega (arith, least)) (omega (arith, most)) (λ is. omega (arith, apart number is .most, least))
+
+  by-header : (n : Numbered) → HeaderRefused session n → Left (lentRun (refusalWord n) s before)
+  by-header _ (why.under-three _) = above 28 (omega arith) (omega arith)
+  by-header _ (why.other-version _ _ _) = above 27 (omega arith) (omega arith)
+  by-header _ (why.wrong-count _ _ _) = above 28 (omega arith) (omega arith)
+  by-header _ (why.under-four _ _) = above 28 (omega arith) (omega arith)
+  by-header _ (why.wrong-long-count _ _ _) = above 28 (omega arith) (omega arith)
+  by-header _ (why.too-few _ _ _) = above 28 (omega arith) (omega arith)
+  by-header _ (why.too-many _ _ _) = above 30 (omega arith) (omega arith)
+
   refusing : (n : Numbered) → PlayRefused image session n → Left (lentRun (refusalWord n) s before)
   refusing _ (why.image-length _) = left 1 (omega arith) (omega arith) (λ is. omega (arith, apart 1 is .least))
-  refusing _ (why.too-short _ _) = left 28 (omega arith) (omega arith) (λ is. omega (arith, apart 28 is .most))
-  refusing _ (why.other-version _ _ _) = left 27 (omega arith) (omega arith) (λ is. omega (arith, apart 27 is .most))
-  refusing _ (why.wrong-count _ _ _ _) = left 28 (omega arith) (omega arith) (λ is. omega (arith, apart 28 is .most))
-  refusing _ (why.no-entries _ _ _ _ _) = left 29 (omega arith) (omega arith) (λ is. omega (arith, apart 29 is .most))
+  refusing _ (why.header n _ which) = by-header n which
+  refusing _ (why.no-entries _ _ _ _) = above 29 (omega arith) (omega arith)
 
   -- how a playing ended is 0 or an entry's number
   numbered :

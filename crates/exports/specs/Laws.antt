@@ -155,7 +155,7 @@ pub record RunLeaves (image s requests before : List ℕ) (l : LentRun) : Type 0
   pub stopped : StopNumber (numberOf (l .answer)) → KeepsSteps image s requests before l
 
 -- W-206: the numbers of an entry that ends a playing, 4 to 7, 10 and 11; the playing's own and the buffers' are 1, 2, 9
--- and 27 to 29
+-- and 27 to 30
 pub data EntryNumber : (number : ℕ) → Type 0 where
   stop : (number : ℕ) → StopNumber number → EntryNumber number
   store : EntryNumber 10
@@ -168,7 +168,7 @@ pub record KeepsPlayed (image session before : List ℕ) (l : LentRun) : Type 0 
   pub state : l .state ≡ packed (playing .machine)
   pub report : l .report ≡ reportBytes (playing .entries) (playing .cycles) ++ drop 8 before
 
--- a record that is not played, 1 and 27 to 29, a state of another length, 2, and a short report, 9, leave state and
+-- a record that is not played, 1 and 27 to 30, a state of another length, 2, and a short report, 9, leave state and
 -- report; a whole record, 0, and one that an entry ended leave what was played
 pub record PlayLeaves (image session s before : List ℕ) (l : LentRun) : Type 0 where
   pub refused :

@@ -49,7 +49,7 @@ beyond-undecoded i e image all a n c q =
 nil-bytes : Bytes []
 nil-bytes j = omega arith
 
-cons-bytes : (a : ℕ) (bs : List ℕ) → a < 256 → Bytes bs → Bytes (a ∷ bs)
+pub cons-bytes : (a : ℕ) (bs : List ℕ) → a < 256 → Bytes bs → Bytes (a ∷ bs)
 cons-bytes a bs h hs zero = h
 cons-bytes a bs h hs (suc j) = hs j
 

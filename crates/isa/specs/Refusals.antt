@@ -43,10 +43,13 @@ numbered R.NoSleep = plain 24
 numbered R.CertificateBuffer = plain 25
 numbered R.NoCertificate = plain 26
 -- W-206: "27 for a first byte other than 1, 28 for a record under three bytes or a wrong count, and 29 for an unknown
--- or cut entry"
+-- or cut entry"; W-207: 27 "for any first byte but 1 and 2", 28 also for "a version 2 record under four bytes or whose
+-- count is below 65,536"
 numbered R.RecordVersion = plain 27
 numbered R.RecordLength = plain 28
 numbered R.RecordEntry = plain 29
+-- W-207: "and with 30 one above 1,048,576"
+numbered R.RecordTooLong = plain 30
 
 -- the program's number of a refusal
 abbrev pub asNumbered : Number → Numbered

@@ -99,6 +99,7 @@ pub enum Refusal {
     RecordVersion,
     RecordLength,
     RecordEntry,
+    RecordTooLong,
 }
 
 // A refusal's number, alone or with an address.

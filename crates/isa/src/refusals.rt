@@ -38,5 +38,6 @@ pub fn number_of(refusal: Refusal) -> Number
         Refusal::RecordVersion => Number::Plain(27),
         Refusal::RecordLength => Number::Plain(28),
         Refusal::RecordEntry => Number::Plain(29),
+        Refusal::RecordTooLong => Number::Plain(30),
     }
 }

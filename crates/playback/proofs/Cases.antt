@@ -19,7 +19,7 @@ use Rattle.bench.specs.Calls.{AsksOnly, leaves}
 use Rattle.bench.specs.Session.{levelsInUse}
 use Rattle.bench.proofs.Unrolled.{none-asks}
 use Rattle.playback.specs.Entries.{entriesOf}
-use Rattle.playback.specs.Record.{bodyOf}
+use Rattle.playback.specs.Record.{bodyOf, bodyIn}
 use Rattle.playback.specs.Play.{playFrom, playOf}
 use Rattle.playback.specs.Cases.{entries11, session11, P11Played}
 use Rattle.playback.proofs.Safety.{played-safely}
@@ -34,7 +34,7 @@ unfolding leaves levelsInUse resetOf freshOf hostStoreOf Step.stepOf Step.advanc
     WellFormed.addressesFit WellFormed.wellFormed Requests.requestedOf Requests.servingOf Requests.takeOf
     Transfers.callOf Transfers.returnFromInterruptOf Transfers.advanceOf Stack.pushOf Stack.popOf
     Map.entryOf Table.bytesOf Table.cyclesOf Map.formAs Map.formOf Rom.romAt Rom.operandAt Decode.decodeAt
-    ControlFlow.flowOf entriesOf bodyOf playFrom playOf
+    ControlFlow.flowOf entriesOf bodyOf bodyIn playFrom playOf
 p11-played = record {
   within =
       played-safely _ _ 0x01 2 (check-cases .p11) session11 entries11 refl

@@ -1,7 +1,9 @@
 pub mod Reading
+pub mod HeaderCases
 pub mod Record
 pub mod Playing
 pub mod Refusals
+pub mod Versions
 pub mod Keys
 pub mod Endings
 pub mod Safety

@@ -1,23 +1,23 @@
 -- Records are read back: a body by its entries, and a record by its body.
-use Prim.Native.Nat.{ℕ, _-_, _/_, _%_, _≤_, _<_}
+use Prim.Native.Nat.{ℕ, _+_, _/_, _%_, _≤_}
 use native.Mathlib.Omega.{arith}
-use native.Mathlib.Nat.{div-add-mod'}
 use mathlib.Core.Path.{_≡_, refl, sym, ap, _∙_}
 use mathlib.Core.Bool.{Bool, true, false}
-use mathlib.Core.List.{List, [], _∷_}
-use lib.Dec.{leb, eqb}
-use lib.ListN.{length, take, drop}
-use borrow.Author.Tests.{eqb-true, eq-eqb, le-leb}
-use Rattle.isa.specs.Refusals.{Numbered, plain, numbered, Answer, done, refused, unless}
+use mathlib.Core.List.{List, [], _∷_, _++_}
+use lib.Dec.{leb}
+use lib.ListN.{length, drop}
+use borrow.Author.Tests.{leb-true, le-leb, lt-leb}
+use Rattle.isa.specs.Refusals.{Numbered, plain, Answer, done, refused}
 use Rattle.isa.specs.RoundTrip.{Bytes}
-use Rattle.isa.specs.declared.Refusal.{Refusal}
 use Rattle.playback.specs.declared.Entry.{Entry}
-use Rattle.playback.specs.declared.header.Body.{Body}
-use Rattle.playback.specs.declared.header.Body.the-variants.{From, Refused}
 use Rattle.playback.specs.Entries.{bodyBytes, entriesOf}
-use Rattle.playback.specs.Record.{countOf, bodyOf, readBody, entriesIn, recordBytes, BodyFound}
+use Rattle.playback.specs.Record.{countOf, longCountOf, bodyIn, readBody, entriesIn, headerBytes, recordBytes}
 use Rattle.playback.specs.Record.{RecordsReadBack}
-use Rattle.playback.proofs.Reading.{read-written, written-read, only-29, to-end}
+use Rattle.playback.specs.Refusals.{BodyAt}
+use Rattle.playback.specs.Refusals as why
+use Rattle.playback.proofs.Reading.{read-written, written-read, only-29}
+use Rattle.playback.proofs.HeaderCases.{Headed, headed, starts}
+use Rattle.playback.proofs.HeaderCases as header
 
 -- a body that is refused is the writing of no list of entries
 pub written-nowhere :
@@ -27,91 +27,93 @@ written-nowhere body n is entries writes =
     let z : _≡_ {A = ℕ} 0 1 = cc in omega arith
 
 -- .. and one that is the writing of none is refused
-pub refuses :
+pub nowhere-read :
     (body : List ℕ) → ((entries : List Entry) → bodyBytes entries ≡ body → ⊥) → entriesOf body ≡ refused (plain 29)
-refuses body none = go (entriesOf body) refl
+nowhere-read body none = go (entriesOf body) refl
   where
     go : (a : Answer (List Entry)) → entriesOf body ≡ a → entriesOf body ≡ refused (plain 29)
     go (done entries) is = absurd (none entries (written-read body entries is))
     go (refused n) is = is ∙ ap refused (only-29 body n is)
 
-whole : (entries : List Entry) → length (bodyBytes entries) ≤ 65535 → entriesIn (recordBytes entries) ≡ done entries
-unfolding bodyOf
-whole entries short =
-    let r = recordBytes entries in
-    let n = length (bodyBytes entries) in
-    let counted : countOf r ≡ n = div-add-mod' n 256 in
-    let long : 3 ≤ length r = omega arith in
-    let same : length r - 3 ≡ n = omega arith in
-    rw (le-leb _ _ long, counted, eq-eqb _ _ same) (read-written entries)
+-- a list of entries, written, behind the header for its count
+module _ (entries : List Entry) where
+  abbrev body : List ℕ
+  body = bodyBytes entries
 
--- a record that is read, by its first three bytes
-module _ (version high low : ℕ) (body : List ℕ) (byte : low < 256) (entries : List Entry) where
-  abbrev session : List ℕ
-  session = version ∷ high ∷ low ∷ body
+  abbrev n : ℕ
+  n = length body
 
-  by-tests :
-      (long : Bool) → (one : Bool) → eqb version 1 ≡ one →
-      (right : Bool) → eqb (length session - 3) (countOf session) ≡ right →
-      readBody
-      (unless long (refused (plain 28))
-      (unless one (refused (plain 27)) (unless right (refused (plain 28)) (done body))))
-      ≡ done entries →
-      recordBytes entries ≡ session
-  by-tests true true f true g reads =
-      let first = eqb-true version 1 f in
-      let count = eqb-true (length session - 3) (countOf session) g in
-      let written = written-read body entries reads in
-      let above : length body / 256 ≡ high = omega (arith, count, byte) in
-      let below : length body % 256 ≡ low = omega (arith, count, byte) in
-      rw (written, above, below, first)
-  by-tests true true f false g reads = let z : _≡_ {A = ℕ} 0 1 = cc in absurd (omega arith)
-  by-tests true false f right g reads = let z : _≡_ {A = ℕ} 0 1 = cc in absurd (omega arith)
-  by-tests false one f right g reads = let z : _≡_ {A = ℕ} 0 1 = cc in absurd (omega arith)
+  short-header : BodyAt (1 ∷ n / 256 ∷ n % 256 ∷ body) 3
+  short-header =
+      let session : List ℕ = 1 ∷ n / 256 ∷ n % 256 ∷ body in
+      let counted : countOf session ≡ n = omega arith in
+      why.version-1 refl (omega (arith, counted))
+
+  long-header : 65536 ≤ n → n ≤ 1048576 → BodyAt (2 ∷ n / 65536 ∷ n / 256 % 256 ∷ n % 256 ∷ body) 4
+  long-header some few =
+      let session : List ℕ = 2 ∷ n / 65536 ∷ n / 256 % 256 ∷ n % 256 ∷ body in
+      let counted : longCountOf session ≡ n = omega arith in
+      why.version-2 refl (omega (arith, counted)) (omega (arith, counted, some)) (omega (arith, counted, few))
+
+  pub whole : n ≤ 1048576 → entriesIn (recordBytes entries) ≡ done entries
+  whole few = go (leb 65536 n) refl
+    where
+      go : (long : Bool) → leb 65536 n ≡ long → entriesIn (recordBytes entries) ≡ done entries
+      go true f =
+          let begins = starts _ 4 (long-header (leb-true 65536 n f) few) in rw (f, begins) (read-written entries)
+      go false f = let begins = starts _ 3 short-header in rw (f, begins) (read-written entries)
+
+-- a body behind a right header is written behind that header again
+behind :
+    (session : List ℕ) → Bytes session → (start : ℕ) → BodyAt session start → (body : List ℕ) →
+    body ≡ drop start session → headerBytes (length body) ++ body ≡ session
+behind [] bytes _ (why.version-1 one counted) body is = absurd (omega (arith, counted))
+behind (version ∷ []) bytes _ (why.version-1 one counted) body is = absurd (omega (arith, counted))
+behind (version ∷ high ∷ []) bytes _ (why.version-1 one counted) body is = absurd (omega (arith, counted))
+behind (version ∷ high ∷ low ∷ rest) bytes _ (why.version-1 one counted) body is =
+    let above : length rest / 256 ≡ high = omega (arith, counted, bytes 2) in
+    let below : length rest % 256 ≡ low = omega (arith, counted, bytes 2) in
+    let short = lt-leb 65536 (length rest) (omega (arith, counted, bytes 1, bytes 2)) in
+    rw (is, short, above, below, one)
+behind [] bytes _ (why.version-2 two counted some few) body is = absurd (omega (arith, counted))
+behind (version ∷ []) bytes _ (why.version-2 two counted some few) body is = absurd (omega (arith, counted))
+behind (version ∷ high ∷ []) bytes _ (why.version-2 two counted some few) body is = absurd (omega (arith, counted))
+behind (version ∷ high ∷ middle ∷ []) bytes _ (why.version-2 two counted some few) body is =
+    absurd (omega (arith, counted))
+behind (version ∷ high ∷ middle ∷ low ∷ rest) bytes _ (why.version-2 two counted some few) body is =
+    let above : length rest / 65536 ≡ high = omega (arith, counted, bytes 2, bytes 3) in
+    let between : length rest / 256 % 256 ≡ middle = omega (arith, counted, bytes 2, bytes 3) in
+    let below : length rest % 256 ≡ low = omega (arith, counted, bytes 3) in
+    let long = le-leb 65536 (length rest) (omega (arith, counted, some)) in
+    rw (is, long, above, between, below, two)
+
+-- a record that is read has a right header, and a body that is the writing of its entries
+pub record ReadFrom (session : List ℕ) (entries : List Entry) : Type 0 where
+  pub start : ℕ
+  pub after : BodyAt session start
+  pub writes : bodyBytes entries ≡ drop start session
+
+pub read-from : (session : List ℕ) (entries : List Entry) → entriesIn session ≡ done entries → ReadFrom session entries
+read-from session entries reads = go (bodyIn session) (headed session) reads
+  where
+    go : (a : Answer (List ℕ)) → Headed session a → readBody a ≡ done entries → ReadFrom session entries
+    go _ (header.refusing n why) reads = let z : _≡_ {A = ℕ} 0 1 = cc in absurd (omega arith)
+    go _ (header.starting start after) reads =
+        record { start = start; after = after; writes = written-read (drop start session) entries reads }
 
 again :
     (session : List ℕ) → Bytes session → (entries : List Entry) → entriesIn session ≡ done entries →
     recordBytes entries ≡ session
-unfolding bodyOf
-again [] bytes entries reads = let z : _≡_ {A = ℕ} 0 1 = cc in absurd (omega arith)
-again (version ∷ []) bytes entries reads = let z : _≡_ {A = ℕ} 0 1 = cc in absurd (omega arith)
-again (version ∷ high ∷ []) bytes entries reads = let z : _≡_ {A = ℕ} 0 1 = cc in absurd (omega arith)
-again (version ∷ high ∷ low ∷ body) bytes entries reads =
-    by-tests version high low body (bytes 2) entries (leb 3 (length (version ∷ high ∷ low ∷ body))) (eqb version 1) refl
-    (eqb (length (version ∷ high ∷ low ∷ body) - 3) (countOf (version ∷ high ∷ low ∷ body))) refl reads
-
--- where the body begins
-pub record BodyStarts (session : List ℕ) (start : ℕ) : Type 0 where
-  pub fits : start ≤ length session
-  pub short : length session ≤ 0xFFFFFF
-  pub is : bodyOf session ≡ done (drop start session)
-  -- the part of the slice from there on
-  pub part : take (length session - start) (drop start session) ≡ drop start session
-
-pub starts-at :
-    (session : List ℕ) (r : Body) (start : ℕ) → BodyFound session r → r ≡ From start → BodyStarts session start
-unfolding BodyFound
-starts-at session r start found same =
-    let f = rw same at found in
-    record {
-      fits = f .0;
-      short = f .1;
-      is = f .2;
-      part = to-end session start (f .0);
-    }
-
-pub starts-nowhere :
-    (session : List ℕ) (r : Body) (reason : Refusal) → BodyFound session r → r ≡ Refused reason →
-    bodyOf session ≡ refused (numbered reason)
-unfolding BodyFound
-starts-nowhere session r reason found same = rw same at found
+again session bytes entries reads =
+    let from = read-from session entries reads in
+    behind session bytes (from .start) (from .after) (bodyBytes entries) (from .writes)
 
 pub records-read-back : RecordsReadBack
 records-read-back = record {
   read-written = read-written;
   written-read = written-read;
   refused-29 = λ body n is. (only-29 body n is, written-nowhere body n is);
-  refuses-29 = refuses;
+  refuses-29 = nowhere-read;
   record-read = whole;
   record-written = again;
 }

@@ -2,6 +2,7 @@ pub mod Entries
 pub mod Record
 pub mod Play
 pub mod Refusals
+pub mod Versions
 pub mod Keys
 pub mod Safety
 pub mod Cases

@@ -68,10 +68,12 @@ abbrev pub playedBy : (image : List ℕ) → Answer (List Entry) → Answer Play
 playedBy image (done entries) = done (playFrom image 0 0 freshOf entries)
 playedBy image (refused n) = refused n
 
--- "It refuses, after 1 and before the first entry is played"
+-- "It refuses, after 1 and before the first entry is played": by what is read of a record
+abbrev pub playRead : (image : List ℕ) → Answer (List Entry) → Answer Playing
+playRead image read = unless (isImage (length image)) (refused (plain 1)) (playedBy image read)
+
 unfoldable pub playOf : (image session : List ℕ) → Answer Playing
-playOf image session =
-    unless (isImage (length image)) (refused (plain 1)) (playedBy image (entriesIn session))
+playOf image session = playRead image (entriesIn session)
 
 -- the program's answer by the papers' numbers
 abbrev pub playAnswerOf : Machine → PlayAnswer → Answer Playing

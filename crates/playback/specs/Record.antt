@@ -1,7 +1,8 @@
--- A record: its header and its body (document 02, W-206). The claim is `RecordsReadBack`, at the end.
+-- A record: its header and its body (document 02, W-206 and W-207). The claim is `RecordsReadBack`, at the end.
 use Prim.Native.Nat.{ℕ, _+_, _*_, _-_, _/_, _%_, _≤_}
 use mathlib.Core.Path.{_≡_}
-use mathlib.Core.List.{List, _∷_}
+use mathlib.Core.Bool.{cond}
+use mathlib.Core.List.{List, [], _∷_, _++_}
 use lib.Dec.{leb, eqb}
 use lib.ListN.{length, drop, getD}
 use Rattle.isa.specs.Refusals.{Numbered, plain, numbered, Answer, done, refused, unless}
@@ -10,6 +11,9 @@ use Rattle.playback.specs.declared.Entry.{Entry}
 use Rattle.playback.specs.declared.header.Body.{Body}
 use Rattle.playback.specs.declared.header.Body.the-variants.{From, Refused}
 use Rattle.playback.specs.Entries.{bodyBytes, entriesOf}
+
+-- Version 1's header, as W-206 has it. `OldRecordsPlayAsBefore` (Versions) compares the reader of both versions with
+-- it.
 
 -- "a two-byte big-endian count of the bytes after it": it stands after the version
 abbrev pub countOf : (session : List ℕ) → ℕ
@@ -27,19 +31,47 @@ bodyBy version session =
 unfoldable pub bodyOf : (session : List ℕ) → Answer (List ℕ)
 bodyOf session = unless (leb 3 (length session)) (refused (plain 28)) (bodyBy (getD session 0 0) session)
 
--- .. and, after these, "29 for an unknown or cut entry"
+-- Version 2's header, W-207.
+
+-- "Version 2 carries a three-byte big-endian count": one more byte than version 1's
+abbrev pub longCountOf : (session : List ℕ) → ℕ
+longCountOf session = countOf session * 256 + getD session 3 0
+
+-- "It refuses with 28 a version 2 record under four bytes or whose count is below 65,536, and with 30 one above
+-- 1,048,576, straight after 28": a wrong count is 28 as in version 1, also where it is above 1,048,576
+unfoldable pub longBodyOf : (session : List ℕ) → Answer (List ℕ)
+longBodyOf session =
+    unless (leb 4 (length session)) (refused (plain 28))
+    (unless (eqb (length session - 4) (longCountOf session)) (refused (plain 28))
+    (unless (leb 65536 (longCountOf session)) (refused (plain 28))
+    (unless (leb (longCountOf session) 1048576) (refused (plain 30))
+    (done (drop 4 session)))))
+
+-- Both versions.
+
+-- the body of a record: any first byte but 2 is read as before, so that 27 is said "for any first byte but 1 and 2"
+unfoldable pub bodyIn : (session : List ℕ) → Answer (List ℕ)
+bodyIn session = cond (eqb (getD session 0 0) 2) (longBodyOf session) (bodyOf session)
+
+-- .. and, after its refusals, "29 for an unknown or cut entry"
 abbrev pub readBody : Answer (List ℕ) → Answer (List Entry)
 readBody (done body) = entriesOf body
 readBody (refused n) = refused n
 
 -- the entries of a record
 abbrev pub entriesIn : (session : List ℕ) → Answer (List Entry)
-entriesIn session = readBody (bodyOf session)
+entriesIn session = readBody (bodyIn session)
+
+-- version and count: "version 2 is only for a count above 65,535"
+abbrev pub headerBytes : (count : ℕ) → List ℕ
+headerBytes count =
+    cond (leb 65536 count)
+    (2 ∷ count / 65536 ∷ count / 256 % 256 ∷ count % 256 ∷ [])
+    (1 ∷ count / 256 ∷ count % 256 ∷ [])
 
 -- the record of a list of entries
 abbrev pub recordBytes : List Entry → List ℕ
-recordBytes entries =
-    let count = length (bodyBytes entries) in 1 ∷ count / 256 ∷ count % 256 ∷ bodyBytes entries
+recordBytes entries = headerBytes (length (bodyBytes entries)) ++ bodyBytes entries
 
 -- parsing and writing undo each other
 -- proved by records-read-back, proofs/Record
@@ -55,9 +87,9 @@ pub record RecordsReadBack : Type 0 where
       → (n ≡ plain 29) × ((entries : List Entry) → bodyBytes entries ≡ body → ⊥)
   pub refuses-29 :
       (body : List ℕ) → ((entries : List Entry) → bodyBytes entries ≡ body → ⊥) → entriesOf body ≡ refused (plain 29)
-  -- and a whole record, of up to 65,535 bytes after its count, is read as its entries, and is their record
+  -- and a whole record, of up to 1,048,576 bytes after its count, is read as its entries, and is their record
   pub record-read :
-      (entries : List Entry) → length (bodyBytes entries) ≤ 65535 → entriesIn (recordBytes entries) ≡ done entries
+      (entries : List Entry) → length (bodyBytes entries) ≤ 1048576 → entriesIn (recordBytes entries) ≡ done entries
   pub record-written :
       (session : List ℕ) → Bytes session → (entries : List Entry) → entriesIn session ≡ done entries →
       recordBytes entries ≡ session
@@ -67,5 +99,5 @@ pub record RecordsReadBack : Type 0 where
 -- the body begins there, and is short enough that the cycles of its entries have 32 bits
 unfoldable pub BodyFound : (session : List ℕ) → Body → Type 0
 BodyFound session (From start) =
-    (start ≤ length session) × (length session ≤ 0xFFFFFF) × (bodyOf session ≡ done (drop start session))
-BodyFound session (Refused reason) = bodyOf session ≡ refused (numbered reason)
+    (start ≤ length session) × (length session ≤ 0xFFFFFF) × (bodyIn session ≡ done (drop start session))
+BodyFound session (Refused reason) = bodyIn session ≡ refused (numbered reason)

@@ -1,5 +1,5 @@
--- When a record is not played, and with which number (document 02, W-206): "It refuses, after 1 and before the first
--- entry is played".
+-- When a record is not played, and with which number (document 02, W-206 and W-207): "It refuses, after 1 and before
+-- the first entry is played".
 use Prim.Native.Nat.{ℕ, _+_, _≤_, _<_}
 use mathlib.Core.Path.{_≡_}
 use mathlib.Core.Bool.{true, false}
@@ -10,28 +10,54 @@ use Rattle.isa.specs.Rom.{isImage}
 use Rattle.machine.specs.State.{freshOf}
 use Rattle.playback.specs.declared.Entry.{Entry}
 use Rattle.playback.specs.Entries.{bodyBytes}
-use Rattle.playback.specs.Record.{countOf}
+use Rattle.playback.specs.Record.{countOf, longCountOf}
 use Rattle.playback.specs.Play.{playFrom, playOf}
 
--- "27 for a first byte other than 1, 28 for a record under three bytes or a wrong count, and 29 for an unknown or cut
--- entry; a record under three bytes is tried first": each where none before it applies
+-- a header that is not refused, and where the body begins after it. W-206: "a two-byte big-endian count of the bytes
+-- after it"; W-207: "a three-byte big-endian count, up to 1,048,576", "only for a count above 65,535"
+pub data BodyAt (session : List ℕ) : (start : ℕ) → Type 0 where
+  version-1 : getD session 0 0 ≡ 1 → length session ≡ 3 + countOf session → BodyAt session 3
+  version-2 :
+      getD session 0 0 ≡ 2 → length session ≡ 4 + longCountOf session → 65536 ≤ longCountOf session →
+      longCountOf session ≤ 1048576 → BodyAt session 4
+
+-- a header that is refused, each number where none before it applies. W-206: "28 for a record under three bytes or a
+-- wrong count [..]; a record under three bytes is tried first"; W-207: 27 "for any first byte but 1 and 2"; "with 28 a
+-- version 2 record under four bytes or whose count is below 65,536, and with 30 one above 1,048,576, straight after
+-- 28"; a wrong count in version 2 is 28, also where it is above 1,048,576
+pub data HeaderRefused (session : List ℕ) : Numbered → Type 0 where
+  under-three : length session < 3 → HeaderRefused session (plain 28)
+  other-version :
+      3 ≤ length session → (getD session 0 0 ≡ 1 → ⊥) → (getD session 0 0 ≡ 2 → ⊥) → HeaderRefused session (plain 27)
+  wrong-count :
+      3 ≤ length session → getD session 0 0 ≡ 1 → (length session ≡ 3 + countOf session → ⊥) →
+      HeaderRefused session (plain 28)
+  under-four : length session ≡ 3 → getD session 0 0 ≡ 2 → HeaderRefused session (plain 28)
+  wrong-long-count :
+      4 ≤ length session → getD session 0 0 ≡ 2 → (length session ≡ 4 + longCountOf session → ⊥) →
+      HeaderRefused session (plain 28)
+  too-few :
+      getD session 0 0 ≡ 2 → length session ≡ 4 + longCountOf session → longCountOf session < 65536 →
+      HeaderRefused session (plain 28)
+  too-many :
+      getD session 0 0 ≡ 2 → length session ≡ 4 + longCountOf session → 1048576 < longCountOf session →
+      HeaderRefused session (plain 30)
+
+-- .. after 1, and before "29 for an unknown or cut entry"
 pub data PlayRefused (image session : List ℕ) : Numbered → Type 0 where
   image-length : isImage (length image) ≡ false → PlayRefused image session (plain 1)
-  too-short : isImage (length image) ≡ true → length session < 3 → PlayRefused image session (plain 28)
-  other-version :
-      isImage (length image) ≡ true → 3 ≤ length session → (getD session 0 0 ≡ 1 → ⊥) →
-      PlayRefused image session (plain 27)
-  wrong-count :
-      isImage (length image) ≡ true → 3 ≤ length session → getD session 0 0 ≡ 1 →
-      (length session ≡ 3 + countOf session → ⊥) → PlayRefused image session (plain 28)
+  header :
+      (n : Numbered) → isImage (length image) ≡ true → HeaderRefused session n → PlayRefused image session n
   no-entries :
-      isImage (length image) ≡ true → 3 ≤ length session → getD session 0 0 ≡ 1 → length session ≡ 3 + countOf session →
-      ((entries : List Entry) → bodyBytes entries ≡ drop 3 session → ⊥) → PlayRefused image session (plain 29)
+      (start : ℕ) → isImage (length image) ≡ true → BodyAt session start →
+      ((entries : List Entry) → bodyBytes entries ≡ drop start session → ⊥) → PlayRefused image session (plain 29)
 
 -- the bytes after the count are those of a list of entries, which is played from a fresh machine
 pub record Plays (image session : List ℕ) : Type 0 where
+  pub start : ℕ
+  pub after : BodyAt session start
   pub entries : List Entry
-  pub writes : bodyBytes entries ≡ drop 3 session
+  pub writes : bodyBytes entries ≡ drop start session
   pub plays : playOf image session ≡ done (playFrom image 0 0 freshOf entries)
 
 -- a record is refused in these cases, and only in these; else its entries are played

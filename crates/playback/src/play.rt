@@ -85,8 +85,8 @@ fn play_body(image: &[u8], body: &[u8]) -> Played
     play_entries(image, body)
 }
 
-// Plays a session's record on a fresh machine. Refuses with 1, 28 under three bytes, 27, 28 for a wrong count, then 29,
-// before the first entry is played.
+// Plays a session's record on a fresh machine. Refuses with 1, then as its header is refused (28, 27, 28, 30), then
+// with 29, before the first entry is played.
 pub fn play(image: &[u8], session: &[u8]) -> Played
     ensures { λ r. ⌜ playedOf r ≡ playOf (now (image .entry)) (now (session .entry)) ⌝ }
 {

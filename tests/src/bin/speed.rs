@@ -1,15 +1,18 @@
 //! Measures the time of the proved library and of the second emulator on the
 //! same inputs, in the same process, in turns.
 
+use second::record::{RESET, STORE};
 use second::workload::{
-    worst, Checks, Decodes, Makes, Plays, Runs, Side, Steps, Widths, Work, IMAGES, OPCODES,
-    PLAY_STEPS, RUN, SIDES, WIDTH_STEPS,
+    worst, Checks, Decodes, Makes, Plays, Repeated, Runs, Side, Steps, Widths, Work, IMAGES,
+    LONGEST_STEPS, OPCODES, PLAY_STEPS, RUN, SIDES, WIDTH_STEPS,
 };
 
 /// Many short rounds: other work on the same cores then spoils only some.
 const ROUNDS: usize = 61;
 /// Fewer where the second emulator takes long.
 const LONG_ROUNDS: usize = 21;
+/// Fewer still where all take long.
+const FEW_ROUNDS: usize = 11;
 
 /// Seconds of processor time that this thread has had.
 #[cfg(target_os = "linux")]
@@ -184,6 +187,41 @@ fn plays() {
     print_ratio("time of proved playing / run of as many steps:", &times[0], runs);
 }
 
+/// Playings of the longest record of steps, and the proved library's single
+/// steps with the same requests in the same rounds; then the longest ones of
+/// the other entries.
+fn longest_plays() {
+    println!("playings of a record of {LONGEST_STEPS} steps, the longest");
+    let mut plays = Plays::longest();
+    let times =
+        race_rounds(FEW_ROUNDS, SIDES.len() + 1, |contestant| match SIDES.get(contestant) {
+            Some(&(side, _)) => plays.work(side, 1),
+            None => plays.proved_steps(1),
+        });
+    let steps = &times[SIDES.len()];
+    for ((_, name), times) in SIDES.iter().zip(&times) {
+        print_spread(name, "ms", 1e3, times);
+    }
+    let each = 1e9 / LONGEST_STEPS as f64;
+    print_spread("proved entry", "ns", each, &times[0]);
+    print_spread("proved step", "ns", each, steps);
+    print_ratio("time of proved entry / single step:", &times[0], steps);
+    for (name, entry) in
+        [("proved, stores", &[STORE, 0x20, 0x55][..]), ("proved, resets", &[RESET])]
+    {
+        let repeated = Repeated::new(entry);
+        let times = race_rounds(FEW_ROUNDS, 1, |_| repeated.proved());
+        print_spread(name, "ms", 1e3, &times[0]);
+    }
+}
+
+/// Times in a unit, of which a second has so many.
+fn print_spread(name: &str, unit: &str, per_second: f64, times: &[f64]) {
+    let Spread { median, least, most } =
+        spread(times.iter().map(|seconds| per_second * seconds).collect());
+    println!("  {name:15} median {median:.1} {unit}, min {least:.1}, max {most:.1}");
+}
+
 /// Makes of 2K and of 4K images, all in the same rounds, and the proved
 /// library's checks of what was made.
 fn makes(name: &str, of: fn(usize) -> Makes, per_round: usize) {
@@ -232,4 +270,5 @@ fn main() {
     makes("with six marks", Makes::sparse, 2 * IMAGES);
     worst_makes();
     plays();
+    longest_plays();
 }

@@ -3,9 +3,13 @@
 use super::*;
 use crate::boundary::{self, REPORT, STATE};
 use crate::check::check;
-use crate::generate::{coded, damage_record, entries, mix, program, random_image, Mix, Rng};
+use crate::generate::{
+    coded, damage_record, entries, long_length, mix, program, random_image, Mix, Rng,
+};
 use crate::player::{play, Played};
-use crate::record::{count, pieces, read, record, Entry, Fault, MOST};
+use crate::record::{
+    count, of_version, pieces, put_count, read, record, Entry, Fault, MOST_1, MOST_2,
+};
 use crate::Refusal::{self, *};
 
 /// Start-up, a loop that counts in 20h, and the services of NMI and source 1.
@@ -47,6 +51,26 @@ fn the_bytes_of_a_record() {
         [Entry::Step { request: 0x1F }, Entry::Store { address: 0xC8, value: 0x10 }, Entry::Reset];
     assert_eq!(read(&record(&entries)).unwrap(), expected);
     assert_eq!(record(&[2; 0x1234])[..4], [1, 0x12, 0x34, 2]);
+    assert_eq!(record(&[2; 65_535])[..4], [1, 0xFF, 0xFF, 2]);
+}
+
+#[test]
+fn the_bytes_of_a_long_record() {
+    for (length, header) in [
+        (65_536, [2, 1, 0, 0]),
+        (65_537, [2, 1, 0, 1]),
+        (74_565, [2, 1, 0x23, 0x45]),
+        (1_048_575, [2, 0x0F, 0xFF, 0xFF]),
+        (1_048_576, [2, 0x10, 0, 0]),
+    ] {
+        let entries = vec![2; length];
+        let bytes = [&header[..], &entries].concat();
+        assert_eq!(record(&entries), bytes);
+        assert_eq!(read(&bytes), Ok(vec![Entry::Reset; length]));
+        assert_eq!(pieces(&bytes).0, header);
+    }
+    assert_eq!(of_version(2, &[0, 1, 2]), [2, 0, 0, 3, 0, 1, 2]);
+    assert_eq!(of_version(1, &[2; 65_538])[..4], [1, 0, 2, 2]);
 }
 
 #[test]
@@ -148,7 +172,7 @@ fn refusals_in_order() {
         assert_eq!(play(&image, short), Err(RecordLength));
         assert_eq!(play(&image[1..], short), Err(ImageLength));
     }
-    for version in (0..=255).filter(|&version| version != 1) {
+    for version in (0..=255).filter(|version| !matches!(version, 1 | 2)) {
         for rest in [&[0, 0][..], &[0, 1], &[0, 1, 2], &[0, 1, 3], &[0, 2, 2], &[255, 255, 9]] {
             let bytes = [&[version][..], rest].concat();
             assert_eq!(play(&image, &bytes), Err(RecordVersion));
@@ -229,18 +253,16 @@ fn cut_records() {
 }
 
 #[test]
-fn long_records() {
+fn full_records() {
     let image = looping();
-    assert_eq!(played(&image, &[2; MOST]).entries, 65_535);
-    let steps = played(&image, &[&[0; MOST - 1][..], &[2]].concat());
+    assert_eq!(played(&image, &[2; MOST_1]).entries, 65_535);
+    let steps = played(&image, &[&[0; MOST_1 - 1][..], &[2]].concat());
     assert_eq!((steps.entries, steps.cycles), (32_768, 4 * 32_767));
-    let stores = played(&image, &[1; MOST]);
+    let stores = played(&image, &[1; MOST_1]);
     assert_eq!((stores.entries, stores.cycles, stores.machine.data[1]), (21_845, 0, 1));
-    ends(&image, &[2; MOST - 9], &[0, 0x20], 65_526, Request);
-    ends(&image, &[0; MOST - 9], &[1, 0x40, 1], 32_763, RomWindow);
-    assert_eq!(play(&image, &record(&[0; MOST])), Err(RecordEntry));
-    // Of another version, with a count of three bytes.
-    assert_eq!(play(&image, &[&[2, 1, 0, 0][..], &[2; MOST + 1]].concat()), Err(RecordVersion));
+    ends(&image, &[2; MOST_1 - 9], &[0, 0x20], 65_526, Request);
+    ends(&image, &[0; MOST_1 - 9], &[1, 0x40, 1], 32_763, RomWindow);
+    assert_eq!(play(&image, &record(&[0; MOST_1])), Err(RecordEntry));
     // The count has two bytes, and isn't taken modulo 65,536.
     for length in [65_536, 65_537, 65_792, 131_072] {
         let mut bytes = [&[1, 0, 0][..], &vec![2; length]].concat();
@@ -256,6 +278,120 @@ fn long_records() {
         swapped.swap(1, 2);
         let expected = if length == 257 { Ok(257) } else { Err(RecordLength) };
         assert_eq!(play(&image, &swapped).map(|played| played.entries), expected);
+    }
+}
+
+#[test]
+fn long_records() {
+    let image = looping();
+    assert_eq!(played(&image, &[2; 65_536]).entries, 65_536);
+    assert_eq!(played(&image, &[2; MOST_2]).entries, 1_048_576);
+    let steps = played(&image, &[0; MOST_2]);
+    assert_eq!((steps.entries, steps.cycles), (524_288, 2_097_152));
+    let stores = played(&image, &[&[1; MOST_2 - 1][..], &[2]].concat());
+    assert_eq!((stores.entries, stores.cycles, stores.machine.data[1]), (349_526, 0, 1));
+    // An entry that ends it: the first, in the middle, the last.
+    ends_long(&image, &[], &[0, 0x20], &[2; 65_536], Request);
+    ends_long(&image, &[2; 65_536], &[1, 0x7F, 0], &[1; 3000], RomWindow);
+    ends_long(&image, &[0; 200_000], &[0, 0x80], &[], Request);
+    ends_long(&coded(&[(0xFFE, &[0x04, 0x05])]), &[0, 0], &[0, 0], &[2; 70_000], Undefined(0xFFF));
+}
+
+/// A long record ends at an entry, with the machine and the cycles of the
+/// entries before it.
+fn ends_long(image: &[u8], before: &[u8], end: &[u8], after: &[u8], refusal: Refusal) {
+    let ended = played(image, &[before, end, after].concat());
+    assert_eq!(ended, Played { end: Some(refusal), ..played(image, before) });
+}
+
+/// A record is turned down, and a bad image before it.
+fn refused(bytes: &[u8], fault: Fault, refusal: Refusal) {
+    let image = looping();
+    assert_eq!(read(bytes), Err(fault));
+    assert_eq!(play(&image, bytes), Err(refusal));
+    assert_eq!(play(&image[1..], bytes), Err(ImageLength));
+}
+
+#[test]
+fn counts_of_long_records() {
+    // Under four bytes, whatever is in them.
+    for three in [[2, 0, 0], [2, 1, 0], [2, 0x10, 0], [2, 0xFF, 0xFF]] {
+        refused(&three, Fault::Short2, RecordLength);
+    }
+    // Entries that play and ones that don't: 28 and 30 come before 29.
+    for kind in [2, 3] {
+        for length in [0, 1, 255, 256, 65_535] {
+            refused(&of_version(2, &vec![kind; length]), Fault::TooFew, RecordLength);
+        }
+        for length in [1_048_577, 1_048_578, 0x10_0100, 0x11_0000] {
+            refused(&of_version(2, &vec![kind; length]), Fault::TooMany, RecordTooLong);
+        }
+        for (length, count) in [
+            (0, 1),
+            (3, 0),
+            (0, 1_048_577),
+            (65_535, 65_536),
+            (65_536, 0),
+            (65_536, 65_535),
+            (65_536, 1_048_577),
+            (65_536, 131_072),
+            (65_537, 65_536),
+            (1_048_576, 1_048_577),
+            (1_048_577, 1_048_576),
+            (1_048_577, 1_048_578),
+            (1_048_577, 0xFF_FFFF),
+        ] {
+            let mut bytes = of_version(2, &vec![kind; length]);
+            put_count(&mut bytes, count);
+            refused(&bytes, Fault::Count2, RecordLength);
+        }
+    }
+}
+
+#[test]
+fn bad_entries_of_long_records() {
+    for length in [65_536, MOST_2] {
+        refused(&of_version(2, &vec![3; length]), Fault::Unknown, RecordEntry);
+        let cut = [&vec![2; length - 1][..], &[0]].concat();
+        refused(&of_version(2, &cut), Fault::CutStep, RecordEntry);
+        let cut = [&vec![2; length - 2][..], &[1, 0x40]].concat();
+        refused(&of_version(2, &cut), Fault::CutStore, RecordEntry);
+    }
+}
+
+/// 27 for every version but 1 and 2, whatever the length and the count.
+#[test]
+fn other_versions_of_long_records() {
+    let image = looping();
+    for length in [65_535, 65_536, MOST_2, MOST_2 + 1] {
+        for counted in [1, 2] {
+            let mut bytes = of_version(counted, &vec![2; length]);
+            for version in (0..=255).filter(|version| !matches!(version, 1 | 2)) {
+                bytes[0] = version;
+                assert_eq!(read(&bytes), Err(Fault::Version));
+            }
+            assert_eq!(play(&image, &bytes), Err(RecordVersion));
+            assert_eq!(play(&image[1..], &bytes), Err(ImageLength));
+        }
+    }
+    // A good record of each version as one of the other.
+    for length in [0, 1, 65_535, 65_536, MOST_2] {
+        let mut bytes = record(&vec![2; length]);
+        bytes[0] ^= 3;
+        assert_eq!(play(&image, &bytes), Err(RecordLength));
+    }
+}
+
+/// The three bytes of a count in every order.
+#[test]
+fn orders_of_a_long_count() {
+    let image = looping();
+    let bytes = record(&[2; 0x1_0203]);
+    for order in [[1, 2, 3], [1, 3, 2], [2, 1, 3], [2, 3, 1], [3, 1, 2], [3, 2, 1]] {
+        let mut turned = bytes.clone();
+        (1..).zip(order).for_each(|(to, from)| turned[to] = bytes[from]);
+        let entries = play(&image, &turned).map(|played| played.entries);
+        assert_eq!(entries, if order == [1, 2, 3] { Ok(0x1_0203) } else { Err(RecordLength) });
     }
 }
 
@@ -287,11 +423,16 @@ fn packed_answers() {
         assert_eq!(report[4..8], played.cycles.to_le_bytes());
         assert_eq!(report[8..], [0x5A; 3]);
     }
-    let (word, state, report) = packed(&looping(), &record(&[2; MOST]), STATE, REPORT);
-    assert_eq!((word, report), (0, vec![0xFF, 0xFF, 0, 0, 0, 0, 0, 0]));
     let mut fresh = vec![0; STATE];
     assert_eq!(boundary::reset(&mut fresh), 0);
-    assert_eq!(state, fresh);
+    for (bytes, report) in [
+        (vec![2; MOST_1], [0xFF, 0xFF, 0, 0, 0, 0, 0, 0]),
+        (vec![2; MOST_2], [0, 0, 0x10, 0, 0, 0, 0, 0]),
+        (vec![0; MOST_2], [0, 0, 8, 0, 0, 0, 0x20, 0]),
+    ] {
+        let answer = packed(&looping(), &record(&bytes), STATE, REPORT);
+        assert_eq!(answer, (0, fresh.clone(), report.to_vec()));
+    }
 }
 
 /// The playing's own refusals, then 2, then 9; all leave both buffers.
@@ -299,6 +440,7 @@ fn packed_answers() {
 fn packed_refusals() {
     let undefined = coded(&[(0xFFE, &[0x05])]);
     let good = record(&[0, 0]);
+    let [few, many] = [MOST_1, MOST_2 + 1].map(|length| of_version(2, &vec![0; length]));
     let refused = |image: &[u8], record: &[u8], state: usize, report: usize| {
         let (answer, state, report) = packed(image, record, state, report);
         assert!(state.iter().all(|&byte| byte == 0xA5) && report.iter().all(|&byte| byte == 0x5A));
@@ -308,8 +450,11 @@ fn packed_refusals() {
         for report in [0, 1, 7, REPORT, 9] {
             assert_eq!(refused(&undefined[1..], &[], state, report), 1);
             assert_eq!(refused(&undefined, &[2, 0], state, report), 28);
-            assert_eq!(refused(&undefined, &[2, 1, 0], state, report), 27);
+            assert_eq!(refused(&undefined, &[3, 1, 0], state, report), 27);
             assert_eq!(refused(&undefined, &[1, 1, 0], state, report), 28);
+            assert_eq!(refused(&undefined, &[2, 1, 0], state, report), 28);
+            assert_eq!(refused(&undefined, &few, state, report), 28);
+            assert_eq!(refused(&undefined, &many, state, report), 30);
             assert_eq!(refused(&undefined, &[1, 0, 1, 1], state, report), 29);
             for image in [&undefined, &looping()] {
                 let expected = if state == STATE { 9 } else { 2 };
@@ -388,14 +533,18 @@ fn accepted_programs_end_only_by_refusals() {
 #[test]
 fn damaged_records() {
     let mut rng = Rng::new(9);
-    let mut seen = [0; 7];
-    for _ in 0..3000 {
-        let (mix, length) = (mix(&mut rng, 0x1F), rng.below(100));
-        let mut bytes = record(&entries(&mut rng, &mix, length));
+    let mut seen = [0; 11];
+    for round in 0..3000 {
+        let mix = mix(&mut rng, 0x1F);
+        let length = if round % 10 == 0 { long_length(&mut rng) } else { rng.below(100) };
+        // Too long now and then.
+        let length = if length == MOST_2 { MOST_2 + rng.below(2) } else { length };
+        let version = if length > MOST_1 { 2 } else { 1 };
+        let mut bytes = of_version(version, &entries(&mut rng, &mix, length));
         damage_record(&mut rng, &mut bytes);
-        seen[read(&bytes).map_or_else(|fault| fault as usize, |_| 6)] += 1;
+        seen[read(&bytes).map_or_else(|fault| fault as usize, |_| 10)] += 1;
         let (header, pieces) = pieces(&bytes);
         assert_eq!([header, &pieces.concat()].concat(), bytes);
     }
-    assert!(seen.iter().all(|&count| count > 20), "{seen:?}");
+    assert!(seen.iter().all(|&count| count > 0), "{seen:?}");
 }

@@ -21,7 +21,7 @@ pub use machine::{ill_formed, machine, request, requests, spoil};
 pub use marked::{dense, p11, round_the_end, sparse, written};
 pub use maze::maze;
 pub use program::{program, write_only_program};
-pub use record::{damage_record, entries, mix, Mix};
+pub use record::{damage_record, entries, long_length, mix, Mix};
 pub use rng::{Rng, EDGES};
 pub use sizing::sizing;
 pub use timed::{soonest, timed};

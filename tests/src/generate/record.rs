@@ -1,7 +1,10 @@
 //! Records of sessions, and damage to them.
 
 use super::Rng;
-use crate::record::{count, pieces, HEADER, RESET, STEP, STORE, VERSION};
+use crate::record::{
+    count, header, of_version, pieces, put_count, LEAST_2, MOST_2, RESET, STEP, STORE, VERSION_1,
+    VERSION_2,
+};
 
 /// What the entries of a record are to be.
 #[derive(Clone, Copy)]
@@ -34,6 +37,16 @@ pub fn mix(rng: &mut Rng, requests: u8) -> Mix {
         requests,
         requested: rng.pick(&[0, 2, 10, 50, 100]),
         refused: rng.pick(&[0, 0, 0, 1, 10, 200]),
+    }
+}
+
+/// How many bytes entries have in version 2: the fewest and the most now and
+/// then, and else few more often than many.
+pub fn long_length(rng: &mut Rng) -> usize {
+    match rng.below(20) {
+        0 => MOST_2,
+        1 => LEAST_2,
+        _ => LEAST_2 + rng.any_size(MOST_2 - LEAST_2),
     }
 }
 
@@ -89,8 +102,8 @@ fn address(rng: &mut Rng, mix: &Mix) -> u8 {
 
 /// Spoils a record in one way, or in none by chance.
 pub fn damage_record(rng: &mut Rng, record: &mut Vec<u8>) {
-    match rng.below(8) {
-        0 => put(record, 0, rng.pick(&[0, 2, 3, 0x10, 0x80, 0xFF, VERSION])),
+    match rng.below(10) {
+        0 => put(record, 0, rng.pick(&[0, 3, 0x10, 0x80, 0xFF, VERSION_1, VERSION_2])),
         1 => other_count(rng, record),
         2 => record.truncate(rng.below(record.len() + 1)),
         3 => {
@@ -102,7 +115,12 @@ pub fn damage_record(rng: &mut Rng, record: &mut Vec<u8>) {
             lengthen(rng, record);
             count(record);
         }
-        6 => record.truncate(rng.below(HEADER + 2)),
+        6 => record.truncate(rng.below(header(record) + 2)),
+        7 => {
+            let version = other_version(record);
+            put(record, 0, version);
+        }
+        8 => *record = of_version(other_version(record), &pieces(record).1.concat()),
         _ => unknown(rng, record),
     }
 }
@@ -113,19 +131,30 @@ fn put(record: &mut [u8], index: usize, byte: u8) {
     }
 }
 
-/// A count that is one off, far off, or the other way round.
+/// The version that a record isn't of.
+fn other_version(record: &[u8]) -> u8 {
+    match record.first() {
+        Some(&VERSION_1) => VERSION_2,
+        _ => VERSION_1,
+    }
+}
+
+/// A count that is one off, far off, or has its bytes in another order.
 fn other_count(rng: &mut Rng, record: &mut [u8]) {
-    let [_, high, low, ..] = record else { return };
-    let now = u16::from_be_bytes([*high, *low]);
-    let other = match rng.below(6) {
-        0 => now.wrapping_add(1),
-        1 => now.wrapping_sub(1),
-        2 => now.swap_bytes(),
-        3 => now.wrapping_add(HEADER as u16), // the whole record's
-        4 => now ^ 1 << rng.below(16),
-        _ => rng.draw() as u16,
-    };
-    [*high, *low] = other.to_be_bytes();
+    let header = header(record);
+    let Some(bytes) = record.get_mut(1..header) else { return };
+    match rng.below(8) {
+        0 => bytes.reverse(),
+        1 => bytes.rotate_left(1),
+        2 => rng.fill(bytes),
+        3 => bytes[rng.below(header - 1)] ^= 1 << rng.below(8),
+        other => {
+            let now = bytes.iter().fold(0, |count, &byte| count << 8 | byte as usize);
+            // The whole record's is one of them.
+            let off = [1, usize::MAX, header, 0x1_0000][other - 4];
+            put_count(record, now.wrapping_add(off));
+        }
+    }
 }
 
 fn lengthen(rng: &mut Rng, record: &mut Vec<u8>) {

@@ -4,20 +4,18 @@
 use super::{fault, faulty};
 use crate::boundary::{self, unpack, REPORT, STATE};
 
-const HEADER: usize = 3;
-
 pub fn play(image: &[u8], record: &[u8], state: &mut [u8], report: &mut [u8]) -> u64 {
-    let refused = if faulty("play-2-first") {
-        bad_buffer(state, report).or_else(|| bad_record(image, record))
-    } else {
-        bad_record(image, record).or_else(|| bad_buffer(state, report))
+    let refused = match bad_record(image, record) {
+        Some(30) if faulty("long-30-late") => bad_buffer(state, report).or(Some(30)),
+        other if faulty("play-2-first") => bad_buffer(state, report).or(other),
+        other => other.or_else(|| bad_buffer(state, report)),
     };
     if let Some(number) = refused {
         write_though_refused(number, state, report);
         return number;
     }
     let mut session = Session::new(state);
-    let answer = session.play(image, &record[HEADER..]);
+    let answer = session.play(image, Header::of(record).body(record));
     session.write(answer, state, report);
     match fault() {
         Some("play-address") => answer & 0xFF,
@@ -26,50 +24,178 @@ pub fn play(image: &[u8], record: &[u8], state: &mut [u8], report: &mut [u8]) ->
     }
 }
 
-/// The playing's own refusals.
-fn bad_record(image: &[u8], record: &[u8]) -> Option<u64> {
-    let bad_image = !matches!(image.len(), 2048 | 4096);
-    let bad_version = record.first().is_some_and(|&version| version != 1);
-    let Some(body) = record.get(HEADER..) else {
-        let other = if faulty("play-27-first") && bad_version { 27 } else { 28 };
-        return Some(if bad_image && !faulty("play-1-late") { 1 } else { other });
-    };
-    let reasons = [
-        (bad_image, 1),
-        (bad_version, 27),
-        (bad_count(record, body.len()), 28),
-        (bad_entry(body), 29),
-    ];
-    let order = match fault() {
-        Some("play-1-late") => [1, 2, 3, 0],
-        Some("play-28-first") => [0, 2, 1, 3],
-        Some("play-29-first") => [0, 1, 3, 2],
-        _ => [0, 1, 2, 3],
-    };
-    order.into_iter().map(|index| reasons[index]).find(|(bad, _)| *bad).map(|(_, number)| number)
+/// The greatest count of version 1.
+const FIRST_MOST: usize = 0xFFFF;
+/// The least and the greatest of version 2.
+const LONG_LEAST: usize = 0x1_0000;
+const LONG_MOST: usize = 0x10_0000;
+
+/// What is known of a record by its first byte: which bytes the count has,
+/// highest first, and where the entries begin.
+struct Header {
+    long: bool,
+    count: &'static [usize],
+    entries: usize,
 }
 
-fn bad_count(record: &[u8], length: usize) -> bool {
-    let count = 256 * record[1] as usize + record[2] as usize;
+impl Header {
+    fn of(record: &[u8]) -> Self {
+        let version = record.first().copied().unwrap_or(0);
+        let long = match fault() {
+            Some("long-unknown") => false,
+            Some("long-version-3") => matches!(version, 2 | 3),
+            Some("long-version-up") => version >= 2,
+            Some("long-version-82") => matches!(version, 2 | 0x82),
+            _ => version == 2,
+        };
+        let (count, entries): (&[usize], usize) = match (long, fault()) {
+            (true, Some("long-count-2")) => (&[1, 2], 3),
+            (true, Some("long-count-le")) => (&[3, 2, 1], 4),
+            (true, Some("long-count-turn")) => (&[2, 3, 1], 4),
+            (true, Some("long-header-3")) => (&[1, 2, 3], 3),
+            (true, Some("long-header-5")) => (&[1, 2, 3, 4], 5),
+            (true, _) => (&[1, 2, 3], 4),
+            (false, Some("long-first-3")) => (&[1, 2, 3], 4),
+            (false, Some("play-count-le")) => (&[2, 1], 3),
+            (false, _) => (&[1, 2], 3),
+        };
+        Header { long, count, entries }
+    }
+
+    /// The entries; none where the header is cut.
+    fn body<'a>(&self, record: &'a [u8]) -> &'a [u8] {
+        record.get(self.entries..).unwrap_or(&[])
+    }
+
+    /// The count, if the header has it.
+    fn count(&self, record: &[u8]) -> Option<usize> {
+        let add = |count: usize, &index: &usize| Some(256 * count + *record.get(index)? as usize);
+        self.count.iter().try_fold(0, add)
+    }
+}
+
+/// A record under three bytes, which gives 28 as a wrong count does.
+const SHORT: u64 = 0;
+
+/// The playing's own refusals.
+fn bad_record(image: &[u8], record: &[u8]) -> Option<u64> {
+    let header = Header::of(record);
+    let (body, count) = (header.body(record), header.count(record));
+    let applies = |reason: &u64| match reason {
+        1 => !matches!(image.len(), 2048 | 4096),
+        &SHORT => record.len() < 3,
+        27 => record.first().is_some_and(|&version| bad_version(version, header.long)),
+        28 => bad_count(&header, count, body.len()),
+        30 if faulty("long-30-length") => too_many(body.len()),
+        30 => header.long && count.is_some_and(too_many),
+        _ => bad_entry(body),
+    };
+    let order = match fault() {
+        Some("play-1-late") => [SHORT, 27, 28, 30, 29, 1],
+        Some("play-27-first") => [1, 27, SHORT, 28, 30, 29],
+        Some("play-28-first") => [1, SHORT, 28, 27, 30, 29],
+        Some("play-29-first") => [1, SHORT, 27, 29, 28, 30],
+        Some("long-30-first") => [1, SHORT, 27, 30, 28, 29],
+        Some("long-30-length") => [1, SHORT, 30, 27, 28, 29],
+        Some("long-29-first") => [1, SHORT, 27, 28, 29, 30],
+        _ => [1, SHORT, 27, 28, 30, 29],
+    };
+    match (order.into_iter().find(applies)?, fault()) {
+        (SHORT, _) | (30, Some("long-30-28")) => Some(28),
+        (30, Some("long-30-29")) => Some(29),
+        (28, Some(fault)) if header.long => in_place_of_28(fault, record.len(), count),
+        (number, _) => Some(number),
+    }
+}
+
+/// What a fault gives where version 2 is refused with 28, by the record's
+/// length and its count.
+fn in_place_of_28(fault: &str, length: usize, count: Option<usize>) -> Option<u64> {
+    let few = count.is_some_and(|count| count < LONG_LEAST && count + 4 == length);
+    match fault {
+        "long-three-0" if length == 3 => None,
+        "long-three-27" if length == 3 => Some(27),
+        "long-three-30" if length == 3 => Some(30),
+        "long-few-27" if few => Some(27),
+        "long-few-30" if few => Some(30),
+        _ => Some(28),
+    }
+}
+
+fn bad_version(version: u8, long: bool) -> bool {
+    match version {
+        0 => !faulty("long-version-0"),
+        1 => false,
+        _ => !long,
+    }
+}
+
+/// Whether a count is missing, isn't that of the bytes after it, or is too
+/// small for its version.
+fn bad_count(header: &Header, count: Option<usize>, length: usize) -> bool {
+    match count {
+        None => true,
+        Some(count) if header.long => bad_long_count(count, length) || too_few(count),
+        Some(count) => bad_short_count(count, length),
+    }
+}
+
+fn bad_long_count(count: usize, length: usize) -> bool {
     match fault() {
-        Some("play-count-le") => 256 * record[2] as usize + record[1] as usize != length,
-        Some("play-count-15") => count & 0x7FFF != length,
-        Some("play-count-mod") => count != length % 0x1_0000,
-        Some("play-more") => count > length,
-        Some("play-empty") => count != length || length == 0,
+        Some("long-count-mod") => count % 0x1_0000 != length % 0x1_0000,
+        Some("long-count-24") => count != length % 0x100_0000,
+        Some("long-count-own") => count != length + 4,
+        Some("long-more") => count > length,
         _ => count != length,
     }
 }
 
+fn bad_short_count(count: usize, length: usize) -> bool {
+    match fault() {
+        Some("play-count-15") => count & 0x7FFF != length,
+        Some("play-count-mod") => count != length % 0x1_0000,
+        Some("play-more") => count > length,
+        Some("play-empty") => count != length || length == 0,
+        Some("long-first-most") => count != length || count == FIRST_MOST,
+        _ => count != length,
+    }
+}
+
+/// Of version 2.
+fn too_few(count: usize) -> bool {
+    match fault() {
+        Some("long-few") => false,
+        Some("long-empty") => count < LONG_LEAST && count != 0,
+        Some("long-65535") => count < LONG_LEAST - 1,
+        Some("long-65536") => count <= LONG_LEAST,
+        _ => count < LONG_LEAST,
+    }
+}
+
+/// The same.
+fn too_many(count: usize) -> bool {
+    match fault() {
+        Some("long-many") => false,
+        Some("long-1048576") => count >= LONG_MOST,
+        Some("long-1048577") => count > LONG_MOST + 1,
+        _ => count > LONG_MOST,
+    }
+}
+
 fn bad_entry(body: &[u8]) -> bool {
+    let passed_over = |index: usize| match fault() {
+        Some("play-29-late") => true,
+        Some("long-29-late") => index > FIRST_MOST,
+        _ => false,
+    };
     let mut index = 0;
     while let Some(&kind) = body.get(index) {
         match size(kind) {
             Some(size) => index += size,
-            None => return !faulty("play-29-late"),
+            None => return !passed_over(index),
         }
     }
-    index > body.len() && !matches!(fault(), Some("play-29-late" | "play-cut-last"))
+    index > body.len() && !passed_over(index) && !faulty("play-cut-last")
 }
 
 /// The bytes of an entry, by its first.
@@ -99,7 +225,7 @@ fn bad_buffer(state: &[u8], report: &[u8]) -> Option<u64> {
 fn write_though_refused(number: u64, state: &mut [u8], report: &mut [u8]) {
     match (fault(), number) {
         (Some("play-report"), _) => report.iter_mut().take(REPORT).for_each(|byte| *byte = 0),
-        (Some("play-state"), 9) => drop(boundary::reset(state)),
+        (Some("play-state"), 9) | (Some("long-30-state"), 30) => drop(boundary::reset(state)),
         _ => {}
     }
 }
@@ -126,7 +252,7 @@ impl Session {
 
     fn play(&mut self, image: &[u8], body: &[u8]) -> u64 {
         let mut index = 0;
-        while let Some(&kind) = body.get(index) {
+        while let Some(&kind) = body.get(index).filter(|_| !self.ends_early(index)) {
             let Some(end) = size(kind).map(|size| index + size) else { return 29 };
             let Some(entry) = body.get(index..end) else {
                 return if faulty("play-cut-last") { 0 } else { 29 };
@@ -146,6 +272,15 @@ impl Session {
             index = end;
         }
         0
+    }
+
+    /// Whether nothing more is played, at an index.
+    fn ends_early(&self, index: usize) -> bool {
+        match fault() {
+            Some("long-bytes") => index >= FIRST_MOST,
+            Some("long-entries") => self.number as usize >= FIRST_MOST,
+            _ => false,
+        }
     }
 
     /// The answer of an entry.
@@ -197,6 +332,9 @@ impl Session {
             Some("play-from-1") if ended => self.number += 1,
             Some("play-last") if !ended => self.number = self.number.saturating_sub(1),
             Some("play-byte") => self.number &= 0xFF,
+            Some("long-number-16") => self.number &= 0xFFFF,
+            Some("long-number-max") => self.number = self.number.min(0xFFFF),
+            Some("long-cycles-18") => self.cycles &= 0x3_FFFF,
             Some("play-rest") => report[REPORT..].fill(0),
             _ => {}
         }

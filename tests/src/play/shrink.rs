@@ -1,20 +1,20 @@
 //! Makes a call that differs smaller.
 
 use super::Call;
-use crate::record::{count, pieces};
+use crate::record::{body, count, pieces, record as record_of};
 use std::ops::Range;
 use std::time::{Duration, Instant};
 
-/// No longer than this: some calls are large, and each attempt plays one.
-const LIMIT: Duration = Duration::from_secs(30);
 const PASSES: usize = 4;
 /// Of a long record no more than so many parts are tried in turn.
 const PARTS: usize = 512;
 
 /// Makes a call that differs smaller: lower numbers, shorter lists, fewer
-/// entries, fewer set bytes.
-pub fn shrink(call: Call, differs: &dyn Fn(&Call) -> bool) -> Call<'static> {
-    let mut shrinking = Shrinking { best: call.into_owned(), differs, start: Instant::now() };
+/// entries, fewer set bytes. It has a time for that, since some calls are
+/// large, and each attempt plays one.
+pub fn shrink(call: Call, time: Duration, differs: &dyn Fn(&Call) -> bool) -> Call<'static> {
+    let end = Instant::now() + time;
+    let mut shrinking = Shrinking { best: call.into_owned(), differs, end };
     for _ in 0..PASSES {
         let lower = shrinking.lower_numbers();
         let shorter = shrinking.shorten_requests();
@@ -32,13 +32,13 @@ pub fn shrink(call: Call, differs: &dyn Fn(&Call) -> bool) -> Call<'static> {
 struct Shrinking<'a> {
     best: Call<'static>,
     differs: &'a dyn Fn(&Call) -> bool,
-    start: Instant,
+    end: Instant,
 }
 
 impl Shrinking<'_> {
     /// Keeps a changed call if it still differs.
     fn attempt(&mut self, change: &dyn Fn(&mut Call<'static>)) -> bool {
-        if self.start.elapsed() > LIMIT {
+        if Instant::now() > self.end {
             return false;
         }
         let mut other = self.best.clone();
@@ -99,13 +99,15 @@ impl Shrinking<'_> {
     /// one here.
     fn drop_entries(&mut self) -> bool {
         let mut progress = false;
-        let mut size = self.entries();
-        while size > 0 && self.entries() / size <= PARTS {
+        let mut entries = self.entries();
+        let mut size = entries;
+        while size > 0 && entries / size <= PARTS {
             let mut from = 0;
-            while from < self.entries() {
+            while from < entries {
                 let dropped = from..from + size;
                 if self.attempt(&|call| without(call, &dropped)) {
                     progress = true;
+                    entries = self.entries();
                 } else {
                     from += size;
                 }
@@ -169,13 +171,18 @@ impl Shrinking<'_> {
     }
 }
 
-/// Takes some of a record's entries out; its count stays right if it was.
+/// Takes some of a record's entries out; its count stays right if it was, and
+/// a good header good, if need be in the other version.
 fn without(call: &mut Call<'static>, dropped: &Range<usize>) {
     let Call::Play { record, .. } = call else { return };
     let (header, pieces) = pieces(record);
     let kept = pieces.iter().enumerate().filter(|(index, _)| !dropped.contains(index));
-    let mut shorter = header.to_vec();
-    kept.for_each(|(_, piece)| shorter.extend_from_slice(piece));
+    let entries = kept.flat_map(|(_, piece)| *piece).copied().collect::<Vec<u8>>();
+    if body(record).is_ok() {
+        *record = record_of(&entries).into();
+        return;
+    }
+    let mut shorter = [header, &entries].concat();
     let mut counted = record.to_vec();
     count(&mut counted);
     if counted == **record {

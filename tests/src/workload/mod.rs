@@ -11,7 +11,7 @@ use crate::{boundary, proved};
 use std::hint::black_box;
 
 pub use makes::{worst, Makes};
-pub use plays::{Plays, STEPS as PLAY_STEPS};
+pub use plays::{Plays, Repeated, LONGEST_STEPS, STEPS as PLAY_STEPS};
 pub use widths::{Widths, STEPS as WIDTH_STEPS};
 
 /// Who works: the proved library, the second emulator by itself, or the same

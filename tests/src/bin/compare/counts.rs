@@ -13,7 +13,7 @@ use second::library::KINDS;
 use second::play::{report, Call, Outcome};
 
 /// The greatest number of a refusal.
-const NUMBERS: usize = 29;
+const NUMBERS: usize = 30;
 
 pub struct Counts {
     calls: [u64; KINDS.len()],

@@ -5,6 +5,7 @@ use second::generate::Rng;
 use second::library::{Library, KINDS, PROVED, SECOND};
 use second::play::{difference, shrink, verdict, Call, OneByOne, Outcome, Verdict};
 use std::process::exit;
+use std::time::Duration;
 
 /// How many calls come to one of which it is seen whether what was lent for
 /// reading was written.
@@ -15,12 +16,14 @@ pub struct Harness {
     pub rng: Rng,
     pub counts: Counts,
     strict: bool,
+    /// For making a difference smaller.
+    time: Duration,
     turn: u64,
 }
 
 impl Harness {
-    pub fn new(seed: u64, strict: bool) -> Self {
-        Harness { rng: Rng::new(seed), counts: Counts::new(), strict, turn: 0 }
+    pub fn new(seed: u64, strict: bool, time: Duration) -> Self {
+        Harness { rng: Rng::new(seed), counts: Counts::new(), strict, time, turn: 0 }
     }
 
     /// Plays a call on both sides; gives the second emulator's outcome.
@@ -41,7 +44,7 @@ impl Harness {
             Verdict::UnusedDiffer => self.counts.unused_differ += 1,
             Verdict::Differ => {
                 eprintln!("a difference in {}; making it smaller", KINDS[call.kind()]);
-                report_difference("DIFFERENCE", shrink(call, &sides_differ))
+                report_difference("DIFFERENCE", shrink(call, self.time, &sides_differ))
             }
         }
         self.counts.add(&call, &outcome);
@@ -53,8 +56,8 @@ impl Harness {
     /// entries gave unless the playing was turned down.
     pub fn compare_playing(&mut self, call: Call) -> (Outcome, Option<OneByOne>) {
         let outcome = self.compare(call.clone());
-        let proved = entries_agree(&call, &outcome, ("proved", &PROVED));
-        let entries = entries_agree(&call, &outcome, ("second", &SECOND));
+        let proved = self.entries_agree(&call, &outcome, ("proved", &PROVED));
+        let entries = self.entries_agree(&call, &outcome, ("second", &SECOND));
         let way = |entries: &OneByOne| (entries.deepest, entries.steps);
         if proved.as_ref().map(way) != entries.as_ref().map(way) {
             println!("DIFFERENCE in levels or kinds of steps between the entries\n{call}");
@@ -64,6 +67,21 @@ impl Harness {
             self.counts.plays.add_entries(record, entries);
         }
         (outcome, entries)
+    }
+
+    /// The entries of a playing one by one on a side. Ends the comparison
+    /// unless they give what the playing gave.
+    fn entries_agree(
+        &self,
+        call: &Call,
+        outcome: &Outcome,
+        (side, library): (&str, &Library),
+    ) -> Option<OneByOne> {
+        let entries = call.one_by_one(library)?;
+        if verdict(call, outcome, &entries.outcome) == Verdict::Differ {
+            report_entries(call, self.time, side, library)
+        }
+        Some(entries)
     }
 }
 
@@ -78,28 +96,14 @@ fn report_difference(title: &str, call: Call) -> ! {
     exit(1)
 }
 
-/// The entries of a playing one by one on a side. Ends the comparison unless
-/// they give what the playing gave.
-fn entries_agree(
-    call: &Call,
-    outcome: &Outcome,
-    (side, library): (&str, &Library),
-) -> Option<OneByOne> {
-    let entries = call.one_by_one(library)?;
-    if verdict(call, outcome, &entries.outcome) == Verdict::Differ {
-        report_entries(call, side, library)
-    }
-    Some(entries)
-}
-
-fn report_entries(call: &Call, side: &str, library: &Library) -> ! {
+fn report_entries(call: &Call, time: Duration, side: &str, library: &Library) -> ! {
     let outcomes = |call: &Call| Some((call.play(library), call.one_by_one(library)?.outcome));
     let differ = |call: &Call| {
         outcomes(call)
             .is_some_and(|(playing, entries)| verdict(call, &playing, &entries) == Verdict::Differ)
     };
     eprintln!("a difference in the entries of a record; making it smaller");
-    let call = shrink(call.clone(), &differ);
+    let call = shrink(call.clone(), time, &differ);
     println!("DIFFERENCE between a playing of {side} and its entries one by one\n{call}");
     if let Some((playing, entries)) = outcomes(&call) {
         print!("{}", difference([("playing", &playing), ("entries", &entries)]));

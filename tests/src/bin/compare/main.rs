@@ -7,6 +7,7 @@ mod counts;
 mod harness;
 mod instructions;
 mod jobs;
+mod long_records;
 mod machines;
 mod make_counts;
 mod makes;
@@ -25,27 +26,35 @@ mod write_only_counts;
 
 use harness::Harness;
 use std::process::exit;
-use std::time::Instant;
+use std::time::{Duration, Instant};
 
 struct Options {
     seed: u64,
     steps: u64,
     checks: u64,
     part: Option<String>,
+    smaller: u64,
     strict: bool,
 }
 
 const USAGE: &str = "\
-compare [--seed N] [--steps N] [--checks N] [--part NAME] [--strict]
+compare [--seed N] [--steps N] [--checks N] [--part NAME] [--smaller N] [--strict]
   --seed N    the seed of all random choices (default 1)
   --steps N   steps in runs of programs; the other parts grow with it (default 20000000)
   --checks N  certificates checked (default 120000)
   --part NAME only this part, by the name that is printed
+  --smaller N seconds for making a difference smaller, at most (default 30)
   --strict    return addresses that aren't in use must agree too";
 
 fn options() -> Options {
-    let mut options =
-        Options { seed: 1, steps: 20_000_000, checks: 120_000, part: None, strict: false };
+    let mut options = Options {
+        seed: 1,
+        steps: 20_000_000,
+        checks: 120_000,
+        part: None,
+        smaller: 30,
+        strict: false,
+    };
     let mut arguments = std::env::args().skip(1);
     while let Some(argument) = arguments.next() {
         let mut number = || {
@@ -60,6 +69,7 @@ fn options() -> Options {
             "--steps" => options.steps = number(),
             "--checks" => options.checks = number(),
             "--part" => options.part = Some(arguments.next().unwrap_or_default()),
+            "--smaller" => options.smaller = number(),
             "--strict" => options.strict = true,
             _ => {
                 eprintln!("{USAGE}");
@@ -107,7 +117,8 @@ fn run_parts(h: &mut Harness, options: &Options) -> usize {
 fn main() {
     let options = options();
     println!("seed {}, steps {}, checks {}", options.seed, options.steps, options.checks);
-    let mut h = Harness::new(options.seed, options.strict);
+    let smaller = Duration::from_secs(options.smaller);
+    let mut h = Harness::new(options.seed, options.strict, smaller);
     let start = Instant::now();
     if run_parts(&mut h, &options) == 0 {
         eprintln!("there is no such part\n{USAGE}");

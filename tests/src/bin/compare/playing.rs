@@ -6,11 +6,11 @@ use crate::refusals::LENGTHS;
 use second::boundary::{self, REPORT, STATE};
 use second::check::check;
 use second::generate::{
-    call_graph, damage, damage_record, entries, machine, mix, program, random_image, sizing,
-    write_only_program, Mix, Program, Rng,
+    call_graph, damage, damage_record, entries, long_length, machine, mix, program, random_image,
+    sizing, write_only_program, Mix, Program, Rng,
 };
 use second::play::{report, Call, OneByOne, Outcome};
-use second::record::{pieces, read, record, Entry, MOST, STEP, STORE};
+use second::record::{pieces, read, record, Entry, LEAST_2, MOST_1, MOST_2, STEP, STORE};
 use std::borrow::Cow::Borrowed;
 use std::process::exit;
 
@@ -26,7 +26,10 @@ pub fn playing(h: &mut Harness, programs: usize) {
         any_records(h);
         damaged(h);
     }
-    longest(h, programs / 100 + 5);
+    // The longest records take much time.
+    for (length, every) in [(MOST_1, 100), (LEAST_2, 1000), (MOST_2, 4000)] {
+        (0..programs / every + 5).for_each(|index| full(h, index, length));
+    }
 }
 
 /// A playing on both sides, in buffers that held something else.
@@ -50,7 +53,7 @@ pub fn play_into(
         state: Borrowed(&state),
         report: Borrowed(&report),
     });
-    if matches!(boundary::number(outcome.answer), 1 | 2 | 9 | 27..=29) {
+    if matches!(boundary::number(outcome.answer), 1 | 2 | 9 | 27..=30) {
         let left = outcome.state.bytes() == state && outcome.out.bytes() == report;
         holds(left, "a refusal leaves both buffers", outcome.answer);
         holds(entries.is_none(), "it is only refused where it may be", outcome.answer);
@@ -93,6 +96,15 @@ fn any_program(rng: &mut Rng) -> Program {
     }
 }
 
+/// The bytes of entries: up to a most, or now and then those of version 2.
+fn any_length(rng: &mut Rng, most: usize, long_every: usize) -> usize {
+    if rng.below(long_every) == 0 {
+        long_length(rng)
+    } else {
+        rng.any_size(most)
+    }
+}
+
 /// Some records on a program, short ones as likely as long ones.
 fn any_records(h: &mut Harness) {
     let program = any_program(&mut h.rng);
@@ -101,7 +113,7 @@ fn any_records(h: &mut Harness) {
         // With wired sources only, demand 3 holds of accepted programs.
         let tame = h.rng.chance(60);
         let mix = mix(&mut h.rng, if tame { program.wired } else { 0x1F });
-        let length = h.rng.any_size(MOST);
+        let length = any_length(&mut h.rng, MOST_1, 150);
         let body = entries(&mut h.rng, &mix, length);
         play_and_hold(h, &program.image, &body, levels.filter(|_| tame));
         if length <= SHORT && h.rng.chance(20) {
@@ -147,7 +159,7 @@ fn demand3(h: &mut Harness, record: &[u8], outcome: &Outcome, played: &OneByOne,
         println!("DEMAND 3 FAILS: a playing gave {number}, levels {deepest} of {levels}");
         exit(1);
     }
-    h.counts.plays.demand3 += 1;
+    h.counts.plays.add_demand3(record);
 }
 
 /// A record that is spoilt in some ways, with images and buffers that may be
@@ -156,8 +168,8 @@ fn damaged(h: &mut Harness) {
     let good = any_program(&mut h.rng).image;
     for _ in 0..8 {
         let mix = mix(&mut h.rng, 0x1F);
-        let most = if h.rng.chance(5) { MOST } else { 200 };
-        let length = h.rng.any_size(most);
+        let most = if h.rng.chance(5) { MOST_1 } else { 200 };
+        let length = any_length(&mut h.rng, most, 250);
         let mut bad = record(&entries(&mut h.rng, &mix, length));
         for _ in 0..h.rng.pick(&[1, 1, 1, 2, 3]) {
             damage_record(&mut h.rng, &mut bad);
@@ -172,26 +184,25 @@ fn damaged(h: &mut Harness) {
     }
 }
 
-/// Records of as many bytes as a count can tell, on programs that don't stop.
-fn longest(h: &mut Harness, programs: usize) {
-    let kinds = [[1, 0, 0], [0, 1, 0], [0, 0, 1], [20, 5, 1], [1000, 50, 1]];
-    for index in 0..programs {
-        let program = program(&mut h.rng);
-        let levels = check(&program.image, &program.certificate, program.wired).ok();
-        let requested = h.rng.pick(&[0, 2, 20]);
-        let kinds = kinds[index % kinds.len()];
-        let mix = Mix { kinds, requests: program.wired, requested, refused: 0 };
-        let mut body = entries(&mut h.rng, &mix, MOST);
-        play_and_hold(h, &program.image, &body, levels);
-        // The same with a last entry that is refused.
-        let end = h.rng.pick(&[&[STEP, 0x80][..], &[STORE, 0x55, 0x00]]);
-        body = entries(&mut h.rng, &mix, MOST - end.len());
-        body.extend(end);
-        play_and_hold(h, &program.image, &body, levels);
-    }
+/// Records of a length where a version begins or ends, on a program that
+/// doesn't stop.
+fn full(h: &mut Harness, index: usize, length: usize) {
+    const KINDS: [[usize; 3]; 5] = [[1, 0, 0], [0, 1, 0], [0, 0, 1], [20, 5, 1], [1000, 50, 1]];
+    let program = program(&mut h.rng);
+    let levels = check(&program.image, &program.certificate, program.wired).ok();
+    let requested = h.rng.pick(&[0, 2, 20]);
+    let kinds = KINDS[index % KINDS.len()];
+    let mix = Mix { kinds, requests: program.wired, requested, refused: 0 };
+    let mut body = entries(&mut h.rng, &mix, length);
+    play_and_hold(h, &program.image, &body, levels);
+    // The same with a last entry that is refused.
+    let end = h.rng.pick(&[&[STEP, 0x80][..], &[STORE, 0x55, 0x00]]);
+    body = entries(&mut h.rng, &mix, length - end.len());
+    body.extend(end);
+    play_and_hold(h, &program.image, &body, levels);
 }
 
-/// Ends the comparison where an answer isn't what W-206 says of it.
+/// Ends the comparison where an answer isn't what W-206 and W-207 say of it.
 pub fn holds(so: bool, what: &str, answer: u64) {
     if !so {
         println!("THE PLAYER FAILS: not so that {what}; the answer was {answer:X}h");

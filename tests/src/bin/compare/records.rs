@@ -2,12 +2,16 @@
 //! record.
 
 use crate::harness::Harness;
+use crate::long_records::{filling, long_records};
 use crate::playing::{holds, play, play_into, REPORTS, SHORT, STATES};
 use crate::refusals::LENGTHS;
 use second::boundary;
 use second::generate::{coded, entries, mix, program, random_image, Mix, Rng};
-use second::play::report;
-use second::record::{count, pieces, record, MOST, RESET, STEP, STORE, VERSION};
+use second::play::{report, Outcome};
+use second::record::{
+    count, of_version, pieces, put_count, record, LEAST_2, MOST_1, MOST_2, RESET, STEP, STORE,
+    VERSION_1, VERSION_2,
+};
 
 pub fn records(h: &mut Harness) {
     endings(h);
@@ -17,24 +21,25 @@ pub fn records(h: &mut Harness) {
     unknown(h);
     buffers(h);
     images(h);
+    long_records(h);
 }
 
 /// The number that a playing gives.
-fn number(h: &mut Harness, image: &[u8], record: &[u8]) -> u8 {
+pub fn number(h: &mut Harness, image: &[u8], record: &[u8]) -> u8 {
     boundary::number(play(h, image, record).0.answer)
 }
 
 /// A way to end a playing: the number, code in a 2K image, entries that lead
 /// there, and the entry that ends it.
-struct Ending {
-    number: u8,
-    code: &'static [(usize, &'static [u8])],
-    lead: &'static [u8],
-    end: &'static [u8],
+pub struct Ending {
+    pub number: u8,
+    pub code: &'static [(usize, &'static [u8])],
+    pub lead: &'static [u8],
+    pub end: &'static [u8],
 }
 
 /// JP to itself at FFEh.
-const LOOP: &[(usize, &[u8])] = &[(0xFFE, &[0xE9, 0xFF])];
+pub const LOOP: &[(usize, &[u8])] = &[(0xFFE, &[0xE9, 0xFF])];
 /// CALL of itself at FFEh.
 const CALLS: &[(usize, &[u8])] = &[(0xFFE, &[0xE1, 0xFF])];
 /// JP 880h, RETI, then CALL of itself.
@@ -44,7 +49,7 @@ const ONE_STEP: &[u8] = &[STEP, 0];
 const SIX: &[u8] = &[0; 12];
 const EIGHT: &[u8] = &[0; 16];
 
-const ENDINGS: [Ending; 14] = [
+pub const ENDINGS: [Ending; 14] = [
     // LDI, whose operand would stand at 000h.
     Ending { number: 4, code: &[(0xFFE, &[0x0D, 0x20])], lead: &[], end: ONE_STEP },
     // JP 100h.
@@ -80,38 +85,61 @@ fn endings(h: &mut Harness) {
             let kept = play(h, &image, &record(&[before, lead].concat())).0;
             for after in after {
                 let (ended, _) = play(h, &image, &record(&[before, lead, end, after].concat()));
-                assert_eq!(boundary::number(ended.answer), expected, "the end of a given record");
-                let machine = ended.state.bytes() == kept.state.bytes();
-                holds(machine, "the machine is the one before it", ended.answer);
-                let same = report(&ended) == report(&kept);
-                holds(same, "so are the cycles, and the number is its own", ended.answer);
+                ends(&ended, expected, &kept);
             }
         }
     }
 }
 
-/// Short records with every first byte, and counts that are right and wrong.
+/// An entry ended a playing with a number: all else is as the playing of the
+/// entries before it.
+pub fn ends(ended: &Outcome, number: u8, before: &Outcome) {
+    assert_eq!(boundary::number(ended.answer), number, "the end of a given record");
+    let machine = ended.state.bytes() == before.state.bytes();
+    holds(machine, "the machine is the one before it", ended.answer);
+    let same = report(ended) == report(before);
+    holds(same, "so are the cycles, and the number is its own", ended.answer);
+}
+
+/// What comes after the first byte of short records: counts that are right and
+/// wrong, of two bytes and of three.
+const RESTS: [&[u8]; 22] = [
+    &[],
+    &[0],
+    &[1],
+    &[0, 0],
+    &[0, 1],
+    &[1, 0],
+    &[0, 0, RESET],
+    &[0, 1, RESET],
+    &[1, 0, RESET],
+    &[0, 2, RESET],
+    &[0, 1, 3],
+    &[0, 1, STEP],
+    &[0, 2, STEP, 0x20],
+    &[0, 0, 3, 3],
+    &[0, 0, 0],
+    &[0, 1, 0],
+    &[1, 0, 0],
+    &[0x10, 0, 1],
+    &[0, 0, 1, RESET],
+    &[0, 0, 1, 3],
+    &[0, 0, 2, STEP, 0x20],
+    &[0xFF; 5],
+];
+
+/// Short records with every first byte.
 fn headers(h: &mut Harness) {
     let image = coded(LOOP);
-    let rests: [&[u8]; 14] = [
-        &[],
-        &[0],
-        &[1],
-        &[0, 0],
-        &[0, 1],
-        &[1, 0],
-        &[0, 0, RESET],
-        &[0, 1, RESET],
-        &[1, 0, RESET],
-        &[0, 2, RESET],
-        &[0, 1, 3],
-        &[0, 1, STEP],
-        &[0, 2, STEP, 0x20],
-        &[0, 0, 3, 3],
-    ];
     for version in 0..=255 {
-        for rest in rests {
-            play(h, &image, &[&[version][..], rest].concat());
+        for rest in RESTS {
+            let number = number(h, &image, &[&[version][..], rest].concat());
+            match version {
+                VERSION_1 => {}
+                VERSION_2 => assert_eq!(number, 28, "a short record of version 2"),
+                _ if rest.len() < 2 => assert_eq!(number, 28, "under three bytes"),
+                _ => assert_eq!(number, 27, "another version"),
+            }
         }
     }
     play(h, &image, &[]);
@@ -122,16 +150,15 @@ fn headers(h: &mut Harness) {
 /// than a count can tell.
 fn counts(h: &mut Harness) {
     const LENGTHS: [usize; 17] = [
-        0, 1, 2, 3, 4, 255, 256, 257, 511, 512, 32_767, 32_768, 65_534, MOST, 65_536, 65_537,
+        0, 1, 2, 3, 4, 255, 256, 257, 511, 512, 32_767, 32_768, 65_534, MOST_1, 65_536, 65_537,
         65_792,
     ];
     let image = coded(LOOP);
     for length in LENGTHS {
         let now = length as u16;
         for other in [now.wrapping_add(1), now.wrapping_sub(1), now.swap_bytes(), !now, 0, now] {
-            let mut record = vec![RESET; 3 + length];
-            record[0] = VERSION;
-            record[1..3].copy_from_slice(&other.to_be_bytes());
+            let mut record = of_version(VERSION_1, &vec![RESET; length]);
+            put_count(&mut record, other as usize);
             let expected = if other as usize == length { 0 } else { 28 };
             assert_eq!(number(h, &image, &record), expected, "a count of {length} bytes");
         }
@@ -187,27 +214,40 @@ fn unknown(h: &mut Harness) {
 /// Records with each fault, and with none: whole, ended by a refusal, and by
 /// a stop.
 fn each_fault() -> Vec<Vec<u8>> {
-    let counted = |version: u8, entries: &[u8]| {
-        let mut bytes = [&[version, 0, 0][..], entries].concat();
-        count(&mut bytes);
-        bytes
-    };
+    let of_1 = |entries: &[u8]| of_version(VERSION_1, entries);
+    let of_2 = |entries: &[u8]| of_version(VERSION_2, entries);
+    // Records of version 2: given entries, then others; and others, then a given one.
+    let long = |entries: &[u8], length: usize| of_2(&[entries, &filling(length)].concat());
+    let cut = |entry: &[u8]| of_2(&[&filling(LEAST_2), entry].concat());
     vec![
         vec![],
-        vec![2, 0],
-        vec![VERSION, 0],
-        counted(2, &[RESET]),
-        counted(2, &[3]),
-        vec![2, 1, 0, RESET],
-        vec![VERSION, 1, 0, RESET],
-        vec![VERSION, 0, 0, 3],
-        counted(VERSION, &[3]),
-        counted(VERSION, &[STEP, 0, STORE, 0]),
-        counted(VERSION, &[STEP, 0x80, STEP]),
-        counted(VERSION, &[]),
-        counted(VERSION, &[STEP, 0, RESET]),
-        counted(VERSION, &[STEP, 0x80, RESET]),
-        counted(VERSION, &[RESET, STORE, 0x40, 0]),
+        vec![VERSION_2, 0],
+        vec![VERSION_1, 0],
+        of_version(3, &[RESET]),
+        of_version(3, &[3]),
+        vec![3, 1, 0, RESET],
+        vec![VERSION_1, 1, 0, RESET],
+        vec![VERSION_1, 0, 0, 3],
+        of_1(&[3]),
+        of_1(&[STEP, 0, STORE, 0]),
+        of_1(&[STEP, 0x80, STEP]),
+        of_1(&[]),
+        of_1(&[STEP, 0, RESET]),
+        of_1(&[STEP, 0x80, RESET]),
+        of_1(&[RESET, STORE, 0x40, 0]),
+        vec![VERSION_2, 0, 0],
+        vec![VERSION_2, 0x10, 0, 1],
+        of_2(&[RESET]),
+        of_2(&[3]),
+        long(&[], MOST_1),
+        long(&[3], MOST_2),
+        long(&[], MOST_2 + 1),
+        long(&[3], MOST_1),
+        cut(&[STEP]),
+        cut(&[STORE, 0x40]),
+        long(&[], LEAST_2),
+        long(&[STEP, 0x80], MOST_1),
+        long(&[STORE, 0x40, 0], MOST_1),
     ]
 }
 

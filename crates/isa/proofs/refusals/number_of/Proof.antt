@@ -90,6 +90,9 @@ enum-told-19 c = search needs
 enum-told-20 : tie.Need-enum-told-20
 enum-told-20 c = search needs
 
+enum-told-21 : tie.Need-enum-told-21
+enum-told-21 c = search needs
+
 returns : tie.Need-returns
 returns c = rw (c .enum-told .given .1)
 
@@ -177,6 +180,9 @@ returns-28 c = rw (c .enum-told19 .given .1)
 returns-29 : tie.Need-returns-29
 returns-29 c = rw (c .enum-told20 .given .1)
 
+returns-30 : tie.Need-returns-30
+returns-30 c = rw (c .enum-told21 .given .1)
+
 pub number-of-spec : {M : Type 1} → statement M
 number-of-spec =
     tie.close
@@ -210,6 +216,7 @@ number-of-spec =
     enum-told-18
     enum-told-19
     enum-told-20
+    enum-told-21
     returns
     returns-2
     returns-3
@@ -238,4 +245,5 @@ number-of-spec =
     returns-26
     returns-27
     returns-28
-    returns-29)
+    returns-29
+    returns-30)

@@ -7,7 +7,7 @@ use borrow.Author.Needs.{needs}
 use borrow.Author.Tests.{not-true, not-false}
 use Rattle.isa.specs.Rom.{isImage}
 use Rattle.playback.specs.Play.{playOf}
-use Rattle.playback.proofs.Record.{starts-at, starts-nowhere}
+use Rattle.playback.proofs.HeaderCases.{starts-at, starts-nowhere}
 use Rattle.playback.proofs.play.play.Statement.{statement}
 use Rattle.playback.proofs.play.play.Tie as tie
 
