@@ -16,7 +16,7 @@ fn greater(a: u8, b: u8) -> u8
 }
 
 // The levels that a source's service can take: its own, and the need at its vector; none where the source is not wired.
-fn levels_for(certificate: &[u8], wired: u8, source: Source) -> u8
+pub fn levels_for(certificate: &[u8], wired: u8, source: Source) -> u8
     ensures { λ r. ⌜ r ≡ levelsFor (now (certificate .entry)) wired source ⌝ }
 {
     if names(wired, source) {
@@ -27,7 +27,7 @@ fn levels_for(certificate: &[u8], wired: u8, source: Source) -> u8
 }
 
 // The levels of the deepest service of sources 1 to 4, which do not interrupt one another.
-fn source_levels(certificate: &[u8], wired: u8) -> u8
+pub fn source_levels(certificate: &[u8], wired: u8) -> u8
     ensures { λ r. ⌜ r ≡ sourceLevels (now (certificate .entry)) wired ⌝ }
 {
     let first = levels_for(certificate, wired, Source::First);

@@ -1,7 +1,7 @@
 // The stack-depth certificate: its marks, its rules and their check (document 01, "The certificate" and "Check").
 pub mod check;
 mod findings;
-mod levels;
+pub mod levels;
 pub mod marks;
 pub mod successors;
 mod vectors;

@@ -9,6 +9,7 @@ pub mod state;
 pub mod step;
 mod steps;
 
+pub use advance::is_enabled;
 use alu::Flags;
 use control::Control;
 use control::Stop;

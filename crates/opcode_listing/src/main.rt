@@ -1,14 +1,10 @@
 // Lists the 256 opcodes as they decode at 100h with the operand bytes 12h and 34h: the bytes, length, cycles, and the
-// instruction in
-// the manual's notation. It is there to be held against the manual's map and pages.
-mod notation;
-
+// instruction in the manual's notation. It is there to be held against the manual's map and pages.
 use isa::Decoded;
 use isa::decode::decode;
-use notation::put_instruction;
+use listing::Line;
+use listing::instruction::instruction;
 use printing::put;
-use printing::put_byte;
-use printing::put_number;
 use printing::put_refusal;
 
 fn image_with(opcode: u8) -> [u8; 4096] {
@@ -19,41 +15,39 @@ fn image_with(opcode: u8) -> [u8; 4096] {
     image
 }
 
-fn put_operand_byte(byte: u8, present: bool) {
+fn operand_byte(line: Line, byte: u8, present: bool) -> Line {
     if present {
-        put(b" ");
-        put_byte(byte);
+        line.letter(b' ').byte(byte)
     } else {
-        put(b"   ");
+        line.word(b"   ")
     }
 }
 
 // The bytes of an instruction, its length and its cycles.
-fn put_code(image: &[u8; 4096], length: u8, cycles: u8) {
-    put_byte(image[0x100]);
-    put_operand_byte(image[0x101], 1 < length);
-    put_operand_byte(image[0x102], 2 < length);
-    put(b"  ");
-    put_number(length as u32);
-    put(b" ");
-    put_number(cycles as u32);
-    put(b"  ");
+fn code(image: &[u8; 4096], length: u8, cycles: u8) -> Line {
+    let opcode = Line::new().byte(image[0x100]);
+    let first = operand_byte(opcode, image[0x101], 1 < length);
+    let second = operand_byte(first, image[0x102], 2 < length);
+    let counted = second.word(b"  ").decimal(length as u32);
+    counted.letter(b' ').decimal(cycles as u32).word(b"  ")
+}
+
+fn put_line(line: Line) {
+    let letters = line.letters;
+    let count = line.length();
+    put(&letters[..count]);
 }
 
 fn list_opcode(opcode: u8) {
     let image = image_with(opcode);
     match decode(&image, 0x100) {
         Decoded::Valid {
-            instruction,
+            instruction: decoded,
             length,
             cycles,
-        } => {
-            put_code(&image, length, cycles);
-            put_instruction(instruction, 0x100);
-        }
+        } => put_line(instruction(code(&image, length, cycles), decoded, 0x100)),
         Decoded::Refused(refusal) => {
-            put_byte(opcode);
-            put(b"             undefined, ");
+            put_line(Line::new().byte(opcode).word(b"             undefined, "));
             put_refusal(refusal);
         }
     }

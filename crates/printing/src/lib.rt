@@ -30,12 +30,6 @@ pub fn put_byte(n: u8) {
     put(&text);
 }
 
-// A data address or an immediate.
-pub fn put_data(n: u8) {
-    put_byte(n);
-    put(b"h");
-}
-
 // A program address in three hexadecimal digits.
 pub fn put_address(n: u16) {
     let text = [digit(n / 256), digit(n / 16), digit(n)];

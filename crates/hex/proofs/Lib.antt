@@ -1,0 +1,11 @@
+pub mod DigitLaws
+pub mod LineLaws
+pub mod PlaceLaws
+pub mod ImageLaws
+pub mod StepLaws
+pub mod CrcLaws
+pub mod ReadLaws
+pub mod WrittenLine
+pub mod WrittenRows
+pub mod WrittenIsRead
+pub mod Cases

@@ -1,0 +1,9 @@
+pub mod Digits
+pub mod Lines
+pub mod Take
+pub mod Place
+pub mod Image
+pub mod Read
+pub mod Write
+pub mod Crc
+pub mod Cases

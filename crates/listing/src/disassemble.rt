@@ -1,0 +1,24 @@
+// The instruction at an address of an image, as text in a buffer.
+use crate::Line;
+use crate::LineWritten;
+use crate::instruction::instruction;
+use crate::write::write;
+use isa::Decoded;
+use isa::decode::decode;
+ghost use Rattle.isa.specs.Decode.{decodeAt};
+ghost use Rattle.listing.specs.Disassemble.{WritesText, textOf};
+
+// Writes the text of the instruction at an address from the buffer's first byte. What decoding refuses is refused.
+pub fn write_instruction(image: &[u8], address: u16, buffer: &mut [u8]) -> LineWritten
+    ensures { λ r. ⌜ WritesText (textOf address (decodeAt (now (image .entry)) address))
+        (now (buffer .entry)) (now (buffer .exit)) r ⌝ }
+{
+    match decode(image, address) {
+        Decoded::Valid {
+            instruction: decoded,
+            length: _,
+            cycles: _,
+        } => write(instruction(Line::new(), decoded, address), buffer),
+        Decoded::Refused(refusal) => LineWritten::Refused(refusal),
+    }
+}

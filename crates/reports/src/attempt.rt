@@ -1,0 +1,146 @@
+// Where no certificate exists: marks that come as far as they can. What the check first refuses of them is the first
+// rule that cannot be met.
+use certificate::marks::MOST_LEVELS;
+use certificate::marks::SERVICE;
+use certificate::marks::START_UP;
+use certificate::marks::SUBROUTINE;
+use certificate::marks::kind_of;
+use certificate::marks::mark_at;
+use certificate::marks::need_of;
+use certificate::successors::Successor;
+use certificate::successors::Successors;
+use certificate::successors::is_placed;
+use certificate::successors::successors_of;
+use isa::Continuation;
+use isa::Source;
+use isa::flow_at::flow_at;
+use isa::rom::PROGRAM_SPACE;
+use isa::sources::RESET_VECTOR;
+use isa::sources::names;
+use isa::sources::vector_of;
+use isa::table::timings;
+
+// More passes than there are marks to raise.
+const MOST_PASSES: u32 = 32768;
+
+// Sets the mark of an address in ROM.
+fn set_mark(marks: &mut [u8], address: u16, mark: u8) {
+    let end = address as usize + marks.len();
+    if PROGRAM_SPACE <= address as usize {
+        return;
+    }
+    if end < PROGRAM_SPACE {
+        return;
+    }
+    marks[end - PROGRAM_SPACE] = mark;
+}
+
+// Marks an address with a kind, unless it is marked: the first kind to come stays.
+fn begin(marks: &mut [u8], address: u16, kind: u8) -> bool {
+    if mark_at(marks, address) != 0 {
+        return false;
+    }
+    set_mark(marks, address, mark_of(kind, 0));
+    mark_at(marks, address) != 0
+}
+
+// The mark of a kind and a need, 00h where there is none.
+fn mark_of(kind: u8, need: u8) -> u8 {
+    if SUBROUTINE < kind {
+        return 0;
+    }
+    if MOST_LEVELS < need {
+        return 0;
+    }
+    kind * 16 + need
+}
+
+// Raises the need of an address, as far as a mark can have it, to what a successor asks for.
+fn raise(marks: &mut [u8], address: u16, successor: Successor) -> bool {
+    let mark = mark_at(marks, address);
+    let there = mark_at(marks, successor.address);
+    if kind_of(there) != successor.kind {
+        return false;
+    }
+    let asked = need_of(there) as u16 + successor.levels as u16;
+    let need = if (MOST_LEVELS as u16) < asked {
+        MOST_LEVELS
+    } else {
+        asked as u8
+    };
+    if need <= need_of(mark) {
+        return false;
+    }
+    set_mark(marks, address, mark_of(mark / 16, need));
+    true
+}
+
+fn follow(marks: &mut [u8], address: u16, successor: Successor) -> bool {
+    let begun = begin(marks, successor.address, successor.kind);
+    let raised = raise(marks, address, successor);
+    begun || raised
+}
+
+// Follows an instruction to where it leads; whether a mark changed.
+fn visit(table: &[u8; 256], image: &[u8], marks: &mut [u8], address: u16) -> bool {
+    let kind = kind_of(mark_at(marks, address));
+    if kind == 0 {
+        return false;
+    }
+    let Continuation::Valid { flow, next } = flow_at(table, image, address) else {
+        return false;
+    };
+    if !is_placed(kind, flow) {
+        return false;
+    }
+    match successors_of(kind, flow, next) {
+        Successors::None => false,
+        Successors::One(successor) => follow(marks, address, successor),
+        Successors::Two(first, second) => {
+            let changed = follow(marks, address, first);
+            let later = follow(marks, address, second);
+            changed || later
+        }
+    }
+}
+
+// Visits all addresses, downward: most instructions lead upward, and needs come back from there.
+fn pass(table: &[u8; 256], image: &[u8], marks: &mut [u8]) -> bool {
+    let mut changed = false;
+    let mut address = 4096u16;
+    while 0 < address {
+        address -= 1;
+        if visit(table, image, marks, address) {
+            changed = true;
+        }
+    }
+    changed
+}
+
+fn begin_source(marks: &mut [u8], wired: u8, source: Source) {
+    if names(wired, source) {
+        begin(marks, vector_of(source), SERVICE);
+    }
+}
+
+fn begin_vectors(marks: &mut [u8], wired: u8) {
+    begin(marks, RESET_VECTOR, START_UP);
+    begin_source(marks, wired, Source::Nmi);
+    begin_source(marks, wired, Source::First);
+    begin_source(marks, wired, Source::Second);
+    begin_source(marks, wired, Source::Third);
+    begin_source(marks, wired, Source::Fourth);
+}
+
+// Marks, in marks that are all 00h, what can be reached.
+pub fn attempt(image: &[u8], wired: u8, marks: &mut [u8]) {
+    let table = timings();
+    begin_vectors(marks, wired);
+    let mut passes = MOST_PASSES;
+    while 0 < passes {
+        if !pass(&table, image, marks) {
+            return;
+        }
+        passes -= 1;
+    }
+}
