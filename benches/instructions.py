@@ -29,6 +29,15 @@ WORKS = [
     ("make 4K with six marks, a byte", "make-sparse-4k", 64, 4096),
     ("make 4K, six zigzag chains, a byte", "make-zigzag", 2, 4096),
     ("playing of 32,767 steps, a step", "play", 1, 32767),
+    ("run in the fixed half, one page, a step", "run-fixed-1", 1, 65535),
+    ("run in the fixed half, nine pages, a step", "run-fixed-9", 1, 65535),
+    ("run in a page, one page, a step", "run-page-1", 1, 65535),
+    ("run in a page, nine pages, a step", "run-page-9", 1, 65535),
+    ("run that changes pages, one page, a step", "run-changing-1", 1, 65535),
+    ("run that changes pages, nine pages, a step", "run-changing-9", 1, 65535),
+    ("check 20K marked throughout, a mark and page", "check-20k", 64, 4096 * 9),
+    ("make 20K reached throughout, a mark", "make-20k", 64, 4096),
+    ("make 20K of generated programs, a mark", "make-program-20k", 64, 4096),
 ]
 
 

@@ -5,7 +5,9 @@
  * A slice is a pointer and its length in bytes. A const slice is only read; one that is not const is written, and must
  * not overlap another of the same call. Nothing is kept after a call, nothing is allocated, and every call returns.
  *
- * An image has 2048 bytes (program addresses 800h to FFFh) or 4096 (000h to FFFh), its certificate as many marks. */
+ * An image is 1 to 10 halves of 2048 bytes: its pages, seen at 000h to 7FFh, page 0 first, and last the fixed half,
+ * seen at 800h to FFFh. The bank byte, at data address CAh of a machine, modulo the number of pages picks the page.
+ * A certificate has 2048 marks for 2048 bytes, and 4096 for every longer image. */
 #ifndef ST62_H
 #define ST62_H
 
@@ -44,7 +46,7 @@ enum st62_origins {
 /* Numbers of refusals and stops. [a]: with an address. */
 enum st62_refusals {
     ST62_DONE = 0,
-    ST62_IMAGE_LENGTH = 1,        /* the image is neither 2048 nor 4096 bytes */
+    ST62_IMAGE_LENGTH = 1,        /* the image is not 1 to 10 halves of 2048 bytes */
     ST62_ILL_FORMED_MACHINE = 2,  /* the state is no machine's, or PC, a return address or the levels are too great */
     ST62_ADDRESS_RANGE = 3,       /* an address above FFFh */
     ST62_OUTSIDE_ROM = 4,         /* [a] the opcode or an operand byte lies outside ROM */
@@ -56,7 +58,7 @@ enum st62_refusals {
     ST62_WINDOW_ADDRESS = 10,     /* a host store to 40h-7Fh */
     ST62_UNKNOWN_SOURCE = 11,     /* a bit above bit 4 in a request or in the wired sources */
     ST62_STEP_COUNT = 12,         /* a run of more than 65,535 steps */
-    ST62_CERTIFICATE_LENGTH = 13, /* the certificate is not as long as the image */
+    ST62_CERTIFICATE_LENGTH = 13, /* the certificate has not 2048 marks (image of 2048 bytes) or 4096 (longer) */
     ST62_MALFORMED_MARK = 14,     /* [a] kind above 4, need above 6, or a need without a kind */
     ST62_MISPLACED_RETURN = 15,   /* [a] RET outside kind 4, or RETI outside kinds 1 and 3 */
     ST62_SUCCESSOR_KIND = 16,     /* [a] it leads outside ROM, to an unmarked address, or to one of the wrong kind */
@@ -66,9 +68,9 @@ enum st62_refusals {
     ST62_JOB_TOO_SHORT = 20,      /* a job of fewer than three bytes */
     ST62_JOB_VERSION = 21,        /* a job whose first byte is not 1 */
     ST62_JOB_LENGTH = 22,         /* a job of a wrong length */
-    ST62_CHECK_REFUSED = 23,      /* the gauge: the check with nothing wired refuses */
+    ST62_CHECK_REFUSED = 23,      /* the gauge: the check with nothing wired refuses, or above 4096 bytes */
     ST62_NO_SLEEP = 24,           /* the gauge: no sleep within 65,535 steps */
-    ST62_CERTIFICATE_BUFFER = 25, /* the maker: the buffer is not as long as the image */
+    ST62_CERTIFICATE_BUFFER = 25, /* the maker: the buffer is not as long as the certificate */
     ST62_NO_CERTIFICATE = 26,     /* the maker: no certificate would be accepted */
     ST62_RECORD_VERSION = 27,     /* a record whose first byte is neither 1 nor 2 */
     ST62_RECORD_LENGTH = 28,      /* a record shorter than its head, or with a wrong count */
@@ -174,13 +176,15 @@ enum st62_report {
 /* The longest line of a job, its newline too. */
 #define ST62_LINE_LENGTH 16
 
-/* Decodes at a program address into out, a row of 10 bytes; the value is the length. 1, 3, 4, 5, 9. */
-uint64_t st62_decode(const uint8_t *image, size_t image_length, uint32_t address, uint8_t *out, size_t out_length);
+/* Decodes at a program address, with a bank byte, into out, a row of 10 bytes; the value is the length. 8 for a bank
+ * above 255; 1, 3, 4, 5, 9. */
+uint64_t st62_decode(const uint8_t *image, size_t image_length, uint32_t address, uint32_t bank, uint8_t *out,
+                     size_t out_length);
 
 /* Writes the instruction of the first seven fields into out; the value is its length. 8, 9. */
 uint64_t st62_write(const uint8_t *fields, size_t fields_length, uint8_t *out, size_t out_length);
 
-/* Resets a machine, an ill-formed one too. 2 for a state that is no machine's. */
+/* Resets a machine, an ill-formed one too; CAh is cleared. 2 for a state that is no machine's. */
 uint64_t st62_reset(uint8_t *state, size_t state_length);
 
 /* The host's store of a byte at a data address. 8, 2, 10. */
@@ -203,11 +207,11 @@ uint64_t st62_play(const uint8_t *image, size_t image_length, const uint8_t *ses
                    uint8_t *state, size_t state_length, uint8_t *report, size_t report_length);
 
 /* Checks a certificate for the wired sources; the value is the levels. 1, 13, 11; at each marked address, upward, 14,
- * 4, 5, 15, 16, 17; then 18, 19. */
+ * then with each page in place 4, 5, 15, 16, 17; then 18, 19. */
 uint64_t st62_check(const uint8_t *image, size_t image_length, const uint8_t *certificate, size_t certificate_length,
                     uint32_t wired);
 
-/* Makes the least certificate into out, as long as the image; the value is its levels. 1, 11, 25, 26. */
+/* Makes the least certificate into out, which is as long; the value is its levels. 1, 11, 25, 26. */
 uint64_t st62_make(const uint8_t *image, size_t image_length, uint32_t wired, uint8_t *out, size_t out_length);
 
 /* The width that the gauge would show for a slide count, nothing wired. 8, 23, 24. */

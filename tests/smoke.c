@@ -72,16 +72,17 @@ static void instructions(void)
     static const uint8_t call[] = {ST62_CALL, ST62_KIND_NONE, 0xDC, 0x08, 0, 0, 0, 2, 4, 0};
     uint8_t row[ST62_ROW_DECODED], out[3] = {0, 0, 0};
     memcpy(image + 110, "\x23\x70\xEA\xC1\x8D\x05", 6);
-    answers("decode of JRR", st62_decode(image, 4096, 110, row, sizeof row), word(0, 0, 3));
+    answers("decode of JRR", st62_decode(image, 4096, 110, 0, row, sizeof row), word(0, 0, 3));
     holds("the row of JRR is wrong", memcmp(row, jrr, sizeof row) == 0);
     answers("write of JRR", st62_write(row, ST62_ROW_WRITTEN, out, 3), word(0, 0, 3));
     holds("the bytes of JRR are wrong", memcmp(out, "\x23\x70\xEA", 3) == 0);
-    answers("decode of CALL", st62_decode(image, 4096, 113, row, sizeof row), word(0, 0, 2));
+    answers("decode of CALL", st62_decode(image, 4096, 113, 0, row, sizeof row), word(0, 0, 2));
     holds("the row of CALL is wrong", memcmp(row, call, sizeof row) == 0);
     answers("write in one byte", st62_write(row, ST62_ROW_WRITTEN, out, 1), word(ST62_BUFFER_LENGTH, 0, 0));
-    answers("decode of 05h", st62_decode(image, 4096, 115, row, sizeof row), word(ST62_UNDEFINED_OPCODE, 115, 0));
-    answers("decode at 1000h", st62_decode(image, 4096, 4096, row, sizeof row), word(ST62_ADDRESS_RANGE, 0, 0));
-    answers("decode in 4095", st62_decode(image, 4095, 110, row, sizeof row), word(ST62_IMAGE_LENGTH, 0, 0));
+    answers("decode of 05h", st62_decode(image, 4096, 115, 0, row, sizeof row), word(ST62_UNDEFINED_OPCODE, 115, 0));
+    answers("decode at 1000h", st62_decode(image, 4096, 4096, 0, row, sizeof row), word(ST62_ADDRESS_RANGE, 0, 0));
+    answers("decode in 4095", st62_decode(image, 4095, 110, 0, row, sizeof row), word(ST62_IMAGE_LENGTH, 0, 0));
+    answers("decode, bank 256", st62_decode(image, 4096, 110, 256, row, sizeof row), word(ST62_OPERAND_RANGE, 0, 0));
     row[ST62_ROW_FORM] = ST62_WAIT + 1;
     answers("write of no form", st62_write(row, ST62_ROW_WRITTEN, out, 3), word(ST62_OPERAND_RANGE, 0, 0));
     holds("a refused write left other bytes", memcmp(out, "\x23\x70\xEA", 3) == 0);
@@ -182,6 +183,36 @@ static void widths(void)
     answers("width without a mark", st62_width(image, SIZE, marks, SIZE, 200), word(ST62_CHECK_REFUSED, 0, 0));
 }
 
+/* Two pages and the fixed half: LDI CAh,01 in the fixed half, then JP 000h, where page 0 has RETI and page 1 STOP; both
+ * have JP 001h after it. */
+static void pages(void)
+{
+    static uint8_t image[3 * 2048], marks[4096];
+    uint8_t state[ST62_STATE_LENGTH], row[ST62_ROW_DECODED], report[ST62_REPORT_LENGTH];
+    memcpy(image, "\x4D\x19\x00", 3);
+    memcpy(image + 2048, "\x6D\x19\x00", 3);
+    memcpy(image + sizeof image - 5, "\x0D\xCA\x01\x09\x00", 5);
+    answers("decode in page 0", st62_decode(image, sizeof image, 0, 2, row, sizeof row), word(0, 0, 1));
+    holds("page 0 has no RETI", row[ST62_ROW_FORM] == ST62_RETI);
+    answers("decode in page 1", st62_decode(image, sizeof image, 0, 5, row, sizeof row), word(0, 0, 1));
+    holds("page 1 has no STOP", row[ST62_ROW_FORM] == ST62_STOP);
+    fresh(state);
+    state[ST62_STATE_PC] = 0xFB;
+    answers("run into page 1", st62_run(image, sizeof image, state, sizeof state, row, 0, 3, report, 8), word(0, 0, 0));
+    holds("page 1 did not sleep", state[0xCA] == 1 && state[ST62_STATE_ASLEEP] == 1 && state[ST62_STATE_PC] == 1);
+    answers("reset", st62_reset(state, sizeof state), word(0, 0, 0));
+    holds("reset left the bank byte", state[0xCA] == 0);
+    answers("check, marks as long as the image", st62_check(image, sizeof image, image, sizeof image, 0),
+            word(ST62_CERTIFICATE_LENGTH, 0, 0));
+    /* With page 0 in place 001h is main code, after RETI; with page 1 it is start-up code, after STOP. */
+    answers("make of pages that differ", st62_make(image, sizeof image, 0, marks, sizeof marks),
+            word(ST62_NO_CERTIFICATE, 0, 0));
+    image[2048] = 0x4D;
+    answers("make", st62_make(image, sizeof image, 0, marks, sizeof marks), word(0, 0, 0));
+    answers("check", st62_check(image, sizeof image, marks, sizeof marks, 0), word(0, 0, 0));
+    answers("width of 6K", st62_width(image, sizeof image, marks, sizeof marks, 0), word(ST62_CHECK_REFUSED, 0, 0));
+}
+
 int main(void)
 {
     static uint8_t image[SIZE], marks[SIZE];
@@ -191,6 +222,7 @@ int main(void)
     sessions(image);
     certificates(image, marks);
     widths();
+    pages();
     printf("smoke: %d calls\n", calls);
     return fflush(stdout) ? 1 : 0;
 }

@@ -23,8 +23,10 @@ STORED = os.path.join(ROOT, 'tests', 'st62')
 ST62 = os.path.abspath(os.environ.get('ST62', os.path.join(ROOT, 'target', 'bin', 'st62')))
 PUMP, MARKS, GAUGE, DEEP = (os.path.join('examples', name) for name in ('pump.hex', 'pump_marks.hex', 'gauge.hex', 'deep.hex'))
 RECORD = os.path.join('examples', 'pump.rec')
+PAGES = os.path.join('examples', 'pages.bin')
 END = ':00000001FF'
 SPACE = 4096
+HALF = 2048
 SOURCES = ('nmi', '1', '2', '3', '4')
 VECTORS = dict(zip(SOURCES, (0xFFC, 0xFF6, 0xFF4, 0xFF2, 0xFF0)))
 # A call that reads and prints takes milliseconds.
@@ -68,6 +70,16 @@ def read(path, mode='r'):
 def jump(opcode, target):
     """A JP (opcode 9) or CALL (opcode 1)."""
     return [target % 16 * 16 + opcode, target // 16]
+
+
+def halves(*parts):
+    """An image of halves, the pages first and the fixed half last: the code of each by its addresses."""
+    image = bytearray(len(parts) * HALF)
+    for number, part in enumerate(parts):
+        for address, code in part.items():
+            at = number * HALF + address % HALF
+            image[at:at + len(code)] = bytes(code)
+    return bytes(image)
 
 
 class Program:
@@ -279,7 +291,7 @@ class Images(Command):
         self.failed_on(PUMP, 'check', '--wired', 'nmi', '--raw', PUMP)
 
     def test_raw_of_other_lengths(self):
-        for length in (0, 1, 2, 2047, 2049, 4095, 4097, 6144, 65536):
+        for length in (0, 1, 2, 2047, 2049, 4095, 4097, 5120, 6143, 6145, 20479, 20481, 22528, 65536):
             path = self.file('image', bytes(length))
             self.failed_on(path, 'check', '--wired', 'nmi', path)
         two, four = self.file('two', self.image), self.file('four', bytes(2048) + self.image)
@@ -514,6 +526,156 @@ class Answers(Command):
         self.assertIn('524288', ended.out.replace(',', ''))
         ended = st62('play', PUMP, self.file('longer.rec', b'\2\x10\0\2' + body + bytes(2)))
         self.assertIn(ended.code, (1, 2))
+
+
+class Pages(Command):
+    """Raw images of several pages. The main code of all calls 3F0h, which each page has by itself."""
+
+    FIXED = {0xFFE: jump(9, 0x880), 0x880: [0x4D] + jump(1, 0x3F0) + jump(9, 0x881)}
+    RET, RETI, UNDEFINED = [0xCD], [0x4D], [0x05]
+
+    def image(self, *codes, **more):
+        """An image whose pages have these codes at 3F0h; `page` and `fixed` have what else there is."""
+        pages = [{0x3F0: code, **more.get('page', {})} for code in codes]
+        return self.file('image', halves(*pages, {**self.FIXED, **more.get('fixed', {})}))
+
+    def marks(self, marked):
+        """Raw marks: those of the main code, of kind 4 at 3F0h, and these."""
+        marks = bytearray(SPACE)
+        for address, mark in {0xFFE: 0x11, 0x880: 0x11, 0x881: 0x21, 0x883: 0x21, 0x3F0: 0x40, **marked}.items():
+            marks[address] = mark
+        return self.file('marks', bytes(marks))
+
+    def test_sizes(self):
+        for pages in range(2, 10):
+            path = self.image(*[self.RET] * pages)
+            ended = self.accepted(1, 'check', '--wired', 'none', path)
+            self.assertIn(f'image: {2 * pages + 2}K, {pages} pages and the fixed half, by the file\'s size; CRC-32 ', ended.out)
+            self.assertIn(f'{zlib.crc32(read(path, "rb")):08X}', ended.out)
+            self.assertEqual(st62('check', '--wired', 'none', '--raw', path).out, ended.out)
+            for size in ('2K', '4K'):
+                self.failed_on(path, 'check', '--wired', 'none', '--rom', size, path)
+
+    def test_code_in_the_fixed_half(self):
+        """What no code reaches does not matter: the answer is that of the fixed half alone, an image of 2K."""
+        rng = random.Random(210)
+        for pages in range(2, 10):
+            program = Program(rng, HALF)
+            paged = self.file('paged', bytes([0]) + rng.randbytes(pages * HALF - 1) + program.image)
+            ended = st62('check', '--wired', program.wired_list(), paged)
+            want = st62('check', '--wired', program.wired_list(), self.file('fixed', program.image))
+            self.assertEqual((ended.code, ended.first, ended.err), (want.code, want.first, ''))
+
+    def test_certificates(self):
+        """4096 marks, however many pages there are, which the check accepts; each listed page has a line for 3F0h."""
+        for pages in range(2, 10):
+            path, out = self.image(*[self.RET] * pages), self.path(f'{pages}.marks')
+            self.accepted(1, 'certify', '--wired', 'none', path, '-o', out)
+            self.assertEqual(read(out, 'rb'), read(self.marks({}), 'rb'))
+            self.accepted(1, 'check', '--wired', 'none', '--marks', out, path)
+            listed = st62('list', '--marks', out, path).out.split('\n')
+            self.assertEqual([line[:5] for line in listed[:pages]], [f'{page}:3F0' for page in range(pages)])
+            self.assertEqual([line[:3] for line in listed[pages:pages + 4]], ['880', '881', '883', 'FFE'])
+
+    def test_marks_of_another_length(self):
+        path = self.image(self.RET, self.RET)
+        for length in (0, HALF, SPACE - 1, SPACE + 1, 3 * HALF):
+            ended = self.refused('check', '--wired', 'none', '--marks', self.file('marks', bytes(length)), path)
+            self.assertEqual(ended.out.split('\n')[:2], ['refused 13', 'there must be 4096 marks, one for each address'])
+
+    def test_marks_in_hex(self):
+        marks = self.file('marks.hex', records(read(self.marks({}), 'rb')))
+        self.accepted(1, 'check', '--wired', 'none', '--marks', marks, self.image(self.RET, self.RET))
+
+    def reason(self, lines, *words):
+        """The lines from the answer on, up to the one that says with which page it was found."""
+        ended = self.refused(*words)
+        self.assertEqual(ended.out.split('\n')[:len(lines)], lines)
+
+    def test_no_certificate(self):
+        """26: the first rule that cannot be met, with the first page with which it cannot."""
+        begun = 'no marks are accepted; those of all code that can be reached: '
+        self.reason(['refused 26', begun + 'refused 5 3F0', 'the byte 05 at 2:3F0 is no instruction', 'with page 2 in place'],
+                    'check', '--wired', 'none', self.image(self.RET, self.RET, self.UNDEFINED, self.UNDEFINED))
+        self.reason(['refused 26', begun + 'refused 15 3F0', 'RETI at 1:3F0 stands in code of kind subroutine (mark 40)',
+                     'RET stands only in subroutines, RETI only in start-up and service code', 'with page 1 in place'],
+                    'check', '--wired', 'none', self.image(self.RET, self.RETI))
+        self.reason(['refused 26', begun + 'refused 17 3F0',
+                     'CALL 3F0h at 1:3F0 leads deeper than six levels, or into a subroutine that calls itself', 'with page 1 in place'],
+                    'check', '--wired', 'none', self.image(self.RET, jump(1, 0x3F0) + self.RET, page={0x3F2: self.RET}))
+
+    def test_reached_in_one_page(self):
+        """What one page leads to is marked for all: 400h, where another page has nothing that may stand there."""
+        path = self.image(self.RET, jump(9, 0x400), page={0x400: self.RET})
+        self.accepted(1, 'check', '--wired', 'none', path)
+        path = self.file('image', halves({0x3F0: self.RET, 0x400: self.UNDEFINED}, {0x3F0: jump(9, 0x400), 0x400: self.RET}, self.FIXED))
+        self.reason(['refused 26', 'no marks are accepted; those of all code that can be reached: refused 5 400',
+                     'the byte 05 at 0:400 is no instruction', 'with page 0 in place'], 'check', '--wired', 'none', path)
+
+    def test_refused_marks(self):
+        """16 and 17 with marks that are given: the instruction and where it leads, in the page with which it was found."""
+        path = self.image(self.RET, self.RET, jump(9, 0x400), page={0x400: self.RET})
+        self.reason(['refused 16 3F0', 'JP 400h at 2:3F0 leads to 2:400, which is unmarked (mark 00)',
+                     'there must be a mark of kind subroutine', 'with page 2 in place'],
+                    'check', '--wired', 'none', '--marks', self.marks({}), path)
+        self.reason(['refused 17 3F0', 'JP 400h at 2:3F0 needs 1 further level; its mark allows 0',
+                     'it leads to 2:400, which is subroutine (mark 41)', 'with page 2 in place'],
+                    'check', '--wired', 'none', '--marks', self.marks({0x400: 0x41}), path)
+
+    def test_no_page_in_words(self):
+        """A mark and a vector stand for all pages."""
+        path = self.image(self.RET, self.RET)
+        for marked, wired, lines in (({0x3F0: 0x77}, 'none', ['refused 14 3F0', 'the mark at 3F0 is malformed: ']),
+                                     ({}, 'nmi', ['refused 18 FFC', 'the vector FFC is unmarked'])):
+            ended = self.refused('check', '--wired', wired, '--marks', self.marks(marked), path)
+            self.assertEqual(ended.first, lines[0])
+            self.assertIn(lines[1], ended.out)
+            self.assertNotIn('in place', ended.out)
+
+    def test_fixed_half_that_depends_on_the_page(self):
+        """JP at FFFh has its second byte at 000h: 88h in page 0, 99h in page 1."""
+        image = halves({0: [0x88]}, {0: [0x99]}, {0xFFE: [0x04, 0x09], 0x880: [0x4D] + jump(9, 0x881)})
+        marks = bytearray(SPACE)
+        marks[0xFFE] = marks[0xFFF] = marks[0x880] = 0x10
+        marks[0x881] = 0x20
+        self.reason(['refused 16 FFF', 'JP 990h at FFF leads to 990, which is unmarked (mark 00)',
+                     'there must be a mark of kind start-up', 'with page 1 in place'],
+                    'check', '--wired', 'none', '--marks', self.file('marks', bytes(marks)), self.file('image', image))
+
+    def test_trace(self):
+        """A change of page in a page: the next instruction is the other page's. The ROM window shows it too."""
+        image = self.file('image', halves(
+            {0x100: [0x4D, 0x0D, 0xC9, 0x04, 0x1F, 0x40, 0x0D, 0xCA, 0x03]},
+            {0x100: [0x77], 0x109: [0x1F, 0x40, 0xCD]}, {0xFFE: jump(9, 0x100)}))
+        lines = st62('trace', image, '--steps', '9').out.split('\n')
+        self.assertEqual([line.split()[1:4] for line in lines[:6]],
+                         [['FFE', 'JP', '100h'], ['0:100', 'RETI', '-'], ['0:101', 'LDI', 'C9h,04h'], ['0:104', 'LD', 'A,40h'],
+                          ['0:106', 'LDI', 'CAh,03h'], ['1:109', 'LD', 'A,40h']])
+        self.assertIn(' ROM 0:100 levels 0, 4 cycles; A 4D', lines[3])
+        self.assertIn(' ROM 1:100 levels 0, 4 cycles; A 77', lines[5])
+        self.assertEqual(lines[6:9], ['refused 7 10B', 'a pop of an empty stack at 1:10B', 'with page 1 in place'])
+
+    def test_play(self):
+        """The PC at the end with its page, return addresses without."""
+        ended = st62('play', PAGES, os.path.join('tests', 'st62', 'in_page.rec'))
+        self.assertEqual(ended.code, 0)
+        self.assertIn('\nPC 1:001, mode normal\nlevels: 1 899\n', ended.out)
+
+    def test_size(self):
+        """23 before marks are read or made, also where there are none."""
+        for image in (PAGES, self.image(self.UNDEFINED, self.RET)):
+            for words in ((), ('--marks', self.marks({}))):
+                ended = self.refused('size', image, '--count', '1', *words)
+                self.assertEqual(ended.out.split('\n')[:2], ['refused 23', 'the gauge takes images of 2K and 4K only'])
+
+    def test_little_stack(self):
+        """A stack of 2 MiB is enough for the largest image."""
+        def limit():
+            resource.setrlimit(resource.RLIMIT_STACK, (2 << 20, 2 << 20))
+        path = self.image(*[self.RET] * 9)
+        for words in (('check', '--wired', 'nmi', path), ('check', '--wired', 'none', '--marks', self.marks({}), path), ('list', path),
+                      ('trace', path, '--steps', '20'), ('size', path, '--count', '1'), ('play', path, RECORD)):
+            self.assertIn(st62(*words, preexec_fn=limit).code, (0, 1), words)
 
 
 class Certificates(Command):

@@ -1,6 +1,6 @@
 //! The certificate check.
 
-use crate::chip::{decode_at, Instruction, Rom, NO_SOURCE, RESET_VECTOR, VECTORS};
+use crate::chip::{decode_at, Instruction, Rom, Space, NO_SOURCE, RESET_VECTOR, VECTORS};
 use crate::Refusal;
 
 pub(crate) const START_UP: u8 = 1;
@@ -28,17 +28,30 @@ impl Mark {
 /// Checks a certificate against an image; gives the levels.
 pub fn check(image: &[u8], certificate: &[u8], wired: u8) -> Result<u8, Refusal> {
     let rom = Rom::new(image)?;
-    if certificate.len() != image.len() {
+    if certificate.len() != rom.addresses() {
         return Err(Refusal::CertificateLength);
     }
     if wired & NO_SOURCE != 0 {
         return Err(Refusal::Request);
     }
+    match rom {
+        Rom::Flat(flat) => check_all(flat, certificate, wired),
+        Rom::Paged(paged) => check_all(paged, certificate, wired),
+    }
+}
+
+/// The marked addresses upward, each with every page in place; then vectors
+/// and levels.
+fn check_all<S: Space>(rom: S, certificate: &[u8], wired: u8) -> Result<u8, Refusal> {
+    let other_pages: Vec<S> = rom.with_each_page().skip(1).collect();
     for (index, &byte) in certificate.iter().enumerate() {
         if byte != 0 {
             let address = rom.base() + index as u16;
             let mark = Mark::new(byte).ok_or(Refusal::Mark(address))?;
             check_address(&rom, certificate, address, mark)?;
+            for rom in &other_pages {
+                check_address(rom, certificate, address, mark)?;
+            }
         }
     }
     check_levels(&rom, certificate, wired)
@@ -46,14 +59,27 @@ pub fn check(image: &[u8], certificate: &[u8], wired: u8) -> Result<u8, Refusal>
 
 /// The mark at an address in ROM, if it is marked and well-formed.
 #[inline]
-fn mark_at(rom: &Rom, certificate: &[u8], address: u16) -> Option<Mark> {
+fn mark_at(rom: &impl Space, certificate: &[u8], address: u16) -> Option<Mark> {
     let index = (address as usize).checked_sub(rom.base() as usize)?;
     Mark::new(*certificate.get(index)?)
 }
 
-/// The rules at one marked address.
+/// What a marked address is refused with, page by page; its mark is good.
+pub fn refusals_by_page(image: &[u8], certificate: &[u8], address: u16) -> Vec<Option<Refusal>> {
+    let rom = Rom::new(image).expect("a good image");
+    let mark = mark_at(&rom, certificate, address).expect("a good mark");
+    let with_page = |rom: Rom| check_address(&rom, certificate, address, mark).err();
+    rom.with_each_page().map(with_page).collect()
+}
+
+/// The rules at one marked address, with a page in place.
 #[inline]
-fn check_address(rom: &Rom, certificate: &[u8], address: u16, mark: Mark) -> Result<(), Refusal> {
+fn check_address(
+    rom: &impl Space,
+    certificate: &[u8],
+    address: u16,
+    mark: Mark,
+) -> Result<(), Refusal> {
     use Instruction::*;
     let after = |bytes: u16| (address + bytes) & 0xFFF;
     let moved = |bytes: u16, by: i8| after(bytes).wrapping_add_signed(by as i16) & 0xFFF;
@@ -105,7 +131,7 @@ pub(crate) fn length(instruction: Instruction) -> u16 {
 }
 
 /// The rules at the vectors, and the levels.
-fn check_levels(rom: &Rom, certificate: &[u8], wired: u8) -> Result<u8, Refusal> {
+fn check_levels(rom: &impl Space, certificate: &[u8], wired: u8) -> Result<u8, Refusal> {
     let need = |vector: u16, kind: u8| match mark_at(rom, certificate, vector) {
         Some(mark) if mark.kind == kind => Ok(mark.need),
         _ => Err(Refusal::Vector(vector)),

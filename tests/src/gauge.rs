@@ -2,7 +2,7 @@
 //! a slide count.
 
 use crate::check::check;
-use crate::chip::{Machine, MOST_STEPS};
+use crate::chip::{Machine, HALF, MOST_STEPS};
 use crate::Refusal;
 
 /// Where a program finds the slide count.
@@ -11,6 +11,8 @@ pub const COUNT: u8 = 0xC0;
 pub const WIDTH: [u8; 2] = [0x84, 0x85];
 
 const NOTHING_WIRED: u8 = 0;
+/// The gauge takes no images with more than one page.
+const LONGEST: usize = 2 * HALF;
 
 /// A width in tenths of a millimetre, and the steps it took. The step that
 /// falls asleep is one of them.
@@ -22,7 +24,7 @@ pub struct Gauged {
 
 /// Runs an accepted program from a fresh machine until it sleeps.
 pub fn gauge(image: &[u8], certificate: &[u8], count: u8) -> Result<Gauged, Refusal> {
-    if check(image, certificate, NOTHING_WIRED).is_err() {
+    if image.len() > LONGEST || check(image, certificate, NOTHING_WIRED).is_err() {
         return Err(Refusal::NotAccepted);
     }
     let mut machine = Machine::default();

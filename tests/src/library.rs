@@ -7,7 +7,7 @@
 macro_rules! functions {
     ($to:ident) => {
         $to! {
-            st62_decode decode(image: &[u8], address: u32, out: &mut [u8]);
+            st62_decode decode(image: &[u8], address: u32, bank: u32, out: &mut [u8]);
             st62_write write(fields: &[u8], out: &mut [u8]);
             st62_reset reset(state: &mut [u8]);
             st62_store store(state: &mut [u8], address: u32, value: u32);

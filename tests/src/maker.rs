@@ -1,9 +1,10 @@
 //! The certificate maker (document 02, W-202): the accepted certificate that
 //! marks only what is reachable, with the least need at each address. Plain
-//! passes find it: over everything, until a pass changes nothing.
+//! passes find it: over everything, until a pass changes nothing. With pages
+//! (W-210) all that may stand at an address counts.
 
 use crate::check::{check, length, MAIN, MOST_NEED, SERVICE, START_UP, SUBROUTINE};
-use crate::chip::{decode_at, Instruction, Rom, NO_SOURCE, RESET_VECTOR, SPACE, VECTORS};
+use crate::chip::{decode_at, Instruction, Rom, Space, NO_SOURCE, RESET_VECTOR, SPACE, VECTORS};
 use crate::Refusal;
 
 const UNMARKED: u8 = 0;
@@ -41,7 +42,7 @@ pub fn make(image: &[u8], wired: u8, out: &mut [u8]) -> Result<u8, Refusal> {
     if wired & NO_SOURCE != 0 {
         return Err(Refusal::Request);
     }
-    if out.len() != image.len() {
+    if out.len() != rom.addresses() {
         return Err(Refusal::CertificateBuffer);
     }
     let (certificate, levels) = least(&rom, image, wired).map_err(|_| Refusal::NoCertificate)?;
@@ -59,7 +60,10 @@ pub fn reason(image: &[u8], wired: u8) -> Option<Reason> {
 /// The certificate that has no mark and no need but those that the rules
 /// force, and what the check answers for it.
 fn least(rom: &Rom, image: &[u8], wired: u8) -> Result<(Vec<u8>, u8), Reason> {
-    let code = decoded(rom);
+    let code = match rom {
+        Rom::Flat(flat) => Code::new(*flat),
+        Rom::Paged(paged) => Code::new(*paged),
+    };
     let kinds = kinds(&code, wired)?;
     let needs = needs(&rules(&code, &kinds)?)?;
     let marks = kinds.iter().zip(&needs).map(|(kind, need)| kind << 4 | need);
@@ -71,16 +75,35 @@ fn least(rom: &Rom, image: &[u8], wired: u8) -> Result<(Vec<u8>, u8), Reason> {
     }
 }
 
-/// By address, and for all 4096, so that one outside ROM is a reason like
-/// the others.
-type Code = Vec<Result<Instruction, Reason>>;
+/// What stands at each address with the first page in place, and what else may
+/// stand there with the others. All 4096 addresses are there, so that one
+/// outside ROM is a reason like the others.
+struct Code {
+    first: Vec<Decoded>,
+    others: Vec<(u16, Decoded)>,
+}
 
-fn decoded(rom: &Rom) -> Code {
+type Decoded = Result<Instruction, Reason>;
+
+impl Code {
+    fn new(rom: impl Space) -> Self {
+        let first = decoded(rom);
+        let mut others = Vec::new();
+        for page in rom.with_each_page().skip(1).map(decoded) {
+            let lines = (0..).zip(page).zip(&first);
+            others
+                .extend(lines.filter(|((_, other), first)| other != *first).map(|(line, _)| line));
+        }
+        Code { first, others }
+    }
+}
+
+fn decoded(rom: impl Space) -> Vec<Decoded> {
     let reason = |refusal| match refusal {
         Refusal::OutsideRom(_) => Reason::OutsideRom,
         _ => Reason::Undefined,
     };
-    (0..SPACE).map(|address| decode_at(rom, address).map_err(reason)).collect()
+    (0..SPACE).map(|address| decode_at(&rom, address).map_err(reason)).collect()
 }
 
 /// A place where an instruction may continue: the kind that it must have, and
@@ -140,19 +163,29 @@ fn starts(wired: u8) -> Vec<u8> {
     kinds
 }
 
-/// One pass over all addresses: where a reached instruction may continue is
-/// reached too. Tells whether any was new.
+/// One pass over all that stands somewhere: where a reached instruction may
+/// continue is reached too. Tells whether any was new.
 fn reach(code: &Code, kinds: &mut [u8]) -> Result<bool, Reason> {
     let mut any = false;
     for address in 0..SPACE {
-        let kind = kinds[address as usize];
-        if kind != UNMARKED {
-            let [first, second] = places(code[address as usize]?, address, kind)?;
-            any |= give_kind(kinds, first)?;
-            any |= give_kind(kinds, second)?;
-        }
+        any |= go_on(kinds, address, || code.first[address as usize])?;
+    }
+    for &(address, other) in &code.others {
+        any |= go_on(kinds, address, || other)?;
     }
     Ok(any)
+}
+
+/// Reaches the places where what stands at an address may continue, if it is
+/// reached; tells whether any was new.
+#[inline(always)]
+fn go_on(kinds: &mut [u8], address: u16, line: impl Fn() -> Decoded) -> Result<bool, Reason> {
+    let kind = kinds[address as usize];
+    if kind == UNMARKED {
+        return Ok(false);
+    }
+    let [first, second] = places(line()?, address, kind)?;
+    Ok(give_kind(kinds, first)? | give_kind(kinds, second)?)
 }
 
 /// Gives a place its kind; tells whether it had none.
@@ -170,9 +203,17 @@ type Rule = (u16, Place);
 
 fn rules(code: &Code, kinds: &[u8]) -> Result<Vec<Rule>, Reason> {
     let mut rules = Vec::new();
-    for address in (0..SPACE).filter(|&address| kinds[address as usize] != UNMARKED) {
-        let places = places(code[address as usize]?, address, kinds[address as usize])?;
+    let mut add = |address: u16, line: Decoded| {
+        let places = places(line?, address, kinds[address as usize])?;
         rules.extend(places.into_iter().flatten().map(|place| (address, place)));
+        Ok(())
+    };
+    let marked = |address: &u16| kinds[*address as usize] != UNMARKED;
+    for address in (0..SPACE).filter(marked) {
+        add(address, code.first[address as usize])?;
+    }
+    for &(address, other) in code.others.iter().filter(|(address, _)| marked(address)) {
+        add(address, other)?;
     }
     Ok(rules)
 }

@@ -1,8 +1,10 @@
 //! Stands in for the proved library: the same functions, on this crate's own
-//! emulator; only its certificate maker, its player, its reading and its
-//! telling of origins are others. `ST62_MOCK_FAULT` names a fault to inject,
-//! so that one can see the comparison find it.
+//! emulator; only its certificate maker, its player, its reading, its telling
+//! of origins and all that it does with pages are others. `ST62_MOCK_FAULT`
+//! names a fault to inject, so that one can see the comparison find it.
 
+mod bank;
+mod check;
 mod make;
 mod origin;
 mod play;
@@ -12,12 +14,13 @@ use crate::boundary;
 use crate::gauge::Gauged;
 use std::sync::OnceLock;
 
+pub use check::check;
 pub use make::make;
 pub use origin::read;
 pub use play::play;
 
 /// The faults that can be injected.
-pub const FAULTS: [&str; 180] = [
+pub const FAULTS: [&str; 235] = [
     "decode-bit",      // bit numbers unreversed
     "com-carry",       // COM leaves C clear
     "rlc-low",         // RLC shifts in 0
@@ -198,6 +201,61 @@ pub const FAULTS: [&str; 180] = [
     "long-entries",    // it ends after 65,535 entries
     "long-first-3",    // version 1's count has three bytes too
     "long-first-most", // 65,535 is refused in version 1
+    "bank-halves",     // the bank byte modulo the number of halves
+    "bank-nibble",     // four bits of it count
+    "bank-signed",     // seven bits do
+    "bank-clamp",      // one beyond the last page picks the last page
+    "bank-from-1",     // pages are counted from 1
+    "bank-power",      // modulo the next power of two first
+    "bank-first",      // the first page is always in place
+    "bank-fixed-0",    // the fixed half comes first in the image
+    "bank-2k",         // a bank byte shows the half of a 2K image below 800h
+    "bank-4k",         // one takes the page of a 4K image away
+    "bank-11",         // eleven halves are taken
+    "bank-10",         // ten are refused
+    "bank-odd",        // odd numbers of halves from 3 on are
+    "bank-ragged",     // lengths between whole halves are taken
+    "bank-7ff",        // after 7FFh comes the next page
+    "bank-7ff-wrap",   // after 7FFh comes the page's first byte
+    "bank-fff",        // after FFFh comes page 0
+    "bank-window-0",   // the window shows page 0
+    "bank-window-raw", // it shows the image's first 4,096 bytes
+    "bank-end",        // a step's page is the one at its end
+    "bank-run",        // a run's page is the one at its start
+    "bank-late",       // in runs pages change a step late
+    "bank-taken",      // a taken request clears the bank byte
+    "bank-origin",     // ROM addresses are indices in the image
+    "bank-read-0",     // reads show page 0
+    "bank-decode-0",   // decoding ignores the bank byte
+    "bank-decode-mod", // one beyond its byte is cut to it
+    "bank-decode-9",   // one above 9 is refused
+    "bank-decode-1",   // 1 before 8
+    "bank-decode-3",   // 3 before 8
+    "bank-reset",      // reset keeps the bank byte
+    "bank-reset-ill",  // it keeps that of ill-formed machines
+    "bank-reset-next", // it clears 0CBh too
+    "bank-store",      // the host's store to 0CAh keeps five bits
+    "paged-check-0",   // marks are looked at with page 0 alone
+    "paged-check-two", // with the first two pages alone
+    "paged-last",      // with all but the last page
+    "paged-down",      // with the last page first
+    "paged-rule",      // with all pages for each rule
+    "paged-page",      // all marks with a page before those with the next
+    "paged-check-14",  // malformed marks are looked for first
+    "paged-check-end", // the fixed half is looked at with page 0 alone
+    "paged-13-image",  // certificates are measured by the image
+    "paged-25-image",  // the maker's buffer is
+    "paged-make-0",    // a certificate is made of page 0
+    "paged-make-last", // of all but the last page
+    "paged-make-need", // needs are those of page 0
+    "paged-make-end",  // what leaves the fixed half is seen with page 0
+    "paged-make-two",  // a second page's other code is refused
+    "paged-width",     // the gauge takes images with pages
+    "paged-width-1",   // it refuses them with 1
+    "paged-width-8",   // 23 for them comes before 8
+    "paged-job",       // jobs take them
+    "play-bank-0",     // a playing keeps page 0
+    "play-unpaged",    // images with pages are refused
 ];
 
 fn fault() -> Option<&'static str> {
@@ -213,20 +271,50 @@ fn faulty(name: &str) -> bool {
     fault() == Some(name)
 }
 
-pub fn decode(image: &[u8], address: u32, out: &mut [u8]) -> u64 {
-    let answer = boundary::decode(image, address, out);
+pub fn decode(image: &[u8], address: u32, bank: u32, out: &mut [u8]) -> u64 {
+    let Some(bank) = bank_byte(image, address, bank) else { return 8 };
+    let answer = boundary::decode(&bank::seen(image, bank), address, 0, out);
     if faulty("decode-bit") && boundary::number(answer) == 0 && (6..=9).contains(&out[0]) {
         out[5] = (out[5] << 5).reverse_bits();
     }
     answer
 }
 
-pub fn step(image: &[u8], state: &mut [u8], request: u32) -> u64 {
-    any_step(false, image, state, request)
+/// The bank byte that a decode is given, unless that refuses it.
+fn bank_byte(image: &[u8], address: u32, bank: u32) -> Option<u8> {
+    let beyond = bank > 255;
+    match fault() {
+        Some("bank-decode-0") if !beyond => Some(0),
+        Some("bank-decode-mod") => Some(bank as u8),
+        Some("bank-decode-9") if bank > 9 => None,
+        Some("bank-decode-1") if beyond && bank::halves(image).is_none() => Some(0),
+        Some("bank-decode-3") if beyond && address > 0xFFF => Some(0),
+        _ => u8::try_from(bank).ok(),
+    }
 }
 
-/// One step, alone or in a run, with the fault.
-fn any_step(in_run: bool, image: &[u8], state: &mut [u8], request: u32) -> u64 {
+pub fn step(image: &[u8], state: &mut [u8], request: u32) -> u64 {
+    any_step(false, image, state, request, bank::bank(state))
+}
+
+/// One step, alone or in a run, with a bank byte and with the fault.
+fn any_step(in_run: bool, image: &[u8], state: &mut [u8], request: u32, bank: u8) -> u64 {
+    let before = state.to_vec();
+    let seen = bank::seen_by_step(image, state, bank);
+    let mut answer = step_of_seen(in_run, &seen, state, request);
+    if faulty("bank-end") && bank::bank(state) != bank {
+        let seen = bank::seen(image, bank::bank(state));
+        state.copy_from_slice(&before);
+        answer = step_of_seen(in_run, &seen, state, request);
+    }
+    if faulty("bank-taken") && answer == 1 << 24 {
+        state[0xCA] = 0;
+    }
+    bank::told_by_index(image, bank, answer)
+}
+
+/// The same of an image without pages, or with one.
+fn step_of_seen(in_run: bool, image: &[u8], state: &mut [u8], request: u32) -> u64 {
     let before = state.to_vec();
     // Without the enable bit only NMI is seen.
     let seen = if faulty("zero-enable") && request < 0x20 { request & 1 } else { request };
@@ -276,8 +364,9 @@ pub fn run(image: &[u8], state: &mut [u8], requests: &[u8], n: u32, report: &mut
         return 11;
     }
     let before = state.to_vec();
-    let answer = boundary::run(image, state, requests, n, report);
-    if fault().is_none() {
+    let seen = bank::seen(image, bank::bank(state));
+    let answer = boundary::run(&seen, state, requests, n, report);
+    if fault().is_none() && image.len() <= 4096 {
         return answer;
     }
     if !matches!(boundary::number(answer), 0 | 4..=7) {
@@ -296,12 +385,21 @@ pub fn run(image: &[u8], state: &mut [u8], requests: &[u8], n: u32, report: &mut
     answer
 }
 
-/// A run made of steps, so that it has their faults: steps, cycles, answer.
+/// A run made of steps, so that it has their faults, and pages change: steps,
+/// cycles, answer.
 fn faulty_steps(image: &[u8], state: &mut [u8], requests: &[u8], n: u32) -> (u32, u32, u64) {
     let (mut steps, mut cycles) = (0, 0);
+    let first = bank::bank(state);
+    let mut last = first;
     while steps < n {
         let request = requests.get(steps as usize).copied().unwrap_or(0);
-        let answer = any_step(true, image, state, request as u32);
+        let bank = match fault() {
+            Some("bank-run") => first,
+            Some("bank-late") => last,
+            _ => bank::bank(state),
+        };
+        last = bank::bank(state);
+        let answer = any_step(true, image, state, request as u32, bank);
         if boundary::number(answer) != 0 {
             return (steps, cycles, answer);
         }
@@ -309,22 +407,6 @@ fn faulty_steps(image: &[u8], state: &mut [u8], requests: &[u8], n: u32) -> (u32
         cycles += boundary::cycles(answer);
     }
     (steps, cycles, 0)
-}
-
-pub fn check(image: &[u8], certificate: &[u8], wired: u32) -> u64 {
-    let answer = boundary::check(image, certificate, wired);
-    if faulty("check-levels") && answer == 19 {
-        return 7 << 24;
-    }
-    if faulty("check-need") && boundary::number(answer) == 17 {
-        let index = boundary::address(answer) as usize + image.len() - 0x1000;
-        if image[index] & 0x0F == 1 && certificate[index] & 0x0F < 6 {
-            let mut mended = certificate.to_vec();
-            mended[index] += 1;
-            return check(image, &mended, wired);
-        }
-    }
-    answer
 }
 
 pub fn write(fields: &[u8], out: &mut [u8]) -> u64 {
@@ -337,33 +419,65 @@ pub fn write(fields: &[u8], out: &mut [u8]) -> u64 {
 }
 
 pub fn reset(state: &mut [u8]) -> u64 {
-    let before = state.get(0xC9).copied();
+    let before = state.to_vec();
     let answer = boundary::reset(state);
-    if faulty("reset-window") && answer == 0 {
-        state[0xC9] = before.unwrap_or(0);
+    if answer != 0 {
+        return answer;
+    }
+    match fault() {
+        Some("reset-window") => state[0xC9] = before[0xC9],
+        Some("bank-reset") => state[0xCA] = before[0xCA],
+        Some("bank-reset-ill") if boundary::read(&[0; 2048], &before, 0) == 2 => {
+            state[0xCA] = before[0xCA];
+        }
+        Some("bank-reset-next") => state[0xCB] = 0,
+        _ => {}
     }
     answer
 }
 
 pub fn store(state: &mut [u8], address: u32, value: u32) -> u64 {
     let answer = boundary::store(state, address, value);
-    if faulty("store-mask") && answer == 0 && address == 0xC9 {
-        state[0xC9] &= 0x3F;
+    match (fault(), address) {
+        (Some("store-mask"), 0xC9) if answer == 0 => state[0xC9] &= 0x3F,
+        (Some("bank-store"), 0xCA) if answer == 0 => state[0xCA] &= 0x1F,
+        _ => {}
     }
     answer
 }
 
 pub fn job(job: &[u8], line: &mut [u8]) -> u64 {
     let answer = boundary::job(job, line);
+    if let Some(levels) = paged_job(job).filter(|_| faulty("paged-job")) {
+        let text = format!("accepted {levels}\n");
+        line.iter_mut().zip(text.bytes()).for_each(|(place, byte)| *place = byte);
+    }
     if faulty("job-case") && boundary::number(answer) == 0 {
         line[..boundary::value(answer) as usize].make_ascii_lowercase();
     }
     answer
 }
 
+/// The levels of a job with pages, if it would be one.
+fn paged_job(job: &[u8]) -> Option<u32> {
+    let [1, high, low, wired, rest @ ..] = job else { return None };
+    let (image, certificate) = rest.split_at_checked(rest.len().checked_sub(4096)?)?;
+    let counted = u16::from_be_bytes([*high, *low]) as usize == 1 + rest.len();
+    let answer = check(image, certificate, *wired as u32);
+    (counted && boundary::number(answer) == 0).then_some(boundary::value(answer))
+}
+
 pub fn width(image: &[u8], certificate: &[u8], count: u32) -> u64 {
-    let answer = boundary::width(image, certificate, count);
-    let refused = || boundary::number(boundary::check(image, certificate, 0));
+    let refused = || boundary::number(check(image, certificate, 0));
+    let paged = image.len() > 4096 && count < 256;
+    let answer = match fault() {
+        Some("paged-width") if paged && refused() == 0 => {
+            boundary::width(&bank::seen(image, 0), certificate, count)
+        }
+        Some("paged-width-1") if paged => 1,
+        Some("paged-width-8") if image.len() > 4096 => 23,
+        _ => boundary::width(image, certificate, count),
+    };
     let Gauged { width, steps } = boundary::gauged(answer);
     match (fault(), boundary::number(answer)) {
         (Some("width-bytes"), 0) => (steps as u64) << 40 | (width.swap_bytes() as u64) << 24,

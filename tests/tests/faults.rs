@@ -12,6 +12,8 @@ fn part_of(fault: &str) -> Option<&'static str> {
         Some("make") => Some("makes"),
         Some("origin" | "read") => Some("origins"),
         Some("stored" | "zero") => Some("write-only"),
+        Some("bank") => Some("banks"),
+        Some("paged") => Some("pages"),
         Some("play" | "long") => Some("playing"),
         _ => None,
     }
@@ -82,6 +84,25 @@ fn other_parts_read_write_only_registers() {
     }
 }
 
+/// So do they with pages, and the programs change them.
+#[test]
+fn other_parts_have_pages() {
+    for (fault, part) in [
+        ("bank-7ff", "opcodes"),
+        ("bank-decode-0", "decodes"),
+        ("bank-first", "steps"),
+        ("bank-decode-mod", "refusals"),
+        ("bank-reset-ill", "resets"),
+        ("bank-store", "stores"),
+        ("bank-window-0", "origins"),
+        ("bank-late", "programs"),
+        ("paged-check-0", "checks"),
+        ("paged-job", "pages"),
+    ] {
+        is_found(fault, Some(part));
+    }
+}
+
 /// A playing is also its entries one by one: with a fault in a step, a store
 /// or a reset alone it is another than the mock's. What is found in long
 /// records is made short.
@@ -126,7 +147,31 @@ fn what_was_not_met_is_printed() {
         " version 2 ended by 11 last,",
         " version 2 entry by entry, version 2 demand 3",
     ];
-    for (title, missing) in [("write-only registers", &registers[..]), ("playings", &playings)] {
+    let pages = [
+        " reset of one in an ill-formed machine,",
+        " a bank beyond its byte,",
+        " decode of 2 halves,",
+        " make of 10 halves,",
+        " play of bad lengths,",
+        " single step: all of 9 pages,",
+        " window of a step: all bank bytes,",
+        " step in a run FFFh to 000h,",
+        " changed in runs by LD-to (Y),",
+        " changed in runs by DEC (Y)",
+    ];
+    let programs = [
+        " 14, 18, 19, 13 for a certificate as long as the image,",
+        " a greater number with an earlier page,",
+        " 17 with page 8,",
+        " made with pages,",
+        " none made with pages: two kinds,",
+    ];
+    for (title, missing) in [
+        ("write-only registers", &registers[..]),
+        ("playings", &playings),
+        ("pages", &pages),
+        ("programs with pages", &programs),
+    ] {
         let title = format!("NOT MET: {title}");
         let line = text.lines().find(|line| line.starts_with(&title));
         let line = line.unwrap_or_else(|| panic!("{text}"));

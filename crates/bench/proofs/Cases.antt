@@ -28,6 +28,7 @@ unfolding leaves levelsInUse runOf requestsFit stepsOf resetOf freshOf Step.step
     Step.uninterruptedOf Step.decodedOf Step.executedOf Step.completedOf Step.takenOf Step.takenBy executeOf effectOf
     WellFormed.addressesFit WellFormed.wellFormed Requests.requestedOf Requests.servingOf Requests.takeOf
     Transfers.callOf Transfers.returnFromInterruptOf Transfers.advanceOf Stack.pushOf Stack.popOf
-    Map.entryOf Table.bytesOf Table.cyclesOf Map.formAs Map.formOf Rom.romAt Rom.operandAt Decode.decodeAt
+    Map.entryOf Table.bytesOf Table.cyclesOf Map.formAs Map.formOf Rom.spaceOf Rom.pageOf Rom.fixedOf Rom.romAt Rom.operandAt
+    Decode.decodeAt
     ControlFlow.flowOf
 p11-uses-two = refl

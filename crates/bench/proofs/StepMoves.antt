@@ -7,7 +7,7 @@ use mathlib.Core.Logic.{inl, inr}
 use mathlib.Core.Bool.{Bool, true, false, cond}
 use mathlib.Core.List.{List, _∷_}
 use lib.Dec.{eqb·suc-zero}
-use lib.ListN.{length, set, length-set}
+use lib.ListN.{length, getD, set, length-set}
 use borrow.Author.Tests.{lt-leb}
 use Rattle.isa.specs.Decode.{decodeAt}
 use Rattle.isa.specs.Displacement.{forwardOf}
@@ -24,6 +24,7 @@ use Rattle.control.specs.declared.Stop.the-variants as stop
 use Rattle.control.specs.Stack.{Transferred, inUse, isFull, pushOf, popOf}
 use Rattle.control.specs.Transfers.{sleptOf, callOf, returnFromInterruptOf, advanceOf}
 use Rattle.control.specs.Requests.{requestedOf, servingOf, takeOf}
+use Rattle.data.specs.Space.{programOf}
 use Rattle.data.specs.Effect.{Data, effectOf}
 use Rattle.machine.specs.declared.Machine.{Machine}
 use Rattle.machine.specs.Execute.{executionBy, jumpsOf, executeOf}
@@ -182,28 +183,34 @@ module _ (image certificate : List ℕ) (wired number : ℕ) (ok : Rules image c
         rw (g .no-stop) (record { done = record { cycles = 1; answer = refl }; six = g .six; moves = g .moves })
 
   module _ (m : Machine) (g : MachineInvariant certificate wired m) where
-    -- PC is at a marked address, so an instruction stands there
-    runs : Runs image certificate (m .control .pc)
-    runs = ok .marked (m .control .pc) (marked certificate (m .control .pc) (has-kind (g .frames))) .runs
+    -- program space as it stands
+    abbrev program : List ℕ
+    program = programOf image (m .bytes)
 
-    instruct : Advances certificate wired (decodedEffect (m .control) (decodeAt image (m .control .pc))) m
-        (decodedOf image m (decodeAt image (m .control .pc)))
+    -- PC is at a marked address, so an instruction stands there
+    runs : Runs program certificate (m .control .pc)
+    runs =
+        ok .marked (m .control .pc) (marked certificate (m .control .pc) (has-kind (g .frames)))
+        .runs (getD (m .bytes) 0xCA 0)
+
+    instruct : Advances certificate wired (decodedEffect (m .control) (decodeAt program (m .control .pc))) m
+        (decodedOf program m (decodeAt program (m .control .pc)))
     unfolding decodedOf decodedEffect executedOf executeOf
     instruct =
         let f = flowOf (runs .instruction) (m .control .pc) in
         rw (runs .decodes)
-        (completed m (runs .cycles) (flowEffect (m .control) f) (effectOf image (viewOf m) (runs .instruction)) _
-        (obey (m .stack) (m .control) f (jumpsOf image (viewOf m) f) (forwardOf (m .control .pc) (runs .bytes))
+        (completed m (runs .cycles) (flowEffect (m .control) f) (effectOf program (viewOf m) (runs .instruction)) _
+        (obey (m .stack) (m .control) f (jumpsOf program (viewOf m) f) (forwardOf (m .control .pc) (runs .bytes))
         (runs .rule) g))
 
     unrequested : (asleep : Bool)
-        → Advances certificate wired (cond asleep none (decodedEffect (m .control) (decodeAt image (m .control .pc)))) m
-        (cond asleep (doneOf m 0) (decodedOf image m (decodeAt image (m .control .pc))))
+        → Advances certificate wired (cond asleep none (decodedEffect (m .control) (decodeAt program (m .control .pc)))) m
+        (cond asleep (doneOf m 0) (decodedOf program m (decodeAt program (m .control .pc))))
     unrequested true = record { done = record { cycles = 0; answer = refl }; six = g .six; moves = moves.idles }
     unrequested false = instruct
 
     respond : (r : Requested) → IfTaken (Allowed certificate wired (m .control .mode)) r
-        → Advances certificate wired (respondEffect image (m .control) r) m (respondOf image m r)
+        → Advances certificate wired (respondEffect program (m .control) r) m (respondOf program m r)
     unfolding respondOf respondEffect uninterruptedOf unrequestedEffect takenOf
     respond (Taken source) a =
         served m (by-request source) (takeOf (m .stack) (m .control) source) (take (m .stack) (m .control) source a g)
@@ -211,7 +218,7 @@ module _ (image certificate : List ℕ) (wired number : ℕ) (ok : Rules image c
 
     -- a step whose requests are of wired sources goes on
     pub advances : (request : ℕ) → AsksOnly wired request
-        → Advances certificate wired (stackEffectOf image m request) m (advancedOf image m request)
+        → Advances certificate wired (stackEffectOf image m request) m (advancedOf program m request)
     unfolding advancedOf stackEffectOf
     advances request asks =
         respond (requestedOf (m .control .mode) (enabledOf (m .bytes)) request)

@@ -3,7 +3,6 @@
 use Prim.Native.Nat.{ℕ, zero, suc, _<_}
 use native.Mathlib.Omega.{arith}
 use mathlib.Core.Path.{_≡_, refl}
-use mathlib.Core.Logic.{_⊎_, inl, inr}
 use mathlib.Core.Bool.{true, false}
 use mathlib.Core.List.{List}
 use lib.Dec.{leb}
@@ -22,10 +21,6 @@ use Rattle.bench.specs.StackEffect.{StackEffect, stackEffectOf}
 use Rattle.bench.proofs.Invariant.{MachineInvariant, well-formed}
 use Rattle.bench.proofs.StepMoves.{Advances, invariant-after, advances}
 
-is-image : (n : ℕ) → (n ≡ 2048) ⊎ (n ≡ 4096) → isImage n ≡ true
-is-image n (inl e) = rw e
-is-image n (inr e) = rw e
-
 -- the first n request bytes have none of bits 5 to 7
 abbrev pub FirstKnown : (requests : List ℕ) → (n : ℕ) → Type 0
 FirstKnown requests n = (i : ℕ) → i < n → namesOnlySources (getD requests i 0) ≡ true
@@ -38,7 +33,7 @@ pub record AllGo (certificate : List ℕ) (wired n : ℕ) (r : Run) : Type 0 whe
 
 module _ (image certificate : List ℕ) (wired number : ℕ) (ok : Rules image certificate wired number) where
   fits : isImage (length image) ≡ true
-  fits = is-image (length image) (ok .image-length)
+  fits = ok .image-length
 
   module _ (m : Machine) (g : MachineInvariant certificate wired m) where
     -- a step, where none of bits 5 to 7 is set and where one is

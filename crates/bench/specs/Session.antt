@@ -88,8 +88,9 @@ Promised image wired number =
     (number ≤ 6) × ((m : Machine) (calls : List Call) → AllAskOnly wired calls → AllKeep image number calls (resetOf m))
 
 -- DEMAND 3. "Let an unpaged image, a set of wired interrupt sources and a certificate be accepted with some number of
--- levels." Then of every list of calls all that is promised holds: "one claim about the whole list of calls, and not a
--- claim for each call".
+-- levels", and a paged one as well: "demand 3 then holds for them too, under any bank changes" (document 02, W-210).
+-- Then of every list of calls, whatever it stores at 0CAh, all that is promised holds: "one claim about the whole list of
+-- calls, and not a claim for each call".
 -- proved by never-stops, proofs/Session
 abbrev pub NeverStops : Type 0
 NeverStops =

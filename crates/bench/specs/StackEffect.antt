@@ -15,6 +15,7 @@ use Rattle.control.specs.declared.Requested.{Requested}
 use Rattle.control.specs.declared.Requested.the-variants.{Nothing, Taken}
 use Rattle.control.specs.Transfers.{endsStartUp}
 use Rattle.control.specs.Requests.{requestedOf}
+use Rattle.data.specs.Space.{programOf}
 use Rattle.machine.specs.declared.Machine.{Machine}
 use Rattle.machine.specs.Step.{enabledOf}
 
@@ -61,4 +62,5 @@ respondEffect image c Nothing = unrequestedEffect image c
 -- of a step, where it is not refused and does not stop
 unfoldable pub stackEffectOf : (image : List ℕ) → Machine → (request : ℕ) → StackEffect
 stackEffectOf image m request =
-    respondEffect image (m .control) (requestedOf (m .control .mode) (enabledOf (m .bytes)) request)
+    respondEffect (programOf image (m .bytes)) (m .control)
+    (requestedOf (m .control .mode) (enabledOf (m .bytes)) request)

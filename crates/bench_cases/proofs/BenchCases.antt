@@ -1,6 +1,6 @@
 -- The bench cases hold: each by computing the definitions.
 use mathlib.Core.Path.{refl}
-use Rattle.isa.specs.Rom.{romAt, operandAt}
+use Rattle.isa.specs.Rom.{romAt, operandAt, fixedOf, pageOf, spaceOf}
 use Rattle.isa.specs.Decode.{decodeAt}
 use Rattle.isa.specs.Table.{bytesOf, cyclesOf}
 use Rattle.isa.specs.Map.{entryOf, formAs, formOf}
@@ -19,7 +19,7 @@ use Rattle.bench_cases.specs.BenchCases.{BenchCases}
 pub bench-cases : BenchCases
 unfolding stepOf advancedOf respondOf uninterruptedOf decodedOf executedOf completedOf executeOf wellFormed addressesFit
     requestedOf advanceOf callOf pushOf effectOf storeResultOf operandOf addressOf storeOf readOf flowOf formOf formAs
-    cyclesOf bytesOf entryOf decodeAt operandAt romAt
+    cyclesOf bytesOf entryOf decodeAt operandAt romAt spaceOf pageOf fixedOf
 bench-cases = record {
   p1 = record { byte = refl; flags = refl; answer = refl };
   p2 = record { byte = refl; flags = refl; answer = refl };

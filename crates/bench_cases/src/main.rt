@@ -1,5 +1,5 @@
 // Runs what no proof repeats: the manual's worked examples beside document 01's P1 to P12 (which
-// specs/BenchCases.antt has, proved), small programs step by step and as a run, bytes read with their origins, keys
+// specs/BenchCases.antt has, proved), small programs step by step and as a run, some of them in pages, bytes read with their origins, keys
 // pressed on one machine, the lines that jobs print, the widths of programs for the gauge, certificates as they are
 // made, and records played.
 mod examples;
@@ -7,6 +7,7 @@ mod jumps;
 mod keys;
 mod lines;
 mod making;
+mod pages;
 mod playing;
 mod programs;
 mod readings;
@@ -20,6 +21,7 @@ fn main() {
     examples::put_examples();
     jumps::put_jumps();
     traces::put_traces();
+    pages::put_pages();
     readings::put_readings();
     keys::put_keys();
     lines::put_lines();

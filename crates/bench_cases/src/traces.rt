@@ -50,7 +50,7 @@ fn put_step(report: StepReport, after: Machine) -> bool {
     }
 }
 
-fn put_steps(image: &[u8], requests: &[u8], n: usize) {
+pub fn put_steps(image: &[u8], requests: &[u8], n: usize) {
     let mut m = fresh();
     for i in 0..n {
         let stepped = step(image, m, request_at(requests, i));
@@ -62,7 +62,7 @@ fn put_steps(image: &[u8], requests: &[u8], n: usize) {
     }
 }
 
-fn put_run(image: &[u8], requests: &[u8], n: u32) {
+pub fn put_run(image: &[u8], requests: &[u8], n: u32) {
     let ran = run(image, fresh(), requests, n);
     let report = ran.report;
     let after = ran.machine;

@@ -9,7 +9,8 @@ use mathlib.Core.List.{List, [], _∷_}
 use lib.Dec.{eqb}
 use lib.ListN.{length, getD}
 use borrow.Author.Tests.{le-leb, lt-ltb, eq-eqb}
-use Rattle.isa.specs.Rom.{isImage}
+use Rattle.isa.specs.Rom.{spacesIn, spaceOf}
+use Rattle.isa.specs.Decode.{decodeAt}
 use Rattle.isa.specs.Sources.{isNamed, vectorOf}
 use Rattle.isa.specs.Displacement.{forwardOf}
 use Rattle.isa.specs.ControlFlow.{flowOf}
@@ -22,45 +23,34 @@ use Rattle.certificate.specs.Levels.{levelsOf}
 use Rattle.certificate.specs.Check.{accepted, flowFound, decodedFound, markFound, marksFound, checkOf}
 use Rattle.certificate.specs.Rules.{Rules}
 use Rattle.certificate.proofs.Facts.{marked, kind-of, mark-is, at-most-4096}
+use Rattle.certificate.proofs.Pages.{pages-pass, all-pass}
 use Rattle.certificate.proofs.Links.{links-pass, flow-rule-exactly}
 
 has-kind : {mark : ℕ} → WellFormed mark → 0 < kindOf mark
 has-kind {mark} w = rw (kind-of mark w) (w .kind-least)
 
--- all marks of a part pass, so the part does
-all-pass : (image certificate : List ℕ) (a : ℕ) (marks : List ℕ)
-    → ((i : ℕ) → i < length marks → markFound image certificate (a + i) (getD marks i 0) ≡ passes)
-    → marksFound image certificate a marks ≡ passes
-unfolding marksFound
-all-pass image certificate a [] each = refl
-all-pass image certificate a (m ∷ marks) each =
-    let first : markFound image certificate a m ≡ passes = rw add-zero at (each 0 (omega arith)) in
-    rw first (all-pass image certificate (suc a) marks (λ i h. rw (← shift i) (each (suc i) (omega arith))))
-  where
-    shift : (i : ℕ) → a + suc i ≡ suc a + i
-    shift i = omega arith
-
-image-is : (n : ℕ) → (n ≡ 2048) ⊎ (n ≡ 4096) → isImage n ≡ true
-image-is n (inl e) = rw (eq-eqb n 2048 e)
-image-is n (inr e) = rw (eq-eqb n 4096 e) (or-true (eqb n 2048))
-
 module _ (image certificate : List ℕ) (wired levels : ℕ) (rules : Rules image certificate wired levels) where
-  marked-passes : (a : ℕ) → Marked certificate a → markFound image certificate a (markAt certificate a) ≡ passes
+  abbrev pages : ℕ
+  pages = spacesIn (length image)
+
+  page-passes : (a : ℕ) → Marked certificate a → (page : ℕ)
+      → decodedFound certificate a (markAt certificate a) (decodeAt (spaceOf image page) a) ≡ passes
   unfolding decodedFound flowFound kindAt needAt
-  marked-passes a n =
-      let l = rules .marked a n in
-      let r = l .runs in
+  page-passes a n page =
+      let r = rules .marked a n .runs page in
       let linked =
       flow-rule-exactly certificate a (flowOf (r .instruction) a) (forwardOf a (r .bytes)) .linked (r .rule) in
-      rw (
-        marked image certificate a (markAt certificate a) n,
-        lt-ltb 0 (kindOf (markAt certificate a)) (has-kind (l .mark)),
-        r .decodes,
-        linked .stands,
-        links-pass certificate a _ (linked .links),
-      )
+      rw (r .decodes, linked .stands, links-pass certificate a _ (linked .links))
 
-  mark-passes : (a mark : ℕ) → markAt certificate a ≡ mark → markFound image certificate a mark ≡ passes
+  marked-passes : (a : ℕ) → Marked certificate a → markFound image certificate pages a (markAt certificate a) ≡ passes
+  marked-passes a n =
+      rw (
+        marked image certificate pages a (markAt certificate a) n,
+        lt-ltb 0 (kindOf (markAt certificate a)) (has-kind (rules .marked a n .mark)),
+      )
+      (pages-pass image certificate a (markAt certificate a) pages (λ page h. page-passes a n page))
+
+  mark-passes : (a mark : ℕ) → markAt certificate a ≡ mark → markFound image certificate pages a mark ≡ passes
   unfolding markFound
   mark-passes a zero e = refl
   mark-passes a (suc m) e =
@@ -91,12 +81,11 @@ module _ (image certificate : List ℕ) (wired levels : ℕ) (rules : Rules imag
         source-passes Fourth,
       )
 
-  marks-pass : marksFound image certificate (lowest certificate) certificate ≡ passes
+  marks-pass : marksFound image certificate pages (lowest certificate) certificate ≡ passes
   marks-pass =
-      let length-most = at-most-4096 (rules .image-length) in
       let same = rules .certificate-length in
-      let fits : length certificate ≤ 4096 = omega arith in
-      all-pass image certificate (lowest certificate) certificate
+      let fits : length certificate ≤ 4096 = omega (arith, at-most-4096 (length image)) in
+      all-pass image certificate pages (lowest certificate) certificate
       (λ i h. mark-passes (lowest certificate + i) (getD certificate i 0) (mark-is certificate i fits h))
 
   -- Where the rules hold, the check accepts.
@@ -106,7 +95,7 @@ module _ (image certificate : List ℕ) (wired levels : ℕ) (rules : Rules imag
       let counted = rules .counted in
       let six : levelsOf certificate wired ≤ 6 = omega (arith, rules .at-most-six) in
       rw (
-        image-is (length image) (rules .image-length),
+        rules .image-length,
         eq-eqb _ _ (rules .certificate-length),
         rules .sources,
         marks-pass,

@@ -17,16 +17,25 @@ use Rattle.isa.specs.Refusals.{Numbered, located, Answer, done, refused, unless
 use Rattle.certificate.specs.Marks.{markAt, WellFormed, kindOf, kindAt, needAt, lowest}
 use Rattle.certificate.specs.Successors.{hasKind, coversMark, covers}
 use Rattle.certificate.specs.declared.successors.Successor.{Successor}
-use Rattle.certificate.specs.Findings.{Found, passes, fault}
-use Rattle.certificate.specs.Check.{flowFound, decodedFound, markFound}
+use Rattle.certificate.specs.Findings.{Found, passes, fault, andThen}
+use Rattle.certificate.specs.Check.{flowFound, decodedFound, pagesFound, markFound, marksIn}
+use Rattle.certificate.specs.Passes.{pageFound}
 
 -- a marked address: 14, then what decoding answers
-pub marked : (image certificate : List ℕ) (a mark : ℕ) → mark ≢ 0
-    → markFound image certificate a mark
-    ≡ unless (ltb 0 (kindOf mark)) (fault (located 14 a)) (decodedFound certificate a mark (decodeAt image a))
+pub marked : (image certificate : List ℕ) (pages a mark : ℕ) → mark ≢ 0
+    → markFound image certificate pages a mark
+    ≡ unless (ltb 0 (kindOf mark)) (fault (located 14 a)) (pagesFound image certificate a mark pages)
 unfolding markFound
-marked image certificate a zero n = absurd (n refl)
-marked image certificate a (suc m) n = refl
+marked image certificate pages a zero n = absurd (n refl)
+marked image certificate pages a (suc m) n = refl
+
+-- .. with one page
+pub marked-page : (program certificate : List ℕ) (a mark : ℕ) → mark ≢ 0
+    → pageFound program certificate a mark
+    ≡ unless (ltb 0 (kindOf mark)) (fault (located 14 a)) (decodedFound certificate a mark (decodeAt program a))
+unfolding pageFound
+marked-page program certificate a zero n = absurd (n refl)
+marked-page program certificate a (suc m) n = refl
 
 -- what decoding answers is found by where its instruction continues alone
 abbrev pub continuationFound : List ℕ → (a mark : ℕ) → Answer Continuing → Found
@@ -48,6 +57,11 @@ pub unless-passes : (t : Bool) (r : Numbered) (more : Found) → unless t (fault
     → (t ≡ true) × (more ≡ passes)
 unless-passes true r more e = (refl, e)
 unless-passes false r more e = absurd (not-both e)
+
+-- two parts that pass
+pub both-pass : (f g : Found) → andThen f g ≡ passes → (f ≡ passes) × (g ≡ passes)
+both-pass passes g e = (refl, e)
+both-pass (fault r) g e = absurd (not-both e)
 
 pub positive : {k : ℕ} → k ≢ 0 → 0 < k
 positive n = omega arith
@@ -80,18 +94,13 @@ pub both-true : (a b : Bool) → (a && b) ≡ true → (a ≡ true) × (b ≡ tr
 both-true true b e = (refl, e)
 both-true false b e = absurd (false≢true e)
 
--- an image's length
-pub image-length : (n : ℕ) → isImage n ≡ true → (n ≡ 2048) ⊎ (n ≡ 4096)
-image-length n e = go (eqb n 2048) (eqb n 4096) refl refl e
+-- a certificate's length
+pub at-most-4096 : (n : ℕ) → marksIn n ≤ 4096
+at-most-4096 n = by-test (eqb n 2048)
   where
-    go : (s t : Bool) → eqb n 2048 ≡ s → eqb n 4096 ≡ t → (s || t) ≡ true → (n ≡ 2048) ⊎ (n ≡ 4096)
-    go true t p q e = inl (eqb-true n 2048 p)
-    go false true p q e = inr (eqb-true n 4096 q)
-    go false false p q e = absurd (false≢true e)
-
-pub at-most-4096 : {n : ℕ} → (n ≡ 2048) ⊎ (n ≡ 4096) → n ≤ 4096
-at-most-4096 (inl e) = omega arith
-at-most-4096 (inr e) = omega arith
+    by-test : (b : Bool) → cond b 2048 4096 ≤ 4096
+    by-test true = omega arith
+    by-test false = omega arith
 
 -- the tests of a successor, by its mark
 module _ (certificate : List ℕ) (s : Successor) {mark : ℕ} (at : mark ≡ markAt certificate (s .address)) where

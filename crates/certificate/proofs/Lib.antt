@@ -1,4 +1,5 @@
 pub mod Facts
+pub mod Pages
 pub mod Links
 pub mod SourceLevels
 pub mod Sound
@@ -7,3 +8,4 @@ pub mod Agreement
 pub mod Deciding
 pub mod Refusals
 pub mod Cases
+pub mod OnePage

@@ -10,7 +10,7 @@ use lib.Dec.{leb, ltb, eqb}
 use lib.ListN.{length, getD}
 use borrow.Author.Tests.{leb-true, leb-false, ltb-true, ltb-false, eqb-true, eqb-false}
 use Rattle.isa.specs.Decode as decode
-use Rattle.isa.specs.Rom.{isImage}
+use Rattle.isa.specs.Rom.{isImage, spacesIn, spaceOf}
 use Rattle.isa.specs.Decode.{Decoding, decodeAt}
 use Rattle.isa.specs.Displacement.{forwardOf}
 use Rattle.isa.specs.ControlFlow.{flowOf}
@@ -27,12 +27,14 @@ use Rattle.certificate.specs.Successors.{placed, successorsOf, every, ha
 use Rattle.certificate.specs.Successors.{successorsFound}
 use Rattle.certificate.specs.Vectors.{vectorFound, sourceFound, vectorsFound}
 use Rattle.certificate.specs.Levels.{levelsOf}
-use Rattle.certificate.specs.Check.{flowFound, decodedFound, markFound, marksFound, levelsFound, checkOf}
+use Rattle.certificate.specs.Check.{flowFound, decodedFound, pagesFound, markFound, marksFound, levelsFound}
+use Rattle.certificate.specs.Check.{marksIn, checkOf}
 use Rattle.certificate.specs.Refusals.{Some, Misplaced, WrongKind, TooSmall, malformed, outsideRom}
 use Rattle.certificate.specs.Refusals.{undefinedOpcode, misplacedReturn, successorKind, needTooSmall}
-use Rattle.certificate.specs.Refusals.{atInstruction, atMark, atMarks, startUp, atSource, atVectors, imageLength}
+use Rattle.certificate.specs.Refusals.{atInstruction, atPages, atMark, atMarks, startUp, atSource, atVectors, imageLength}
 use Rattle.certificate.specs.Refusals.{certificateLength, unknownSource, tooManyLevels, AnswersFirst}
-use Rattle.certificate.proofs.Facts.{well-formed, kind-of, mark-is, both-true, image-length, at-most-4096}
+use Rattle.certificate.proofs.Facts.{well-formed, kind-of, mark-is, both-true, at-most-4096}
+use Rattle.isa.proofs.Halves.{is-space}
 use Rattle.isa.proofs.AtAddress.{AtAddress, at-address, defined}
 use Rattle.certificate.proofs.Deciding.{Decides, nothing, skip, ask, decides-then, describes}
 
@@ -135,21 +137,38 @@ module _ (certificate : List ℕ) where
       (λ t p. needs-right need successors t (p .1)) (λ t. (n, needs-wrong need successors t))
       (λ _. nothing)))))
 
+  -- with the pages in turn
+  pages-decide : (image : List ℕ) (a n : ℕ) → ((k : ℕ) → AtAddress a (decodeAt (spaceOf image k) a))
+      → Marked certificate a
+      → Decides (atPages certificate image n a) (pagesFound image certificate a (markAt certificate a) n)
+  unfolding pagesFound
+  pages-decide image a zero w n = nothing
+  pages-decide image a (suc pages) w n =
+      decides-then _ _ (pages-decide image a pages w n) (decoded-decides a (decodeAt (spaceOf image pages) a) (w pages) n)
+
   -- the questions of an unmarked address: none applies
-  unmarked-decides : (a : ℕ) (d : Answer Decoding) → markAt certificate a ≡ 0 → Decides (atMark certificate d a) passes
-  unmarked-decides a d e =
-      record { decided = (λ p. p .0 e, (λ p. p .0 e, (λ p. p .0 e, (λ p. p .0 e, (λ p. p .0 e, (λ p. p .0 e, tt)))))) }
+  unmarked-page : (a : ℕ) (d : Answer Decoding) → markAt certificate a ≡ 0
+      → Decides (atInstruction certificate d a) passes
+  unmarked-page a d e =
+      record { decided = (λ p. p .0 e, (λ p. p .0 e, (λ p. p .0 e, (λ p. p .0 e, (λ p. p .0 e, tt))))) }
+
+  unmarked-pages : (image : List ℕ) (a n : ℕ) → markAt certificate a ≡ 0 → Decides (atPages certificate image n a) passes
+  unmarked-pages image a zero e = nothing
+  unmarked-pages image a (suc n) e =
+      decides-then passes passes (unmarked-pages image a n e) (unmarked-page a (decodeAt (spaceOf image n) a) e)
 
   -- the mark at an address
-  mark-decides : (image : List ℕ) (a mark : ℕ) → markAt certificate a ≡ mark → AtAddress a (decodeAt image a)
-      → Decides (atMark certificate (decodeAt image a) a) (markFound image certificate a mark)
+  mark-decides : (image : List ℕ) (a mark : ℕ) → markAt certificate a ≡ mark
+      → ((k : ℕ) → AtAddress a (decodeAt (spaceOf image k) a))
+      → Decides (atMark certificate image a) (markFound image certificate (spacesIn (length image)) a mark)
   unfolding markFound
-  mark-decides image a zero e w = unmarked-decides a (decodeAt image a) e
+  mark-decides image a zero e w =
+      skip (malformed certificate a) (λ p. p .0 e) (unmarked-pages image a (spacesIn (length image)) e)
   mark-decides image a (suc m) e w =
       let n : Marked certificate a = λ z. omega arith in
       rw (← e)
       (ask (malformed certificate a) (ltb 0 (kindOf (markAt certificate a)))
-      (decodedFound certificate a (markAt certificate a) (decodeAt image a))
+      (pagesFound image certificate a (markAt certificate a) (spacesIn (length image)))
       (λ t p. p .1 (well-formed (markAt certificate a) (ltb-true 0 (kindOf (markAt certificate a)) t)))
       (λ t. (
         n,
@@ -158,17 +177,19 @@ module _ (certificate : List ℕ) where
             let l = f .kind-least in
             omega arith,
       ))
-      (λ _. decoded-decides a (decodeAt image a) w n))
+      (λ _. pages-decide image a (spacesIn (length image)) w n))
 
   -- the marks of a part of the certificate
   marks-decide : (image : List ℕ) (a : ℕ) (marks : List ℕ)
       → ((i : ℕ) → i < length marks → markAt certificate (a + i) ≡ getD marks i 0)
-      → ((i : ℕ) → i < length marks → AtAddress (a + i) (decodeAt image (a + i)))
-      → Decides (atMarks certificate image (length marks) a) (marksFound image certificate a marks)
+      → ((i : ℕ) → i < length marks → (k : ℕ) → AtAddress (a + i) (decodeAt (spaceOf image k) (a + i)))
+      → Decides (atMarks certificate image (length marks) a)
+      (marksFound image certificate (spacesIn (length image)) a marks)
   unfolding marksFound
   marks-decide image a [] same at-address = nothing
   marks-decide image a (m ∷ marks) same at-address =
-      decides-then (markFound image certificate a m) (marksFound image certificate (suc a) marks)
+      decides-then (markFound image certificate (spacesIn (length image)) a m)
+      (marksFound image certificate (spacesIn (length image)) (suc a) marks)
       (mark-decides image a m (rw add-zero at (same 0 (omega arith))) (rw add-zero at (at-address 0 (omega arith))))
       (marks-decide image (suc a) marks
       (λ i h. rw (← shift i) (same (suc i) (omega arith)))
@@ -214,19 +235,14 @@ module _ (certificate : List ℕ) where
       (λ t. leb-false (levelsOf certificate wired) 6 t) (λ _. nothing)
 
   -- the marks of a certificate of the image's length
-  all-marks-decide : (image : List ℕ) → isImage (length image) ≡ true → length certificate ≡ length image
+  all-marks-decide : (image : List ℕ) → isImage (length image) ≡ true → length certificate ≡ marksIn (length image)
       → Decides (atMarks certificate image (length certificate) (lowest certificate))
-      (marksFound image certificate (lowest certificate) certificate)
+      (marksFound image certificate (spacesIn (length image)) (lowest certificate) certificate)
   all-marks-decide image e same =
-      let fits = at-most-4096 (image-length (length image) e) in
+      let fits = at-most-4096 (length image) in
       marks-decide image (lowest certificate) certificate
       (λ i h. mark-is certificate i (omega arith) h)
-      (λ i h. at-address image (lowest certificate + i) e (omega arith))
-
-neither : (n : ℕ) (s t : Bool) → eqb n 2048 ≡ s → eqb n 4096 ≡ t → (s || t) ≡ false → (n ≢ 2048) × (n ≢ 4096)
-neither n true t p q e = absurd (true≢false e)
-neither n false true p q e = absurd (true≢false e)
-neither n false false p q e = (eqb-false n 2048 p, eqb-false n 4096 q)
+      (λ i h k. at-address (spaceOf image k) (lowest certificate + i) (is-space image k e) (omega arith))
 
 -- The check gives the first refusal that applies, and accepts where none does.
 pub answers-first : AnswersFirst
@@ -234,12 +250,11 @@ unfolding checkOf
 answers-first image certificate wired =
     describes (levelsOf certificate wired) _
     (ask (imageLength image) (isImage (length image)) _
-    (λ t p. ⊎-elim (p .0) (p .1) (image-length (length image) t))
-    (λ t. neither (length image) (eqb (length image) 2048) (eqb (length image) 4096) refl refl t)
-    (λ is-image. ask (certificateLength certificate image) (eqb (length certificate) (length image)) _
+    (λ t p. true≢false (sym t ∙ p)) (λ t. t)
+    (λ is-image. ask (certificateLength certificate image) (eqb (length certificate) (marksIn (length image))) _
     (λ t p. p (eqb-true _ _ t)) (λ t. eqb-false _ _ t)
     (λ same. ask (unknownSource wired) (namesOnlySources wired) _ (λ t p. true≢false (sym t ∙ p)) (λ t. t)
     (λ _. decides-then _ _
-    (decides-then _ _ (all-marks-decide certificate image is-image (eqb-true (length certificate) (length image) same))
+    (decides-then _ _ (all-marks-decide certificate image is-image (eqb-true (length certificate) (marksIn (length image)) same))
     (vectors-decide certificate wired))
     (levels-decide certificate wired)))))

@@ -10,7 +10,7 @@ use lib.Dec.{leb, ltb, eqb}
 use lib.ListN.{length, getD}
 use borrow.Author.Tests.{leb-true, ltb-true, eqb-true}
 use Rattle.isa.specs.Decode as decode
-use Rattle.isa.specs.Rom.{isImage}
+use Rattle.isa.specs.Rom.{isImage, spacesIn, spaceOf}
 use Rattle.isa.specs.Decode.{Decoding, decodeAt}
 use Rattle.isa.specs.Refusals.{plain, located, Answer, done, refused}
 use Rattle.isa.specs.Sources.{isNamed, namesOnlySources, vectorOf}
@@ -25,27 +25,25 @@ use Rattle.certificate.specs.Successors.{placed}
 use Rattle.certificate.specs.Vectors.{vectorFound, sourceFound, vectorsFound}
 use Rattle.certificate.specs.Levels.{levelsOf}
 use Rattle.certificate.specs.Check.{accepted, flowFound, decodedFound, markFound, marksFound, rulesFound, verdict}
-use Rattle.certificate.specs.Check.{checkOf}
-use Rattle.certificate.proofs.Facts.{marked, not-both, unless-passes, well-formed, image-length, at-most-4096}
+use Rattle.certificate.specs.Check.{marksIn, checkOf}
+use Rattle.certificate.proofs.Facts.{marked, not-both, both-pass, unless-passes, well-formed, at-most-4096}
+use Rattle.certificate.proofs.Pages.{each-page}
+use Rattle.isa.proofs.Halves.{with-any-bank}
 use Rattle.certificate.proofs.Links.{pass-links, flow-rule-exactly}
-use Rattle.certificate.specs.Rules.{FlowRule, Lawful, Rules}
-
--- two parts that pass
-both-pass : (f g : Found) → andThen f g ≡ passes → (f ≡ passes) × (g ≡ passes)
-both-pass passes g e = (refl, e)
-both-pass (fault r) g e = absurd (not-both e)
+use Rattle.certificate.specs.Rules.{FlowRule, Runs, Lawful, Rules}
 
 -- each mark of a part that passes
-each-passes : (image certificate : List ℕ) (a : ℕ) (marks : List ℕ) → marksFound image certificate a marks ≡ passes
-    → (i : ℕ) → i < length marks → markFound image certificate (a + i) (getD marks i 0) ≡ passes
+each-passes : (image certificate : List ℕ) (pages a : ℕ) (marks : List ℕ)
+    → marksFound image certificate pages a marks ≡ passes
+    → (i : ℕ) → i < length marks → markFound image certificate pages (a + i) (getD marks i 0) ≡ passes
 unfolding marksFound
-each-passes image certificate a [] e i h = absurd (omega arith)
-each-passes image certificate a (m ∷ marks) e zero h =
-    rw add-zero (both-pass (markFound image certificate a m) (marksFound image certificate (suc a) marks) e .0)
-each-passes image certificate a (m ∷ marks) e (suc i) h =
+each-passes image certificate pages a [] e i h = absurd (omega arith)
+each-passes image certificate pages a (m ∷ marks) e zero h =
+    rw add-zero (both-pass (markFound image certificate pages a m) (marksFound image certificate pages (suc a) marks) e .0)
+each-passes image certificate pages a (m ∷ marks) e (suc i) h =
     let shift : a + suc i ≡ suc a + i = omega arith in
-    let p = both-pass (markFound image certificate a m) (marksFound image certificate (suc a) marks) e in
-    rw shift (each-passes image certificate (suc a) marks (p .1) i (omega arith))
+    let p = both-pass (markFound image certificate pages a m) (marksFound image certificate pages (suc a) marks) e in
+    rw shift (each-passes image certificate pages (suc a) marks (p .1) i (omega arith))
 
 -- a marked address lies in ROM, and its mark is the certificate's there
 pub record InRom (certificate : List ℕ) (a : ℕ) : Type 0 where
@@ -63,16 +61,16 @@ marked-in-rom certificate a n = go (ltb a 4096) (leb 4096 (a + length certificat
     go true false p q n = absurd (n refl)
     go false t p q n = absurd (n refl)
 
-mark-passes : (image certificate : List ℕ) → length certificate ≤ 4096
-    → marksFound image certificate (lowest certificate) certificate ≡ passes
-    → (a : ℕ) → Marked certificate a → markFound image certificate a (markAt certificate a) ≡ passes
-mark-passes image certificate l e a n =
+mark-passes : (image certificate : List ℕ) (pages : ℕ) → length certificate ≤ 4096
+    → marksFound image certificate pages (lowest certificate) certificate ≡ passes
+    → (a : ℕ) → Marked certificate a → markFound image certificate pages a (markAt certificate a) ≡ passes
+mark-passes image certificate pages l e a n =
     let r = marked-in-rom certificate a n in
     let most = r .most in
     let least = r .least in
     let back : lowest certificate + (a + length certificate - 4096) ≡ a = omega arith in
     let p =
-    each-passes image certificate (lowest certificate) certificate e
+    each-passes image certificate pages (lowest certificate) certificate e
     (a + length certificate - 4096) (omega arith) in
     rw (r .mark) (rw back at p)
 
@@ -84,25 +82,32 @@ flow-rule certificate a f n e =
     let p = unless-passes (placed (kindAt certificate a) f) (located 15 a) _ e in
     flow-rule-exactly certificate a f n .rule (record { stands = p .0; links = pass-links certificate a _ (p .1) })
 
--- a marked address that passes
-pub lawful : (image certificate : List ℕ) (a : ℕ) → Marked certificate a
-    → markFound image certificate a (markAt certificate a) ≡ passes
-    → Lawful image certificate a
+-- what a page says of a marked address that passes
+runs-with : (program certificate : List ℕ) (a : ℕ)
+    → decodedFound certificate a (markAt certificate a) (decodeAt program a) ≡ passes → Runs program certificate a
 unfolding decodedFound
-lawful image certificate a n e =
-    let s =
-    unless-passes (ltb 0 (kindOf (markAt certificate a))) (located 14 a) _
-    (sym (marked image certificate a (markAt certificate a) n) ∙ e) in
-    go (well-formed (markAt certificate a) (ltb-true 0 (kindOf (markAt certificate a)) (s .0))) (decodeAt image a) refl
-    (s .1)
+runs-with program certificate a = go (decodeAt program a) refl
   where
-    go : WellFormed (markAt certificate a) → (d : Answer Decoding) → decodeAt image a ≡ d
-        → decodedFound certificate a (markAt certificate a) d ≡ passes
-        → Lawful image certificate a
-    go w (done (decode.instruction i bytes cycles)) d e =
+    go : (d : Answer Decoding) → decodeAt program a ≡ d → decodedFound certificate a (markAt certificate a) d ≡ passes
+        → Runs program certificate a
+    go (done (decode.instruction i bytes cycles)) d e =
         let rule = flow-rule certificate a (flowOf i a) (forwardOf a bytes) e in
-        record { mark = w; runs = record { instruction = i; bytes = bytes; cycles = cycles; decodes = d; rule = rule } }
-    go w (refused r) d e = absurd (not-both e)
+        record { instruction = i; bytes = bytes; cycles = cycles; decodes = d; rule = rule }
+    go (refused r) d e = absurd (not-both e)
+
+-- a marked address that passes with each page
+pub lawful : (image certificate : List ℕ) (a : ℕ) → isImage (length image) ≡ true → Marked certificate a
+    → markFound image certificate (spacesIn (length image)) a (markAt certificate a) ≡ passes
+    → Lawful image certificate a
+lawful image certificate a is n e =
+    let pages : ℕ = spacesIn (length image) in
+    let mark : ℕ = markAt certificate a in
+    let s = unless-passes (ltb 0 (kindOf mark)) (located 14 a) _ (sym (marked image certificate pages a mark n) ∙ e) in
+    record {
+      mark = well-formed mark (ltb-true 0 (kindOf mark) (s .0));
+      runs = with-any-bank image (λ program. Runs program certificate a)
+          (λ k h. runs-with (spaceOf image k) certificate a (each-page image certificate a mark pages (s .1) k h));
+    }
 
 -- the vectors
 vector-kind : (certificate : List ℕ) (vector kind : ℕ) → vectorFound certificate vector kind ≡ passes
@@ -148,23 +153,23 @@ unfolding checkOf
 check-sound image certificate wired levels e =
     let v = verdict-accepted _ (levelsOf certificate wired) levels e in
     let c₁ = unless-passes (isImage (length image)) (plain 1) _ (v .0) in
-    let c₂ = unless-passes (eqb (length certificate) (length image)) (plain 13) _ (c₁ .1) in
+    let c₂ = unless-passes (eqb (length certificate) (marksIn (length image))) (plain 13) _ (c₁ .1) in
     let c₃ = unless-passes (namesOnlySources wired) (plain 11) (rulesFound image certificate wired) (c₂ .1) in
-    let marks = marksFound image certificate (lowest certificate) certificate in
+    let marks = marksFound image certificate (spacesIn (length image)) (lowest certificate) certificate in
     let all = both-pass (andThen marks (vectorsFound certificate wired)) _ (c₃ .1) in
     let found = both-pass marks (vectorsFound certificate wired) (all .0) in
     let six =
     leb-true (levelsOf certificate wired) 6
     (unless-passes (leb (levelsOf certificate wired) 6) (plain 19) passes (all .1) .0) in
-    let length-is = image-length (length image) (c₁ .0) in
-    let same = eqb-true (length certificate) (length image) (c₂ .0) in
-    let fits : length certificate ≤ 4096 = omega (arith, at-most-4096 length-is) in
+    let same = eqb-true (length certificate) (marksIn (length image)) (c₂ .0) in
+    let fits : length certificate ≤ 4096 = omega (arith, at-most-4096 (length image)) in
     let vectors = vectors-pass certificate wired (found .1) in
     record {
-      image-length = length-is;
+      image-length = c₁ .0;
       certificate-length = same;
       sources = c₃ .0;
-      marked = λ a n. lawful image certificate a n (mark-passes image certificate fits (found .0) a n);
+      marked = λ a n. lawful image certificate a (c₁ .0) n
+          (mark-passes image certificate (spacesIn (length image)) fits (found .0) a n);
       start-up = vector-kind certificate 0xFFE 1 (vectors .0);
       vectors = λ s w. source-kind certificate wired s (vectors .1 s) w;
       counted = v .1;

@@ -1,10 +1,11 @@
 -- What the certificate check answers (document 01, "Check"): the first refusal that applies, or the number of levels.
 use Prim.Native.Nat.{ℕ, zero, suc}
+use mathlib.Core.Bool.{cond}
 use mathlib.Core.List.{List, [], _∷_}
 use lib.Dec.{leb, ltb, eqb}
 use lib.ListN.{length}
 use Rattle.isa.specs.Decode as decode
-use Rattle.isa.specs.Rom.{isImage}
+use Rattle.isa.specs.Rom.{isImage, spacesIn, spaceOf}
 use Rattle.isa.specs.Decode.{Decoding, decodeAt}
 use Rattle.isa.specs.Displacement.{forwardOf}
 use Rattle.isa.specs.ControlFlow.{flowOf}
@@ -43,18 +44,24 @@ decodedFound certificate a mark (done (decode.instruction i bytes cycles)) =
     flowFound certificate a mark (flowOf i a) (forwardOf a bytes)
 decodedFound certificate a mark (refused refusal) = fault refusal
 
--- "marked addresses .., at each: 14 malformed mark"
-unfoldable pub markFound : (image certificate : List ℕ) → (a mark : ℕ) → Found
-markFound image certificate a zero = passes
-markFound image certificate a (suc m) =
-    unless (ltb 0 (kindOf (suc m))) (fault (located 14 a)) (decodedFound certificate a (suc m) (decodeAt image a))
+-- "all its rules with page 0 in place, then all with the next, to the last" (document 02, W-210): with so many pages
+unfoldable pub pagesFound : (image certificate : List ℕ) → (a mark pages : ℕ) → Found
+pagesFound image certificate a mark zero = passes
+pagesFound image certificate a mark (suc n) =
+    andThen (pagesFound image certificate a mark n) (decodedFound certificate a mark (decodeAt (spaceOf image n) a))
+
+-- "marked addresses .., at each: 14 malformed mark", once, then with the pages in turn
+unfoldable pub markFound : (image certificate : List ℕ) → (pages a mark : ℕ) → Found
+markFound image certificate pages a zero = passes
+markFound image certificate pages a (suc m) =
+    unless (ltb 0 (kindOf (suc m))) (fault (located 14 a)) (pagesFound image certificate a (suc m) pages)
 
 -- "Then marked addresses upward": the marks of a part of the certificate, of which the first stands at address a
-unfoldable pub marksFound : (image certificate : List ℕ) → (a : ℕ) → List ℕ → Found
-marksFound image certificate a [] = passes
-marksFound image certificate a (mark ∷ marks) =
-    let more = marksFound image certificate (suc a) marks in
-    andThen (markFound image certificate a mark) more
+unfoldable pub marksFound : (image certificate : List ℕ) → (pages a : ℕ) → List ℕ → Found
+marksFound image certificate pages a [] = passes
+marksFound image certificate pages a (mark ∷ marks) =
+    let more = marksFound image certificate pages (suc a) marks in
+    andThen (markFound image certificate pages a mark) more
 
 -- "19 more than six levels"
 abbrev pub levelsFound : List ℕ → (wired : ℕ) → Found
@@ -63,7 +70,9 @@ levelsFound certificate wired = unless (leb (levelsOf certificate wired) 6) (fau
 -- "Then marked addresses upward .. Then 18 ..; 19 .."
 abbrev pub rulesFound : (image certificate : List ℕ) → (wired : ℕ) → Found
 rulesFound image certificate wired =
-    andThen (andThen (marksFound image certificate (lowest certificate) certificate) (vectorsFound certificate wired))
+    andThen
+    (andThen (marksFound image certificate (spacesIn (length image)) (lowest certificate) certificate)
+    (vectorsFound certificate wired))
     (levelsFound certificate wired)
 
 -- "Accepted means that nothing under Check below applies; the number is Levels."
@@ -71,10 +80,14 @@ abbrev pub verdict : (levels : ℕ) → Found → Verdict
 verdict levels passes = accepted levels
 verdict levels (fault refusal) = refused refusal
 
+-- "One mark for each ROM byte", and of a paged image for each address: "Their certificates are 4,096 marks" (W-210)
+abbrev pub marksIn : (length : ℕ) → ℕ
+marksIn n = cond (eqb n 2048) 2048 4096
+
 -- "Check: 1, 13 (certificate not the image's length), 11 (wired byte). Then .."
 unfoldable pub checkOf : (image certificate : List ℕ) → (wired : ℕ) → Verdict
 checkOf image certificate wired =
     verdict (levelsOf certificate wired)
     (unless (isImage (length image)) (fault (plain 1))
-    (unless (eqb (length certificate) (length image)) (fault (plain 13))
+    (unless (eqb (length certificate) (marksIn (length image))) (fault (plain 13))
     (unless (namesOnlySources wired) (fault (plain 11)) (rulesFound image certificate wired))))

@@ -4,8 +4,10 @@ pub mod Successors
 pub mod Vectors
 pub mod Levels
 pub mod Check
+pub mod Passes
 pub mod Rules
 pub mod Links
 pub mod Agreement
 pub mod Refusals
 pub mod Cases
+pub mod OnePage

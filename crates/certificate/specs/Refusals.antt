@@ -9,6 +9,7 @@ use Rattle.isa.specs.Decode as decode
 use Rattle.isa.specs.Decode.{Decoding, decodeAt}
 use Rattle.isa.specs.Displacement.{forwardOf}
 use Rattle.isa.specs.ControlFlow.{flowOf}
+use Rattle.isa.specs.Rom.{isImage, spacesIn, spaceOf}
 use Rattle.isa.specs.Refusals.{Numbered, plain, located, Answer, done, refused}
 use Rattle.isa.specs.Sources.{isNamed, namesOnlySources, vectorOf}
 use Rattle.isa.specs.declared.Flow.{Flow}
@@ -19,7 +20,7 @@ use Rattle.certificate.specs.declared.successors.Successor.{Successor}
 use Rattle.certificate.specs.Marks.{markAt, Marked, WellFormed, kindAt, needAt, lowest}
 use Rattle.certificate.specs.Successors.{successorsOf}
 use Rattle.certificate.specs.Levels.{levelsOf}
-use Rattle.certificate.specs.Check.{Verdict, accepted, checkOf}
+use Rattle.certificate.specs.Check.{Verdict, accepted, marksIn, checkOf}
 
 -- a refusal, and what makes it apply
 pub record Question : Type 1 where
@@ -105,14 +106,19 @@ module _ (certificate : List ℕ) where
   atInstruction d a =
       outsideRom d a ∷ undefinedOpcode d a ∷ misplacedReturn d a ∷ successorKind d a ∷ needTooSmall d a ∷ []
 
+  -- "with page 0 in place, then all with the next, to the last" (W-210): with so many pages
+  abbrev pub atPages : (image : List ℕ) → (pages a : ℕ) → List Question
+  atPages image zero a = []
+  atPages image (suc n) a = atPages image n a ++ atInstruction (decodeAt (spaceOf image n) a) a
+
   -- "at each: 14 malformed mark; .."
-  abbrev pub atMark : Answer Decoding → (a : ℕ) → List Question
-  atMark d a = malformed a ∷ atInstruction d a
+  abbrev pub atMark : (image : List ℕ) → (a : ℕ) → List Question
+  atMark image a = malformed a ∷ atPages image (spacesIn (length image)) a
 
   -- "Then marked addresses upward": so many addresses, from a on
   abbrev pub atMarks : (image : List ℕ) → (count a : ℕ) → List Question
   atMarks image zero a = []
-  atMarks image (suc n) a = atMark (decodeAt image a) a ++ atMarks image n (suc a)
+  atMarks image (suc n) a = atMark image a ++ atMarks image n (suc a)
 
   -- "FFEh has kind 1."
   abbrev pub startUp : Question
@@ -130,7 +136,7 @@ module _ (certificate : List ℕ) where
 
   -- "13 (certificate not the image's length)"
   abbrev pub certificateLength : (image : List ℕ) → Question
-  certificateLength image = asks (plain 13) (length certificate ≢ length image)
+  certificateLength image = asks (plain 13) (length certificate ≢ marksIn (length image))
 
   -- "19 more than six levels"
   abbrev pub tooManyLevels : (wired : ℕ) → Question
@@ -138,7 +144,7 @@ module _ (certificate : List ℕ) where
 
 -- "1 image length"
 abbrev pub imageLength : (image : List ℕ) → Question
-imageLength image = asks (plain 1) ((length image ≢ 2048) × (length image ≢ 4096))
+imageLength image = asks (plain 1) (isImage (length image) ≡ false)
 
 -- "11 (wired byte)"
 abbrev pub unknownSource : (wired : ℕ) → Question

@@ -6,6 +6,7 @@ use mathlib.Core.Bool.{true}
 use mathlib.Core.List.{List}
 use lib.ListN.{length}
 use Rattle.isa.specs.Refusals.{done}
+use Rattle.isa.specs.Rom.{isImage, spaceOf}
 use Rattle.isa.specs.Decode as decode
 use Rattle.isa.specs.Decode.{decodeAt}
 use Rattle.isa.specs.Displacement.{forwardOf}
@@ -17,6 +18,7 @@ use Rattle.isa.specs.declared.Flow.the-variants as flow
 use Rattle.isa.specs.declared.Source.{Source}
 use Rattle.certificate.specs.Marks.{markAt, Marked, WellFormed, kindAt, needAt}
 use Rattle.certificate.specs.Levels.{levelsOf}
+use Rattle.certificate.specs.Check.{marksIn}
 
 -- an instruction at a may continue at b: "has the same kind", "The need is at least each successor's"
 pub record Continues (certificate : List ℕ) (a b : ℕ) : Type 0 where
@@ -55,17 +57,18 @@ pub record Runs (image certificate : List ℕ) (a : ℕ) : Type 0 where
   pub decodes : decodeAt image a ≡ done (decode.instruction instruction bytes cycles)
   pub rule : FlowRule certificate a (flowOf instruction a) (forwardOf a bytes)
 
--- at a marked address: a kind from 1 to 4, a need from 0 to 6, and an instruction that runs
+-- at a marked address: a kind from 1 to 4, a need from 0 to 6, and with any bank byte, so with each page in place, an
+-- instruction that runs
 pub record Lawful (image certificate : List ℕ) (a : ℕ) : Type 0 where
   pub mark : WellFormed (markAt certificate a)
-  pub runs : Runs image certificate a
+  pub runs : (bank : ℕ) → Runs (spaceOf image bank) certificate a
 
 -- all of them, with a number of levels
 pub record Rules (image certificate : List ℕ) (wired levels : ℕ) : Type 0 where
-  -- "An image is 2048 bytes (800h to FFFh) or 4096 bytes (000h to FFFh)."
-  pub image-length : (length image ≡ 2048) ⊎ (length image ≡ 4096)
-  -- "One mark for each ROM byte"
-  pub certificate-length : length certificate ≡ length image
+  -- "An image is 2048 bytes (800h to FFFh)", or has 2 to 10 halves of 2048 (W-210)
+  pub image-length : isImage (length image) ≡ true
+  -- "One mark for each ROM byte", and in paged images for each address
+  pub certificate-length : length certificate ≡ marksIn (length image)
   -- "11 (wired byte)": bits 5, 6 and 7 are not set
   pub sources : namesOnlySources wired ≡ true
   -- "Every marked address .."

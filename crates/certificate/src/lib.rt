@@ -19,3 +19,9 @@ pub enum Finding {
     Passes,
     Fault(Refusal),
 }
+
+// A pass over the first marks with a page in place: what it found, and the mark there, or how many marks it went over.
+pub struct Search {
+    pub finding: Finding,
+    pub end: usize,
+}

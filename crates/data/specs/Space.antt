@@ -5,13 +5,17 @@ use mathlib.Core.Bool.{Bool, cond, _&&_, _||_}
 use mathlib.Core.List.{List}
 use lib.ListN.{getD, set}
 use lib.Dec.{ltb, leb, eqb}
-use Rattle.isa.specs.Rom.{romAt}
+use Rattle.isa.specs.Rom.{spaceOf, romAt}
 use Rattle.isa.specs.declared.rom.RomByte.{RomByte}
 use Rattle.isa.specs.declared.rom.RomByte.the-variants.{Byte, Outside}
 use Rattle.isa.specs.declared.Operand.{Operand}
 use Rattle.isa.specs.declared.Operand.the-variants.{Direct, Short, ThroughX, ThroughY}
 use Rattle.data.specs.declared.Origin.{Origin}
 use Rattle.data.specs.declared.Origin.the-variants.{Ram, Register, Rom, NoRom}
+
+-- program space as it stands, with the bank byte at 0CAh (W-210)
+abbrev pub programOf : (image bytes : List ℕ) → List ℕ
+programOf image bytes = spaceOf image (getD bytes 0xCA 0)
 
 -- "40h–7Fh show ROM"
 abbrev pub inWindow : ℕ → Bool

@@ -9,6 +9,8 @@ use alu::Flags;
 use alu::Outcome;
 use isa::Instruction;
 ghost use mathlib.Core.Path.{_≡_};
+ghost use Rattle.isa.specs.Rom.{IsImage};
+ghost use Rattle.data.specs.Space.{programOf};
 ghost use Rattle.data.specs.Effect.{
   dataOf,
   storeResultOf,
@@ -62,8 +64,9 @@ fn store_a(address: u8, bytes: &mut [u8; 256], carry: bool) -> Flags
 
 // INC.
 fn increment(image: &[u8], address: u8, bytes: &mut [u8; 256], carry: bool) -> Flags
-    ensures { λ r. ⌜ dataOf (now (bytes .exit)) r
-        ≡ incrementOf (now (image .entry)) (now (bytes .entry)) carry address ⌝ }
+    ensures { λ r. ⌜ (IsImage (now (image .entry))
+        → dataOf (now (bytes .exit)) r
+        ≡ incrementOf (programOf (now (image .entry)) (now (bytes .entry))) (now (bytes .entry)) carry address) ⌝ }
 {
     let result = alu::incremented(read(image, bytes, address), carry);
     store_result(bytes, address, result)
@@ -71,8 +74,9 @@ fn increment(image: &[u8], address: u8, bytes: &mut [u8; 256], carry: bool) -> F
 
 // DEC.
 fn decrement(image: &[u8], address: u8, bytes: &mut [u8; 256], carry: bool) -> Flags
-    ensures { λ r. ⌜ dataOf (now (bytes .exit)) r
-        ≡ decrementOf (now (image .entry)) (now (bytes .entry)) carry address ⌝ }
+    ensures { λ r. ⌜ (IsImage (now (image .entry))
+        → dataOf (now (bytes .exit)) r
+        ≡ decrementOf (programOf (now (image .entry)) (now (bytes .entry))) (now (bytes .entry)) carry address) ⌝ }
 {
     let result = alu::decremented(read(image, bytes, address), carry);
     store_result(bytes, address, result)
@@ -136,8 +140,9 @@ fn store_immediate(bytes: &mut [u8; 256], flags: Flags, address: u8, value: u8) 
 
 // SET: no flag changes.
 fn set_bit(image: &[u8], bytes: &mut [u8; 256], flags: Flags, address: u8, bit: u8) -> Flags
-    ensures { λ r. ⌜ dataOf (now (bytes .exit)) r
-        ≡ setBitOf (now (image .entry)) (now (bytes .entry)) flags address bit ⌝ }
+    ensures { λ r. ⌜ (IsImage (now (image .entry))
+        → dataOf (now (bytes .exit)) r
+        ≡ setBitOf (programOf (now (image .entry)) (now (bytes .entry))) (now (bytes .entry)) flags address bit) ⌝ }
 {
     let value = alu::with_bit(read(image, bytes, address), bit);
     store(bytes, address, value);
@@ -146,8 +151,9 @@ fn set_bit(image: &[u8], bytes: &mut [u8; 256], flags: Flags, address: u8, bit: 
 
 // RES: no flag changes.
 fn reset_bit(image: &[u8], bytes: &mut [u8; 256], flags: Flags, address: u8, bit: u8) -> Flags
-    ensures { λ r. ⌜ dataOf (now (bytes .exit)) r
-        ≡ resetBitOf (now (image .entry)) (now (bytes .entry)) flags address bit ⌝ }
+    ensures { λ r. ⌜ (IsImage (now (image .entry))
+        → dataOf (now (bytes .exit)) r
+        ≡ resetBitOf (programOf (now (image .entry)) (now (bytes .entry))) (now (bytes .entry)) flags address bit) ⌝ }
 {
     let value = alu::without_bit(read(image, bytes, address), bit);
     store(bytes, address, value);
@@ -156,7 +162,8 @@ fn reset_bit(image: &[u8], bytes: &mut [u8; 256], flags: Flags, address: u8, bit
 
 // JRR and JRS: the tested bit goes to C, jump or not.
 pub fn test_bit(image: &[u8], bytes: &[u8; 256], zero: bool, address: u8, bit: u8) -> Flags
-    ensures { λ r. ⌜ r ≡ testBitOf (now (image .entry)) (now (bytes .entry)) zero address bit ⌝ }
+    ensures { λ r. ⌜ (IsImage (now (image .entry))
+        → r ≡ testBitOf (programOf (now (image .entry)) (now (bytes .entry))) (now (bytes .entry)) zero address bit) ⌝ }
 {
     let carry = alu::bit(read(image, bytes, address), bit);
     Flags { zero, carry }
@@ -164,8 +171,10 @@ pub fn test_bit(image: &[u8], bytes: &[u8; 256], zero: bool, address: u8, bit: u
 
 // An instruction's effect. Jumps on a flag, CALL, JP, returns, STOP and WAIT have none.
 pub fn effect(image: &[u8], bytes: &mut [u8; 256], flags: Flags, instruction: Instruction) -> Flags
-    ensures { λ r. ⌜ dataOf (now (bytes .exit)) r
-        ≡ effectOf (now (image .entry)) (dataOf (now (bytes .entry)) flags) instruction ⌝ }
+    ensures { λ r. ⌜ (IsImage (now (image .entry))
+        → dataOf (now (bytes .exit)) r
+        ≡ effectOf (programOf (now (image .entry)) (now (bytes .entry))) (dataOf (now (bytes .entry)) flags)
+        instruction) ⌝ }
 {
     let carry = flags.carry;
     match instruction {

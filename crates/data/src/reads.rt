@@ -6,6 +6,8 @@ use crate::space::origin;
 use isa::Instruction;
 use isa::Operand;
 ghost use mathlib.Core.Path.{_≡_};
+ghost use Rattle.isa.specs.Rom.{IsImage};
+ghost use Rattle.data.specs.Space.{programOf};
 ghost use Rattle.data.specs.Reads.{operandReadOf, originReadOf};
 
 // The data operand that an instruction reads, by its form.
@@ -30,7 +32,8 @@ fn operand_read(instruction: Instruction) -> OperandRead
 
 // The origin of the data operand that an instruction reads.
 pub fn origin_read(image: &[u8], bytes: &[u8; 256], instruction: Instruction) -> OriginRead
-    ensures { λ r. ⌜ r ≡ originReadOf (now (image .entry)) (now (bytes .entry)) instruction ⌝ }
+    ensures { λ r. ⌜ (IsImage (now (image .entry))
+        → r ≡ originReadOf (programOf (now (image .entry)) (now (bytes .entry))) (now (bytes .entry)) instruction) ⌝ }
 {
     match operand_read(instruction) {
         OperandRead::Nothing => OriginRead::Nothing,

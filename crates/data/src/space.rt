@@ -4,14 +4,18 @@
 use crate::Origin;
 use isa::Operand;
 use isa::rom::RomByte;
+use isa::rom::fixed_of;
+use isa::rom::page_of;
 use isa::rom::rom_byte;
 ghost use mathlib.Core.Path.{_≡_};
-ghost use Rattle.isa.specs.Rom.{romAt};
-ghost use Prim.Native.Nat.{_≤_};
+ghost use Rattle.isa.specs.Rom.{IsImage, romAt};
+ghost use Prim.Native.Nat.{_≤_, _<_};
 ghost use Rattle.data.specs.Space.{inWindow, isWriteOnly, shownOf, windowAddress, heldOf, readOf, originOf};
+ghost use Rattle.data.specs.Space.{programOf};
 ghost use Rattle.data.specs.Space.{storeOf, addressOf, operandOf};
 
-// Data addresses that the paper names: X, Y, A, the interrupt option register and the ROM window register.
+// Data addresses that the paper names: X, Y, A, the interrupt option register, the ROM window register and the bank
+// register.
 pub const X: usize = 0x80;
 
 pub const Y: usize = 0x81;
@@ -21,6 +25,8 @@ pub const A: u8 = 0xFF;
 pub const INTERRUPT_OPTION: usize = 0xC8;
 
 pub const ROM_WINDOW: usize = 0xC9;
+
+pub const BANK: usize = 0xCA;
 
 // Whether an address lies in the ROM window.
 pub fn is_window(address: u8) -> bool
@@ -37,39 +43,53 @@ fn is_write_only(address: u8) -> bool
     at == INTERRUPT_OPTION || at == ROM_WINDOW
 }
 
-// The byte of program space that the ROM window shows at an address, 0 where the image has none.
-fn shown(image: &[u8], address: u16) -> u8
-    ensures { λ r. ⌜ r ≡ shownOf (romAt (now (image .entry)) address) ⌝ }
-{
-    match rom_byte(image, address) {
-        RomByte::Byte(byte) => byte,
-        RomByte::Outside => 0,
-    }
-}
-
 // The program address that the ROM window shows at an address in it, by the byte stored in its register.
 fn window_address(bytes: &[u8; 256], address: u8) -> u16
-    requires { ⌜ 0x40 ≤ address ⌝ }
-    ensures { λ r. ⌜ r ≡ windowAddress (now (bytes .entry)) address ⌝ }
+    requires { ⌜ (0x40 ≤ address) × (address < 0x80) ⌝ }
+    ensures { λ r. ⌜ (r ≡ windowAddress (now (bytes .entry)) address) × (r < 4096) ⌝ }
 {
     let window = bytes[ROM_WINDOW];
     64 * ((window % 64) as u16) + ((address - 0x40) as u16)
 }
 
+// The byte of program space, as it stands, that the ROM window shows at an address in it.
+fn window_byte(image: &[u8], bytes: &[u8; 256], address: u8) -> RomByte
+    requires { ⌜ (0x40 ≤ address) × (address < 0x80) ⌝ }
+    ensures { λ r. ⌜ (IsImage (now (image .entry))
+        → r ≡ romAt (programOf (now (image .entry)) (now (bytes .entry)))
+        (windowAddress (now (bytes .entry)) address)) ⌝ }
+{
+    let at = window_address(bytes, address);
+    let page = page_of(image, bytes[BANK]);
+    rom_byte(page, fixed_of(image), at)
+}
+
+// What the ROM window shows: a byte, 0 where the image has none.
+fn shown(byte: RomByte) -> u8
+    ensures { λ r. ⌜ r ≡ shownOf byte ⌝ }
+{
+    match byte {
+        RomByte::Byte(byte) => byte,
+        RomByte::Outside => 0,
+    }
+}
+
 // The byte that stands at a data address, whether a program can read it or not.
 fn held(image: &[u8], bytes: &[u8; 256], address: u8) -> u8
-    ensures { λ r. ⌜ r ≡ heldOf (now (image .entry)) (now (bytes .entry)) address ⌝ }
+    ensures { λ r. ⌜ (IsImage (now (image .entry))
+        → r ≡ heldOf (programOf (now (image .entry)) (now (bytes .entry))) (now (bytes .entry)) address) ⌝ }
 {
     let at = address as usize;
     if !is_window(address) {
         return bytes[at];
     }
-    shown(image, window_address(bytes, address))
+    shown(window_byte(image, bytes, address))
 }
 
 // The one read of a data byte.
 pub fn read(image: &[u8], bytes: &[u8; 256], address: u8) -> u8
-    ensures { λ r. ⌜ r ≡ readOf (now (image .entry)) (now (bytes .entry)) address ⌝ }
+    ensures { λ r. ⌜ (IsImage (now (image .entry))
+        → r ≡ readOf (programOf (now (image .entry)) (now (bytes .entry))) (now (bytes .entry)) address) ⌝ }
 {
     if is_write_only(address) {
         return 0;
@@ -79,11 +99,12 @@ pub fn read(image: &[u8], bytes: &[u8; 256], address: u8) -> u8
 
 // Where the byte that `read` gives at an address comes from.
 pub fn origin(image: &[u8], bytes: &[u8; 256], address: u8) -> Origin
-    ensures { λ r. ⌜ r ≡ originOf (now (image .entry)) (now (bytes .entry)) address ⌝ }
+    ensures { λ r. ⌜ (IsImage (now (image .entry))
+        → r ≡ originOf (programOf (now (image .entry)) (now (bytes .entry))) (now (bytes .entry)) address) ⌝ }
 {
     if is_window(address) {
         let at = window_address(bytes, address);
-        return match rom_byte(image, at) {
+        return match window_byte(image, bytes, address) {
             RomByte::Byte(_) => Origin::Rom(at),
             RomByte::Outside => Origin::NoRom,
         };
@@ -119,7 +140,8 @@ pub fn address(bytes: &[u8; 256], operand: Operand) -> u8
 
 // The byte of an operand.
 pub fn operand(image: &[u8], bytes: &[u8; 256], o: Operand) -> u8
-    ensures { λ r. ⌜ r ≡ operandOf (now (image .entry)) (now (bytes .entry)) o ⌝ }
+    ensures { λ r. ⌜ (IsImage (now (image .entry))
+        → r ≡ operandOf (programOf (now (image .entry)) (now (bytes .entry))) (now (bytes .entry)) o) ⌝ }
 {
     read(image, bytes, address(bytes, o))
 }

@@ -11,7 +11,7 @@ use lib.ListN.{length}
 use Rattle.isa.specs.Refusals.{plain, Answer, done, refused, unless}
 use Rattle.isa.specs.Rom.{isImage}
 use Rattle.isa.specs.Sources.{namesOnlySources}
-use Rattle.isa.specs.Decode.{decodeAt}
+use Rattle.isa.specs.Decode.{decodeAt, decodeIn}
 use Rattle.data.specs.declared.OriginRead.{OriginRead}
 use Rattle.data.specs.declared.OriginRead.the-variants.{Nothing}
 use Rattle.machine.specs.declared.Machine.{Machine}
@@ -20,7 +20,7 @@ use Rattle.machine.specs.Step.{Step, refusedOf, stepOf}
 use Rattle.machine.specs.Operands.{readWith, stepReadOf}
 use Rattle.certificate.specs.Levels.{levelsOf}
 use Rattle.certificate.specs.Findings.{fault}
-use Rattle.certificate.specs.Check.{verdict, checkOf}
+use Rattle.certificate.specs.Check.{marksIn, verdict, checkOf}
 use Rattle.maker.specs.Make.{Makes}
 use Rattle.exports.specs.Lent.{Lent, steppedLent, MakeLent}
 
@@ -77,7 +77,7 @@ unfolding checkOf
 check-by image certificate n true e = refl
 check-by image certificate n false e =
     rw (le-ltb n 32 (omega (arith, ltb-false n 256 e)))
-    (unwired (isImage (length image)) (eqb (length certificate) (length image)) (levelsOf certificate 255)
+    (unwired (isImage (length image)) (eqb (length certificate) (marksIn (length image))) (levelsOf certificate 255)
     (levelsOf certificate n))
 
 pub check-clamped :
@@ -86,13 +86,13 @@ pub check-clamped :
 check-clamped image certificate n = check-by image certificate n (ltb n 256) refl
 
 decode-by :
-    (image : List ℕ) (a : ℕ) (b : Bool) → ltb a 4096 ≡ b → decodeAt image (cond b a 4096) ≡ decodeAt image a
-unfolding decodeAt
-decode-by image a true e = refl
-decode-by image a false e = rw e
+    (image : List ℕ) (bank a : ℕ) (b : Bool) → ltb a 4096 ≡ b → decodeIn image bank (cond b a 4096) ≡ decodeIn image bank a
+unfolding decodeIn decodeAt
+decode-by image bank a true e = refl
+decode-by image bank a false e = rw e
 
-pub decode-clamped : (image : List ℕ) (a : ℕ) → decodeAt image (cond (ltb a 4096) a 4096) ≡ decodeAt image a
-decode-clamped image a = decode-by image a (ltb a 4096) refl
+pub decode-clamped : (image : List ℕ) (bank a : ℕ) → decodeIn image bank (cond (ltb a 4096) a 4096) ≡ decodeIn image bank a
+decode-clamped image bank a = decode-by image bank a (ltb a 4096) refl
 
 -- the maker: 255 names no source alone, and neither does a greater number
 make-by : (image : List ℕ) (n : ℕ) (out after : List ℕ) (a : Answer ℕ) (b : Bool) → ltb n 256 ≡ b

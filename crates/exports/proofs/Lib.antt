@@ -7,3 +7,4 @@ pub mod Runs
 pub mod Plays
 pub mod RefusalsLeave
 pub mod Reading
+pub mod OnePage

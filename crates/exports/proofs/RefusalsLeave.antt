@@ -8,7 +8,7 @@ use lib.Dec.{leb}
 use lib.ListN.{length}
 use Rattle.isa.specs.Refusals.{plain, Answer, done, refused, unless}
 use Rattle.isa.specs.RoundTrip.{Bytes}
-use Rattle.isa.specs.Decode.{decodeAt}
+use Rattle.isa.specs.Decode.{decodeIn}
 use Rattle.isa.specs.Decode as decode
 use Rattle.isa.specs.Write.{outcome, bufferAfter}
 use Rattle.isa.specs.Encode.{encodeOf}
@@ -105,10 +105,16 @@ reset : (s : List ℕ) (u : Unpacked) → Leaves s (resetBy s u)
 reset s (valid m) k = absurd (k refl)
 reset s invalid k = refl
 
+-- a bank beyond its byte leaves all
+with-bank : (b : Bool) (image : List ℕ) (address bank : ℕ) (out : List ℕ)
+    → Leaves out (cond b (decodedLent out (decodeIn image bank address)) (lent (refusalWord (plain 8)) out))
+with-bank true image address bank out = decoded out (decodeIn image bank address)
+with-bank false image address bank out = λ k. refl
+
 pub refusals-leave : RefusalsLeave
 unfolding decodeLent writeLent resetLent storeLent stepLent jobLent
 refusals-leave = record {
-  by-decode = λ image address out. decoded out (decodeAt image address);
+  by-decode = λ image address bank out. with-bank (leb bank 255) image address bank out;
   by-write = λ fields out. read out (unpackedInstruction fields);
   by-reset = λ s. reset s (unpacked s);
   by-store = λ s bytes a value. in-range s bytes a value (leb a 255 && leb value 255);

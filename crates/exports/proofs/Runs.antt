@@ -9,6 +9,8 @@ use lib.ListN.{length, getD, drop}
 use Rattle.isa.specs.Refusals.{Numbered, plain, located, Answer, Ended, done, refused, unless}
 use Rattle.isa.specs.RoundTrip.{Bytes}
 use Rattle.isa.specs.Rom.{isImage}
+use Rattle.isa.proofs.Halves.{is-space}
+use Rattle.data.specs.Space.{programOf}
 use Rattle.machine.specs.declared.Machine.{Machine}
 use Rattle.machine.specs.State.{isWellFormed}
 use Rattle.machine.specs.Step.{Step, stepOf}
@@ -24,7 +26,7 @@ use Rattle.exports.specs.Laws.{RefusedRuns, numberOf, StopNumber, KeepsS
 
 -- a step that is refused or stops keeps the machine
 module _ (image : List ℕ) (m : Machine) (request : ℕ) where
-  does-keep : (t : Step) → Does image m request t → (r : Numbered) → t .answer ≡ refused r → t .machine ≡ m
+  does-keep : (t : Step) → Does (programOf image (m .bytes)) m request t → (r : Numbered) → t .answer ≡ refused r → t .machine ≡ m
   does-keep t (stops n is) r e = refl
   does-keep t (takes source asked room) r e = let z : _≡_ {A = ℕ} 0 1 = cc in absurd (omega arith)
   does-keep t (idles none asleep) r e = let z : _≡_ {A = ℕ} 0 1 = cc in absurd (omega arith)
@@ -32,7 +34,8 @@ module _ (image : List ℕ) (m : Machine) (request : ℕ) where
 
   tested-keep : (t : Step) → Tested image m request t → (r : Numbered) → t .answer ≡ refused r → t .machine ≡ m
   tested-keep t (refuses n why) r e = refl
-  tested-keep t (passes size formed sources) r e = does-keep t (step-does image m request size formed) r e
+  tested-keep t (passes size formed sources) r e = does-keep t
+      (step-does (programOf image (m .bytes)) m request (is-space image (getD (m .bytes) 0xCA 0) size) formed) r e
 
   pub step-keeps : (r : Numbered) → stepOf image m request .answer ≡ refused r → stepOf image m request .machine ≡ m
   step-keeps = tested-keep (stepOf image m request) (step-tested image m request)

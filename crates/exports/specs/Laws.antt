@@ -181,7 +181,7 @@ pub record PlayLeaves (image session s before : List ℕ) (l : LentRun) : Type 0
 -- line, with 9.
 -- proved by refusals-leave, proofs/RefusalsLeave
 pub record RefusalsLeave : Type 0 where
-  pub by-decode : (image : List ℕ) (address : ℕ) (out : List ℕ) → Leaves out (decodeLent image address out)
+  pub by-decode : (image : List ℕ) (address bank : ℕ) (out : List ℕ) → Leaves out (decodeLent image address bank out)
   pub by-write : (fields out : List ℕ) → Leaves out (writeLent fields out)
   pub by-reset : (s : List ℕ) → Leaves s (resetLent s)
   pub by-store : (s : List ℕ) → Bytes s → (a value : ℕ) → Leaves s (storeLent s a value)

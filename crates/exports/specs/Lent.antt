@@ -6,7 +6,7 @@ use mathlib.Core.List.{List, [], _∷_, _++_}
 use lib.ListN.{length, drop}
 use lib.Dec.{leb, eqb}
 use Rattle.isa.specs.Refusals.{plain, Answer, done, refused, unless}
-use Rattle.isa.specs.Decode.{decodeAt}
+use Rattle.isa.specs.Decode.{decodeIn}
 use Rattle.isa.specs.Decode as decode
 use Rattle.isa.specs.Write.{outcome, bufferAfter}
 use Rattle.isa.specs.Encode.{encodeOf}
@@ -127,8 +127,10 @@ decodedLent out (done (decode.instruction i bytes cycles)) =
     (lent (refusalWord (plain 9)) out)
 decodedLent out (refused r) = lent (refusalWord r) out
 
-unfoldable pub decodeLent : (image : List ℕ) → (address : ℕ) → (out : List ℕ) → Lent
-decodeLent image address out = decodedLent out (decodeAt image address)
+-- a bank beyond its byte is refused with 8, first
+unfoldable pub decodeLent : (image : List ℕ) → (address bank : ℕ) → (out : List ℕ) → Lent
+decodeLent image address bank out =
+    cond (leb bank 255) (decodedLent out (decodeIn image bank address)) (lent (refusalWord (plain 8)) out)
 
 -- fields that are no instruction's are refused with 8
 abbrev pub writeBy : List ℕ → Reading → Lent

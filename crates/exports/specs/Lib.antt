@@ -5,3 +5,4 @@ pub mod Answers
 pub mod Fields
 pub mod Lent
 pub mod Laws
+pub mod OnePage

@@ -45,16 +45,18 @@ use states::is_valid;
 use states::unpack;
 ghost use mathlib.Core.Path.{_≡_};
 ghost use Rattle.certificate.specs.Check.{checkOf};
+ghost use Rattle.isa.specs.Decode.{decodeIn};
 ghost use Rattle.exports.specs.Answers.{answerWord, widthWord};
 ghost use Rattle.exports.specs.Lent.{lent, lentRun, decodeLent, writeLent, resetLent, storeLent, stepLent};
+ghost use Rattle.exports.specs.Lent.{decodedLent};
 ghost use Rattle.exports.specs.Lent.{readWord, runLent, playLent, jobLent, MakeLent};
 
-// Decodes at an address of the image into `out`.
-#[no_mangle]
-pub extern "C" fn st62_decode(image: &[u8], address: u32, out: &mut [u8]) -> u64
-    ensures { λ r. ⌜ lent r (now (out .exit)) ≡ decodeLent (now (image .entry)) address (now (out .entry)) ⌝ }
+// Decodes at an address of the image with a bank byte into `out`.
+fn decode_with(image: &[u8], address: u32, bank: u8, out: &mut [u8]) -> u64
+    ensures { λ r. ⌜ lent r (now (out .exit))
+        ≡ decodedLent (now (out .entry)) (decodeIn (now (image .entry)) bank address) ⌝ }
 {
-    match decode(image, clamp_address(address)) {
+    match decode(image, bank, clamp_address(address)) {
         Decoded::Refused(refusal) => refused(refusal),
         Decoded::Valid {
             instruction,
@@ -68,6 +70,17 @@ pub extern "C" fn st62_decode(image: &[u8], address: u32, out: &mut [u8]) -> u64
             done(length as u32)
         }
     }
+}
+
+// Decodes at an address of the image into `out`.
+#[no_mangle]
+pub extern "C" fn st62_decode(image: &[u8], address: u32, bank: u32, out: &mut [u8]) -> u64
+    ensures { λ r. ⌜ lent r (now (out .exit)) ≡ decodeLent (now (image .entry)) address bank (now (out .entry)) ⌝ }
+{
+    if 255 < bank {
+        return refused(Refusal::OperandRange);
+    }
+    decode_with(image, address, bank as u8, out)
 }
 
 // Writes the instruction of the first seven fields into `out`.

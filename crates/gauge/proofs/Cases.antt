@@ -25,7 +25,7 @@ use Rattle.certificate.specs.Marks
 use Rattle.certificate.specs.Successors
 use Rattle.certificate.specs.Levels
 use Rattle.certificate.specs.Vectors.{vectorsFound, sourceFound, vectorFound}
-use Rattle.certificate.specs.Check.{checkOf, marksFound, markFound, decodedFound, flowFound}
+use Rattle.certificate.specs.Check.{checkOf, marksFound, markFound, pagesFound, decodedFound, flowFound}
 use Rattle.gauge.specs.Sleep.{machineAfter, AwakeAfter, AsleepAfter, Ready}
 use Rattle.gauge.specs.Width.{startOf}
 use Rattle.gauge.specs.Outcomes.{Accepted, NotChecked, Measured, NeverSlept}
@@ -38,7 +38,7 @@ use Rattle.gauge.specs.Cases.{
   WidthCases,
 }
 use Rattle.gauge.proofs.Sleeper.{one-further}
-use Rattle.gauge.proofs.NeverStops.{ready}
+use Rattle.gauge.proofs.NeverStops.{ready, checked}
 use Rattle.gauge.proofs.Outcomes.{exactly-one}
 
 -- what the check says of the three
@@ -48,10 +48,10 @@ record Checks : Type 0 where
   unmarked : NotChecked copyingImage blank
 
 checks : Checks
-unfolding checkOf marksFound markFound decodedFound flowFound vectorsFound sourceFound vectorFound Marks.markAt
+unfolding checkOf marksFound markFound pagesFound decodedFound flowFound vectorsFound sourceFound vectorFound Marks.markAt
     Marks.kindAt Marks.needAt Successors.placed Successors.successorsOf Successors.allHaveKind Successors.coversAll
     Successors.successorsFound Levels.sourceLevels Levels.levelsFor Levels.levelsOf Map.entryOf Table.bytesOf
-    Table.cyclesOf Map.formAs Map.formOf Rom.romAt Rom.operandAt Decode.decodeAt ControlFlow.flowOf
+    Table.cyclesOf Map.formAs Map.formOf Rom.romAt Rom.spaceOf Rom.pageOf Rom.fixedOf Rom.operandAt Decode.decodeAt ControlFlow.flowOf
 checks =
     record {
       copying = record { levels = 0; accepts = refl };
@@ -71,7 +71,7 @@ unfolding startOf hostStoreOf resetOf freshOf stepsOf Step.stepOf Step.advancedO
     Step.decodedOf Step.executedOf Step.completedOf executeOf Effect.effectOf Effect.storeResultOf Space.operandOf
     Space.addressOf Space.readOf Space.storeOf WellFormed.addressesFit WellFormed.wellFormed Requests.requestedOf
     Transfers.advanceOf Transfers.sleptOf Map.entryOf Table.bytesOf Table.cyclesOf Map.formAs Map.formOf Rom.romAt
-    Rom.operandAt Decode.decodeAt ControlFlow.flowOf
+    Rom.spaceOf Rom.pageOf Rom.fixedOf Rom.operandAt Decode.decodeAt ControlFlow.flowOf
 copies count = record { awake = by-step; asleep = refl; high = refl; low = refl }
   where
     by-step : (n : ℕ) → n < 4 → AwakeAfter copyingImage (startOf count) n
@@ -91,21 +91,21 @@ copied count =
       asleep = c .asleep;
       awake = c .awake;
       all-done = λ n h.
-          ready copyingImage copyingCertificate _ (checks .copying .accepts) count .all-done n (omega arith);
+          ready copyingImage copyingCertificate _ (checked copyingImage copyingCertificate (checks .copying .accepts)) count .all-done n (omega arith);
       shows = omega (arith, c .high, c .low);
     }
 
 -- a step of the other program leaves the machine as it was
 stays : (count : ℕ) → stepOf endlessImage (startOf count) 0 .machine ≡ startOf count
-unfolding startOf hostStoreOf resetOf freshOf Step.stepOf Step.advancedOf Step.respondOf Step.uninterruptedOf
+unfolding startOf hostStoreOf Space.storeOf resetOf freshOf Step.stepOf Step.advancedOf Step.respondOf Step.uninterruptedOf
     Step.decodedOf Step.executedOf Step.completedOf executeOf Effect.effectOf WellFormed.addressesFit
     WellFormed.wellFormed Requests.requestedOf Transfers.advanceOf Map.entryOf Table.bytesOf Table.cyclesOf Map.formAs
-    Map.formOf Rom.romAt Rom.operandAt Decode.decodeAt ControlFlow.flowOf
+    Map.formOf Rom.romAt Rom.spaceOf Rom.pageOf Rom.fixedOf Rom.operandAt Decode.decodeAt ControlFlow.flowOf
 stays count = refl
 
 module _ (count : ℕ) where
   r : Ready endlessImage (startOf count)
-  r = ready endlessImage endlessCertificate _ (checks .endless .accepts) count
+  r = ready endlessImage endlessCertificate _ (checked endlessImage endlessCertificate (checks .endless .accepts)) count
 
   stays-on : (n : ℕ) → n ≤ 65535 → machineAfter endlessImage (startOf count) n ≡ startOf count
   unfolding stepsOf

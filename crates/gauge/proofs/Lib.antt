@@ -5,3 +5,4 @@ pub mod Search
 pub mod Runs
 pub mod Outcomes
 pub mod Cases
+pub mod OnePage

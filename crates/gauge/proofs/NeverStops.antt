@@ -1,11 +1,12 @@
 -- Demand 3 for the gauge: an accepted image is ready to be measured, with any count.
 use Prim.Native.Nat.{ℕ}
 use mathlib.Core.Path.{_≡_, sym, ap, _∙_}
-use mathlib.Core.Bool.{true, false, false≢true}
+use mathlib.Core.Bool.{Bool, true, false, false≢true}
+use lib.Dec.{leb}
 use mathlib.Core.List.{List, [], _∷_}
 use native.Mathlib.Omega.{arith}
-use lib.ListN.{replicate}
-use Rattle.isa.specs.Refusals.{Numbered}
+use lib.ListN.{length, replicate}
+use Rattle.isa.specs.Refusals.{Numbered, plain, done, refused, unless}
 use Rattle.machine.specs.State.{machineOf, isWellFormed, resetControl, clearedPairs, resetOf, freshOf, HostStore}
 use Rattle.machine.specs.Refusals as why
 use Rattle.machine.specs.Refusals.{StoreRefused}
@@ -18,7 +19,7 @@ use Rattle.bench.specs.Session.{AllKeep}
 use Rattle.bench.proofs.Session.{never-stops}
 use Rattle.bench.proofs.Unrolled.{none-asks}
 use Rattle.gauge.specs.Sleep.{machineAfter, AllDone, Ready}
-use Rattle.gauge.specs.Width.{startOf}
+use Rattle.gauge.specs.Width.{startOf, unpagedCheck}
 use Rattle.gauge.proofs.Steps.{StepKept, Fits, fits, is-done, run-as-steps}
 
 module _ (image certificate : List ℕ) (levels : ℕ) (accepts : checkOf image certificate 0 ≡ accepted levels)
@@ -63,3 +64,13 @@ module _ (image certificate : List ℕ) (levels : ℕ) (accepts : checkOf image 
 
   pub ready : Ready image (startOf count)
   ready = record { awake = start-awake; all-done = all-done }
+
+-- an image that the gauge takes is checked
+pub checked : (image certificate : List ℕ) {levels : ℕ} → unpagedCheck image certificate ≡ done levels
+    → checkOf image certificate 0 ≡ done levels
+checked image certificate {levels} e = by-length (leb (length image) 4096) e
+  where
+    by-length : (b : Bool) → unless b (refused (plain 1)) (checkOf image certificate 0) ≡ done levels
+        → checkOf image certificate 0 ≡ done levels
+    by-length true e = e
+    by-length false e = let z : _≡_ {A = ℕ} 0 1 = cc in absurd (omega arith)

@@ -17,7 +17,7 @@ use Rattle.gauge.specs.Sleep.{
   sizeAs,
   sizeOf,
 }
-use Rattle.gauge.specs.Width.{startOf, widthOf}
+use Rattle.gauge.specs.Width.{startOf, unpagedCheck, widthOf}
 use Rattle.gauge.specs.Outcomes.{
   NotChecked,
   Measured,
@@ -30,7 +30,7 @@ use Rattle.gauge.specs.Outcomes.{
   NoOther,
   ExactlyOne,
 }
-use Rattle.gauge.proofs.NeverStops.{ready}
+use Rattle.gauge.proofs.NeverStops.{ready, checked}
 use Rattle.gauge.proofs.Search.{AwakeFrom, FirstFrom, sizeAt, finds, finds-none, search-from}
 
 widthIn : Answer Size → ℕ
@@ -67,9 +67,9 @@ module _ (image certificate : List ℕ) (count : ℕ) where
   refuses-24 x =
       rw (x .accepted .accepts) (finds-none image (startOf count) 1 65535 (λ d h. x .awake (1 + d) (omega arith)))
 
-  module _ (levels : ℕ) (accepts : checkOf image certificate 0 ≡ accepted levels) where
+  module _ (levels : ℕ) (accepts : unpagedCheck image certificate ≡ accepted levels) where
     r : Ready image (startOf count)
-    r = ready image certificate levels accepts count
+    r = ready image certificate levels (checked image certificate accepts) count
 
     -- awake at the start too
     from-start : (steps : ℕ) → AwakeFrom image (startOf count) 1 steps → (n : ℕ) → n < suc steps
@@ -101,12 +101,12 @@ module _ (image certificate : List ℕ) (count : ℕ) where
           all-done = r .all-done;
         })
 
-  by-check : (v : Verdict) → checkOf image certificate 0 ≡ v → Outcome image certificate count
+  by-check : (v : Verdict) → unpagedCheck image certificate ≡ v → Outcome image certificate count
   by-check (done levels) e = by-search levels e (search-from image (startOf count) 1 65535)
   by-check (refused n) e = not-checked (record { refusal = n; refuses = e })
 
   outcome : Outcome image certificate count
-  outcome = by-check (checkOf image certificate 0) refl
+  outcome = by-check (unpagedCheck image certificate) refl
 
   -- two answers that differ
   apart : {P : Type 0} (a b : ℕ) → a < b → _≡_ {A = Answer Size} (refused (plain a)) (refused (plain b)) → P

@@ -5,9 +5,11 @@ use mathlib.Core.Logic.{_⊎_, inl, inr}
 use mathlib.Core.Bool.{Bool, true, false, false≢true}
 use mathlib.Core.List.{List, []}
 use native.Mathlib.Omega.{arith}
-use lib.ListN.{length}
+use lib.ListN.{getD, length}
 use Rattle.isa.specs.Refusals.{Numbered, plain, located, Answer, done, refused}
 use Rattle.isa.specs.Rom.{isImage}
+use Rattle.isa.proofs.Halves.{is-space}
+use Rattle.data.specs.Space.{programOf}
 use Rattle.machine.specs.declared.Machine.{Machine}
 use Rattle.machine.specs.State.{isWellFormed}
 use Rattle.machine.specs.Step.{Step, stepOf}
@@ -59,7 +61,7 @@ is-done image m (inl r) =
     by-reason _ e (why.ill-formed i w) = let y : _≡_ {A = ℕ} 2 11 = cc in omega arith
     by-reason _ e (why.unknown-source i w names) = false≢true (sym names)
     by-reason n e (why.stops _ i w names stop) =
-        let s : IsStop n = stops-numbered image m 0 i w n stop in
+        let s : IsStop n = stops-numbered (programOf image (m .bytes)) m 0 (is-space image (getD (m .bytes) 0xCA 0) i) w n stop in
         let x : plain 11 ≡ located (s .number) (s .address) = sym e ∙ s .is in
         let y : _≡_ {A = ℕ} 0 1 = cc in
         omega arith

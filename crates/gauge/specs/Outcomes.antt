@@ -5,20 +5,19 @@ use mathlib.Core.Path.{_≡_}
 use mathlib.Core.List.{List}
 use lib.ListN.{getD}
 use Rattle.isa.specs.Refusals.{Numbered, plain, done, refused}
-use Rattle.certificate.specs.Check.{checkOf}
 use Rattle.certificate.specs.Check as check
 use Rattle.gauge.specs.Sleep.{machineAfter, AsleepAfter, AwakeAfter, AllDone, sizeAs}
-use Rattle.gauge.specs.Width.{startOf, widthOf}
+use Rattle.gauge.specs.Width.{startOf, unpagedCheck, widthOf}
 
 -- "the check with nothing wired" accepts
 pub record Accepted (image certificate : List ℕ) : Type 0 where
   pub levels : ℕ
-  pub accepts : checkOf image certificate 0 ≡ check.accepted levels
+  pub accepts : unpagedCheck image certificate ≡ check.accepted levels
 
--- 23: "the check with nothing wired refuses", with any number
+-- 23: "the check with nothing wired refuses", with any number, or the image is paged
 pub record NotChecked (image certificate : List ℕ) : Type 0 where
   pub refusal : Numbered
-  pub refuses : checkOf image certificate 0 ≡ refused refusal
+  pub refuses : unpagedCheck image certificate ≡ refused refusal
 
 -- "It starts a fresh machine, stores the count at 0C0h and runs without requests until the machine sleeps."
 pub record Measured (image certificate : List ℕ) (count width steps : ℕ) : Type 0 where

@@ -8,7 +8,7 @@ use mathlib.Core.List.{List, [], _∷_}
 use lib.Dec.{eqb}
 use lib.ListN.{length, take, drop}
 use borrow.Author.Tests.{eqb-true}
-use Rattle.isa.specs.Rom.{isImage}
+use Rattle.isa.specs.Rom.{isSpace}
 use Rattle.hex.specs.declared.Fault.{Fault}
 use Rattle.hex.specs.declared.Fault.the-variants.{NoEnd}
 use Rattle.hex.specs.declared.HexAnswer.the-variants.{Read, Refused, ImageLength}
@@ -105,18 +105,18 @@ within-by : (a b n : ℕ) → a ≤ 4096 → b ≤ 4096 → (s t : Bool) → (s 
 within-by a b n x y true t f g e = omega (arith, f refl)
 within-by a b n x y false t f g e = omega (arith, g e)
 
-pub image-within : (n : ℕ) → isImage n ≡ true → n ≤ 4096
+pub image-within : (n : ℕ) → isSpace n ≡ true → n ≤ 4096
 image-within n e =
     within-by 2048 4096 n (omega arith) (omega arith) (eqb n 2048) (eqb n 4096) (eqb-true n 2048) (eqb-true n 4096) e
 
 -- the answers of a reading
 module _ (text : List ℕ) (fill : ℕ) (lent : List ℕ) where
-  pub reads-nothing : isImage (length lent) ≡ false → Reads text fill lent lent ImageLength
+  pub reads-nothing : isSpace (length lent) ≡ false → Reads text fill lent lent ImageLength
   unfolding outcomeOf
   reads-nothing e = record { answer = rw e; image = rw e }
 
   module _
-      (is : isImage (length lent) ≡ true) (answer : Reading) (memory : List ℕ)
+      (is : isSpace (length lent) ≡ true) (answer : Reading) (memory : List ℕ)
       (read : readingOf answer memory ≡ afterLines (firstOf (length lent)) false 1 blank (linesOf text)) where
     outcome : outcomeOf text (length lent) ≡ readingOf answer memory
     unfolding outcomeOf

@@ -9,7 +9,7 @@ use lib.Dec.{eqb}
 use lib.ListN.{length, getD, replicate, length-replicate, getD-replicate, replicate-append-replicate, List·getD-append}
 use lib.Seq.{getD-append-add, ext-getD}
 use borrow.Author.Tests.{eqb-true, lt-ltb}
-use Rattle.isa.specs.Rom.{isImage}
+use Rattle.isa.specs.Rom.{isSpace}
 use Rattle.isa.specs.RoundTrip.{Bytes}
 use Rattle.hex.specs.Image.{filled, lowestFrom, lowestIn, valueOf}
 use Rattle.hex.specs.Place.{blank}
@@ -26,7 +26,7 @@ rows-by :
 rows-by n true t f g e = let is = f refl in (omega (arith, is), omega (arith, is))
 rows-by n false t f g e = let is = g e in (omega (arith, is), omega (arith, is))
 
-rows-of : (n : ℕ) → isImage n ≡ true → (n ≡ n / 16 * 16) × (0 < n)
+rows-of : (n : ℕ) → isSpace n ≡ true → (n ≡ n / 16 * 16) × (0 < n)
 rows-of n e = rows-by n (eqb n 2048) (eqb n 4096) (eqb-true n 2048) (eqb-true n 4096) e
 
 -- cells that are not named
@@ -56,7 +56,7 @@ pass-over memory (suc k) a n h =
     (λ j l. let same : suc a + j ≡ a + suc j = omega arith in rw same (h (suc j) (omega arith))) in
     rw (more, next, here) again
 
-module _ (image : List ℕ) (bytes : Bytes image) (is : isImage (length image) ≡ true) where
+module _ (image : List ℕ) (bytes : Bytes image) (is : isSpace (length image) ≡ true) where
   below : firstOf (length image) + length image ≡ 4096
   below = omega (arith, image-within (length image) is)
 

@@ -5,7 +5,7 @@ use mathlib.Core.Bool.{Bool, false}
 use mathlib.Core.List.{List, [], _∷_}
 use lib.ListN.{length}
 use Rattle.isa.specs.Refusals.{unless}
-use Rattle.isa.specs.Rom.{isImage}
+use Rattle.isa.specs.Rom.{isSpace}
 use Rattle.hex.specs.declared.Fault.{Fault}
 use Rattle.hex.specs.declared.Fault.the-variants.{NoEnd}
 use Rattle.hex.specs.declared.HexAnswer.{HexAnswer}
@@ -44,7 +44,7 @@ firstOf size = 4096 - size
 -- a text read for an image of so many bytes
 unfoldable pub outcomeOf : (text : List ℕ) → (size : ℕ) → Outcome
 outcomeOf text size =
-    unless (isImage size) noImage (afterLines (firstOf size) false 1 blank (linesOf text))
+    unless (isSpace size) noImage (afterLines (firstOf size) false 1 blank (linesOf text))
 
 -- the answer to it
 abbrev pub answerOf : Outcome → HexAnswer

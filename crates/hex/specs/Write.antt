@@ -5,7 +5,7 @@ use mathlib.Core.Bool.{true, cond}
 use mathlib.Core.List.{List, [], _∷_, _++_}
 use lib.Dec.{ltb}
 use lib.ListN.{length, take, drop}
-use Rattle.isa.specs.Rom.{isImage}
+use Rattle.isa.specs.Rom.{isSpace}
 use Rattle.isa.specs.RoundTrip.{Bytes}
 use Rattle.hex.specs.declared.HexAnswer.the-variants.{Read}
 use Rattle.hex.specs.Digits.{total}
@@ -48,8 +48,8 @@ hexOf image =
 -- proved by written-is-read, proofs/WrittenIsRead
 pub record WrittenIsRead : Type 0 where
   pub answer :
-      (image : List ℕ) → Bytes image → isImage (length image) ≡ true
+      (image : List ℕ) → Bytes image → isSpace (length image) ≡ true
       → answerOf (outcomeOf (hexOf image) (length image)) ≡ Read (firstOf (length image))
   pub image :
-      (image lent : List ℕ) (fill : ℕ) → Bytes image → isImage (length image) ≡ true → length lent ≡ length image
+      (image lent : List ℕ) (fill : ℕ) → Bytes image → isSpace (length image) ≡ true → length lent ≡ length image
       → imageAfter fill lent (outcomeOf (hexOf image) (length lent)) ≡ image

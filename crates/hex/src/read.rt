@@ -4,7 +4,7 @@ use crate::image::fill_image;
 use crate::image::lowest_of;
 use crate::lines::Reading;
 use crate::lines::read_lines;
-use isa::rom::is_image_length;
+use isa::rom::is_space_length;
 ghost use Rattle.hex.specs.Read.{Reads};
 
 // Reads a text into the lent image, whose last byte is that of FFFh: each byte that no data record names is `fill`.
@@ -13,7 +13,7 @@ pub fn read(text: &[u8], fill: u8, image: &mut [u8]) -> HexAnswer
     ensures { λ r. ⌜ Reads (now (text .entry)) fill (now (image .entry)) (now (image .exit)) r ⌝ }
 {
     let size = image.len();
-    if !is_image_length(size) {
+    if !is_space_length(size) {
         return HexAnswer::ImageLength;
     }
     let first = 4096 - size;

@@ -1,6 +1,7 @@
 -- The length that decoding answers is that of the instruction's form.
 use Prim.Native.Nat.{ℕ}
 use mathlib.Core.Path.{_≡_, refl, sym, _∙_}
+use mathlib.Core.List.{List}
 use Rattle.isa.specs.declared.Form.{Form}
 use Rattle.isa.specs.declared.Form.the-variants.{Is, Undefined}
 use Rattle.isa.specs.Table.{bytesOf}
@@ -8,6 +9,8 @@ use Rattle.isa.specs.Map.{Addressing, rr, short, [X], [Y], Entry, JRNZ, 
 use Rattle.isa.specs.Map.{SET, LD-A, LD-to, INC, DEC, ADD, SUB, AND, CP, LDI-A, LDI-rr, ADDI, SUBI, ANDI, CPI}
 use Rattle.isa.specs.Map.{COM, RLC, RET, RETI, STOP, WAIT, #, entryOf, formAs, formOf}
 use Rattle.isa.specs.Lengths.{lengthOf, DecodedLength}
+use Rattle.isa.specs.Rom.{spaceOf}
+use Rattle.isa.proofs.AtAddress.{from-space}
 use Rattle.isa.proofs.Reading.{Read, reading}
 
 -- a form that is an instruction has the given length
@@ -59,6 +62,7 @@ by-entry # k f s = tt
 
 pub decoded-length : DecodedLength
 unfolding formOf
-decoded-length image a i n c q =
-    let r : Read image a i n = reading image a i n c q in
+decoded-length image bank a i n c q =
+    let space : List ℕ = spaceOf image bank in
+    let r : Read space a i n = reading space a i n c (from-space image bank a i n c q) in
     sym (r .count) ∙ (rw (r .form) at (by-entry (entryOf (r .k)) (r .k) (r .f) (r .s)))

@@ -14,10 +14,12 @@ use Rattle.isa.specs.declared.rom.RomByte.the-variants.{Byte}
 use Rattle.isa.specs.Displacement.{forwardOf}
 use Rattle.isa.specs.Table.{bytesOf}
 use Rattle.isa.specs.Map.{entryOf}
-use Rattle.isa.specs.Rom.{romAt, operandAt}
+use Rattle.isa.specs.Rom.{isSpace, spaceOf, romAt, operandAt}
 use Rattle.isa.specs.Decode.{decodeAt}
 use Rattle.isa.specs.Encode.{encodeOf, bytes}
-use Rattle.isa.specs.RoundTrip.{Holds, WrittenDecodes, DecodedWrites}
+use Rattle.isa.specs.RoundTrip.{Bytes, Holds, WrittenDecodes, DecodedWrites}
+use Rattle.isa.proofs.AtAddress.{in-space, from-space}
+use Rattle.isa.proofs.Halves.{is-space, space-bytes}
 use Rattle.isa.proofs.Column.{pick}
 use Rattle.isa.proofs.Finite.{bounded}
 use Rattle.isa.proofs.Reading.{Read, reading, rom-byte, operand-byte}
@@ -39,7 +41,9 @@ operand-held image a bs held j false e = rw e (ap Byte (sym (List·getD-eq-defau
 
 pub written-decodes : WrittenDecodes
 unfolding decodeAt
-written-decodes i n image size a h held =
+written-decodes i n whole is bank a h held =
+    let image : List ℕ = spaceOf whole bank in
+    let size : isSpace (length image) ≡ true = is-space whole bank is in
     let bs : List ℕ = bytes (encodeOf i) in
     let here : (a + 0) % 4096 ≡ a = omega arith in
     let opcode : romAt image a ≡ Byte (getD bs 0 0) = rw here at (held 0 (some (encodeOf i) n)) in
@@ -48,7 +52,8 @@ written-decodes i n image size a h held =
     operand-held image a bs held 1 (ltb 1 (length bs)) refl in
     let second : operandAt image a 2 (length bs) ≡ Byte (getD bs 2 0) =
     operand-held image a bs held 2 (ltb 2 (length bs)) refl in
-    rw (size, lt-ltb a 4096 h, opcode, count, first, count, second, decodes-back i n .0, count)
+    in-space whole bank a is
+    ∙ rw (size, lt-ltb a 4096 h, opcode, count, first, count, second, decodes-back i n .0, count)
 
 -- three bytes that were read stand in the image, as far as the instruction goes
 held-by :
@@ -78,8 +83,10 @@ unfolding bytesOf entryOf
 bytes-few k h = bounded (λ k. bytesOf (entryOf k)) 4 tt k h
 
 pub decoded-writes : DecodedWrites
-decoded-writes image all a i n c q =
-    let r : Read image a i n = reading image a i n c q in
+decoded-writes whole bytes-all bank a i n c q =
+    let image : List ℕ = spaceOf whole bank in
+    let all : Bytes image = space-bytes whole bank bytes-all in
+    let r : Read image a i n = reading image a i n c (from-space whole bank a i n c q) in
     let size : ℕ = bytesOf (entryOf (r .k)) in
     let hk : r .k < 256 = rom-byte image all a (r .k) (r .opcode) in
     let hf : r .f < 256 = operand-byte image all a 1 size (r .f) (r .first) in

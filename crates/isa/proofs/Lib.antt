@@ -1,4 +1,6 @@
 pub mod Finite
+pub mod Halves
+pub mod ThreeBytes
 pub mod ShortDisplacement
 pub mod Column
 pub mod Prefix

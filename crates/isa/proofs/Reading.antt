@@ -16,7 +16,7 @@ use Rattle.isa.specs.Refusals.{Numbered, plain, Answer, done, refused}
 use Rattle.isa.specs.Displacement.{forwardOf}
 use Rattle.isa.specs.Table.{bytesOf}
 use Rattle.isa.specs.Map.{entryOf, formOf}
-use Rattle.isa.specs.Rom.{isImage, romAt, operandAt}
+use Rattle.isa.specs.Rom.{isSpace, romAt, operandAt}
 use Rattle.isa.specs.Decode.{Decoding, instruction, withForm, withSecond, withFirst, withOpcode, decodeAt}
 use Rattle.isa.specs.RoundTrip.{Bytes}
 
@@ -80,9 +80,9 @@ pub reading : (image : List ℕ) (a : ℕ) (i : Instruction) (n c : ℕ) → dec
     → Read image a i n
 unfolding decodeAt
 reading image a i n c q =
-    let sized : (isImage (length image) ≡ true)
+    let sized : (isSpace (length image) ≡ true)
     × (cond (ltb a 4096) (withOpcode image a (romAt image a)) (refused (plain 3)) ≡ done (instruction i n c)) =
-    passed (isImage (length image)) _ (plain 1) i n c q in
+    passed (isSpace (length image)) _ (plain 1) i n c q in
     let ranged : (ltb a 4096 ≡ true) × (withOpcode image a (romAt image a) ≡ done (instruction i n c)) =
     passed (ltb a 4096) _ (plain 3) i n c (sized .1) in
     from-opcode image a (ltb-true a 4096 (ranged .0)) i n c (romAt image a) refl (ranged .1)

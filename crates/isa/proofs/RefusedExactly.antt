@@ -20,13 +20,15 @@ use Rattle.isa.specs.Refusals.{plain, done, refused}
 use Rattle.isa.specs.Displacement.{modulo, forwardOf}
 use Rattle.isa.specs.Table.{bytesOf}
 use Rattle.isa.specs.Map.{formOf, formAs, entryOf}
-use Rattle.isa.specs.Rom.{isImage, romAt}
+use Rattle.isa.specs.Rom.{isSpace, spaceOf, romAt}
 use Rattle.isa.specs.Write.{outcome}
 use Rattle.isa.specs.Encode.{encodeOf, bytes, inField, withByte, withBytes, shortJump, extendedJump, withBit}
 use Rattle.isa.specs.Encode.{bitJump, bitDirect, onData, onShort}
 use Rattle.isa.specs.Counts.{isUndefined}
 use Rattle.isa.specs.Cases.{placed}
 use Rattle.isa.specs.RoundTrip.{Bytes, Holds, Undecoded, RefusedExactly}
+use Rattle.isa.proofs.AtAddress.{from-space}
+use Rattle.isa.proofs.Halves.{space-image, space-is-image, space-bytes}
 use Rattle.isa.proofs.Finite.{at}
 use Rattle.isa.proofs.Reading.{Read, reading, rom-byte}
 use Rattle.isa.proofs.RoundTrip.{and-left, and-right}
@@ -39,10 +41,11 @@ no-bytes k f s h e = rw e at (at (λ k. cond (eqb (bytesOf (entryOf k)) 0) (isUn
 
 -- what is refused was not decoded
 beyond-undecoded : (i : Instruction) → encodeOf i ≡ Unencodable → Undecoded i
-beyond-undecoded i e image all a n c q =
-    let r : Read image a i n = reading image a i n c q in
-    let hk : r .k < 256 = rom-byte image all a (r .k) (r .opcode) in
-    let none : 0 ≡ n = rw e at (decoded-writes image all a i n c q .0) in
+beyond-undecoded i e image all bank a n c q =
+    let space : List ℕ = spaceOf image bank in
+    let r : Read space a i n = reading space a i n c (from-space image bank a i n c q) in
+    let hk : r .k < 256 = rom-byte space (space-bytes image bank all) a (r .k) (r .opcode) in
+    let none : 0 ≡ n = rw e at (decoded-writes image all bank a i n c q .0) in
     rw (r .form) at (no-bytes (r .k) (r .f) (r .s) hk (r .count ∙ sym none))
 
 -- the bytes of an instruction are bytes
@@ -189,10 +192,11 @@ undecoded-beyond : (i : Instruction) → Undecoded i → encodeOf i ≡ Unencoda
 undecoded-beyond i never =
     let bs : List ℕ = bytes (encodeOf i) in
     let few : length bs ≤ 3 = few-bytes (encodeOf i) in
-    let size : isImage (length (placed 0 bs)) ≡ true = rw (placed-length bs few) in
+    let size : isSpace (length (placed 0 bs)) ≡ true = rw (placed-length bs few) in
+    let holds : Holds (spaceOf (placed 0 bs) 0) 0 bs = rw (space-is-image (placed 0 bs) 0 size) (placed-holds bs few) in
     ⊎-elim (λ e. e)
-    (λ n. absurd (never (placed 0 bs) (padded-bytes bs (4096 - 0 - length bs) (encoded-bytes i)) 0 _ _
-    (written-decodes i n (placed 0 bs) size 0 (omega arith) (placed-holds bs few))))
+    (λ n. absurd (never (placed 0 bs) (padded-bytes bs (4096 - 0 - length bs) (encoded-bytes i)) 0 0 _ _
+    (written-decodes i n (placed 0 bs) (space-image (placed 0 bs) size) 0 0 (omega arith) holds)))
     (beyond-or-not (encodeOf i))
 
 -- 8 is the answer exactly where there are no bytes

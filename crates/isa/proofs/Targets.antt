@@ -1,6 +1,8 @@
 -- Where an instruction that was decoded may jump to is a program address.
 use Prim.Native.Nat.{ℕ, _<_}
 use native.Mathlib.Omega.{arith}
+use mathlib.Core.Path.{_≡_}
+use mathlib.Core.List.{List}
 use lib.IntN.{ℤ, pos, negsuc, _+ℤ_}
 use Rattle.isa.specs.declared.Form.{Form}
 use Rattle.isa.specs.declared.Form.the-variants.{Is, Undefined}
@@ -10,7 +12,14 @@ use Rattle.isa.specs.Map.{Entry, JRNZ, JRNC, JRZ, JRC, CALL, JP, JRR, JR
 use Rattle.isa.specs.Map.{SUB, AND, CP, LDI-A, LDI-rr, ADDI, SUBI, ANDI, CPI, COM, RLC, RET, RETI, STOP, WAIT, #}
 use Rattle.isa.specs.Map.{entryOf, extended, formAs, formOf}
 use Rattle.isa.specs.ControlFlow.{flowOf}
+use Rattle.isa.specs.declared.Instruction.{Instruction}
+use Rattle.isa.specs.Refusals.{done}
+use Rattle.isa.specs.Rom.{spaceOf}
+use Rattle.isa.specs.Decode.{instruction, decodeAt}
+use Rattle.isa.specs.RoundTrip.{Bytes}
 use Rattle.isa.specs.Targets.{InRange, TargetsInRange}
+use Rattle.isa.proofs.AtAddress.{from-space}
+use Rattle.isa.proofs.Halves.{space-bytes}
 use Rattle.isa.proofs.Reading.{Read, reading, rom-byte, operand-byte}
 
 -- a form that is an instruction stays in range
@@ -62,10 +71,16 @@ by-entry a STOP k f s hk hf = tt
 by-entry a WAIT k f s hk hf = tt
 by-entry a # k f s hk hf = tt
 
-pub targets-in-range : TargetsInRange
+-- in program space as it stands
+pub in-range-there : (image : List ℕ) → Bytes image → (a : ℕ) (i : Instruction) (n c : ℕ)
+    → decodeAt image a ≡ done (instruction i n c) → InRange (flowOf i a)
 unfolding formOf
-targets-in-range image all a i n c q =
+in-range-there image all a i n c q =
     let r : Read image a i n = reading image a i n c q in
     let hk : r .k < 256 = rom-byte image all a (r .k) (r .opcode) in
     let hf : r .f < 256 = operand-byte image all a 1 (bytesOf (entryOf (r .k))) (r .f) (r .first) in
     rw (r .form) at (by-entry a (entryOf (r .k)) (r .k) (r .f) (r .s) hk hf)
+
+pub targets-in-range : TargetsInRange
+targets-in-range image all bank a i n c q =
+    in-range-there (spaceOf image bank) (space-bytes image bank all) a i n c (from-space image bank a i n c q)

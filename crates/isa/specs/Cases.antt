@@ -8,7 +8,7 @@ use lib.ListN.{length, replicate}
 use Rattle.isa.specs.Refusals.{done}
 use Rattle.isa.specs.Displacement.{longDisplacement}
 use Rattle.isa.specs.Map.{formOf}
-use Rattle.isa.specs.Decode.{instruction, decodeAt}
+use Rattle.isa.specs.Decode.{instruction, decodeIn}
 use Rattle.isa.specs.ControlFlow.{flowOf}
 use Rattle.isa.specs.declared.Operand.the-variants.{Direct}
 use Rattle.isa.specs.declared.Instruction.{Instruction}
@@ -22,9 +22,11 @@ use Rattle.isa.specs.declared.Flow.the-variants as flow
 abbrev pub placed : ℕ → List ℕ → List ℕ
 placed a bs = replicate a 0 ++ (bs ++ replicate (4096 - a - length bs) 0)
 
--- the bytes at an address decode to an instruction with its length and cycles, and it may continue so
+-- the bytes at an address decode to an instruction with its length and cycles, whatever the bank byte, and it may
+-- continue so
 abbrev pub Decodes : ℕ → List ℕ → Instruction → ℕ → ℕ → Flow → Type 0
-Decodes a bs i n cycles f = (decodeAt (placed a bs) a ≡ done (instruction i n cycles)) × (flowOf i a ≡ f)
+Decodes a bs i n cycles f =
+    ((bank : ℕ) → decodeIn (placed a bs) bank a ≡ done (instruction i n cycles)) × (flowOf i a ≡ f)
 
 -- "The long one is a signed byte counted from the opcode plus 2, by the manual's range −126 to +129."
 -- proved by decoding-cases, proofs/Cases

@@ -5,7 +5,7 @@ use mathlib.Core.List.{List}
 use lib.Dec.{ltb}
 use lib.ListN.{length}
 use Rattle.isa.specs.Refusals.{Numbered, plain, located, numbered, Answer, done, refused}
-use Rattle.isa.specs.Rom.{isImage, romAt, operandAt}
+use Rattle.isa.specs.Rom.{isSpace, isImage, spaceOf, romAt, operandAt}
 use Rattle.isa.specs.Table.{bytesOf, cyclesOf}
 use Rattle.isa.specs.Map.{entryOf, formOf}
 use Rattle.isa.specs.declared.Instruction.{Instruction}
@@ -13,6 +13,9 @@ use Rattle.isa.specs.declared.Form.{Form}
 use Rattle.isa.specs.declared.Form.the-variants.{Is, Undefined}
 use Rattle.isa.specs.declared.Decoded.{Decoded}
 use Rattle.isa.specs.declared.Decoded.the-variants.{Valid, Refused}
+use Rattle.isa.specs.declared.code.Code.{Code}
+use Rattle.isa.specs.declared.code.Code.the-variants as code
+use Rattle.isa.specs.declared.code.Code.the-variants.{Bytes}
 use Rattle.isa.specs.declared.rom.RomByte.{RomByte}
 use Rattle.isa.specs.declared.rom.RomByte.the-variants.{Byte, Outside}
 
@@ -51,9 +54,18 @@ withOpcode image address Outside = refused (located 4 address)
 abbrev pub decodeOf : List ℕ → ℕ → Answer Decoding
 decodeOf image address = withOpcode image address (romAt image address)
 
--- "Decode at an address: 1 image length; 3 address above FFFh"
+-- what decoding makes of an instruction's bytes: the opcode and the two bytes that follow
+abbrev pub codeAs : ℕ → Code → Answer Decoding
+codeAs address (Bytes opcode first second) = withForm address opcode (formOf opcode first second)
+codeAs address code.Outside = refused (located 4 address)
+
+-- "Decode at an address: 1 image length; 3 address above FFFh", of program space as it stands
 unfoldable pub decodeAt : List ℕ → ℕ → Answer Decoding
 decodeAt image address =
-    cond (isImage (length image))
+    cond (isSpace (length image))
     (cond (ltb address 4096) (decodeOf image address) (refused (plain 3)))
     (refused (plain 1))
+
+-- "Decoding at an address takes the bank byte too."
+unfoldable pub decodeIn : (image : List ℕ) → (bank address : ℕ) → Answer Decoding
+decodeIn image bank address = cond (isImage (length image)) (decodeAt (spaceOf image bank) address) (refused (plain 1))

@@ -7,7 +7,7 @@ use Rattle.isa.specs.declared.Operand.{Operand}
 use Rattle.isa.specs.declared.Operand.the-variants.{Direct, Short, ThroughX, ThroughY}
 use Rattle.isa.specs.declared.Instruction.{Instruction}
 use Rattle.isa.specs.declared.Instruction.the-variants as I
-use Rattle.isa.specs.Decode.{instruction, decodeAt}
+use Rattle.isa.specs.Decode.{instruction, decodeIn}
 
 abbrev pub lengthWith : Operand → ℕ
 lengthWith (Direct a) = 2
@@ -51,5 +51,5 @@ lengthOf I.Wait = 1
 -- proved by decoded-length, proofs/DecodedLength
 abbrev pub DecodedLength : Type 0
 DecodedLength =
-    (image : List ℕ) (a : ℕ) (i : Instruction) (n cycles : ℕ) → decodeAt image a ≡ done (instruction i n cycles) →
-    n ≡ lengthOf i
+    (image : List ℕ) (bank a : ℕ) (i : Instruction) (n cycles : ℕ) →
+    decodeIn image bank a ≡ done (instruction i n cycles) → n ≡ lengthOf i

@@ -3,7 +3,7 @@ use Prim.Native.Nat.{ℕ, _<_}
 use mathlib.Core.Path.{_≡_}
 use mathlib.Core.List.{List}
 use Rattle.isa.specs.Refusals.{done}
-use Rattle.isa.specs.Decode.{instruction, decodeAt}
+use Rattle.isa.specs.Decode.{instruction, decodeIn}
 use Rattle.isa.specs.ControlFlow.{flowOf}
 use Rattle.isa.specs.RoundTrip.{Bytes}
 use Rattle.isa.specs.declared.Flow.{Flow}
@@ -24,5 +24,5 @@ InRange flow.Sleep = Unit {0}
 -- proved by targets-in-range, proofs/Targets
 abbrev pub TargetsInRange : Type 0
 TargetsInRange =
-    (image : List ℕ) → Bytes image → (a : ℕ) (i : Instruction) (n cycles : ℕ) →
-    decodeAt image a ≡ done (instruction i n cycles) → InRange (flowOf i a)
+    (image : List ℕ) → Bytes image → (bank a : ℕ) (i : Instruction) (n cycles : ℕ) →
+    decodeIn image bank a ≡ done (instruction i n cycles) → InRange (flowOf i a)

@@ -2,35 +2,40 @@
 use crate::Decoded;
 use crate::Form;
 use crate::Refusal;
+use crate::code::Code;
+use crate::code::code_at;
 use crate::map::form;
-use crate::rom::RomByte;
+use crate::parts::fixed_in;
+use crate::parts::page_in;
+use crate::rom::HALF_SPACE;
 use crate::rom::is_image_length;
-use crate::rom::operand_byte;
-use crate::rom::rom_byte;
 use crate::table::timing_of;
 use crate::table::timings;
 ghost use mathlib.Core.Path.{_≡_};
+ghost use Prim.Native.Nat.{_<_};
+ghost use Rattle.isa.specs.Rom.{IsImage, spaceOf};
 ghost use Rattle.isa.specs.Table.{Timings};
-ghost use Rattle.isa.specs.Decode.{answerOf, decodeOf, decodeAt};
+ghost use Rattle.isa.specs.Decode.{answerOf, decodeOf, decodeIn};
 
-// Decoding without the tests of the image's length and the address, for a caller that has made them. The table is lent,
-// so that many decodings share one; the promise holds where it is the map's.
-pub fn decode_in_range(table: &[u8; 256], image: &[u8], address: u16) -> Decoded
-    ensures { λ r. ⌜ (Timings (now (table .entry)) → answerOf r ≡ decodeOf (now (image .entry)) address) ⌝ }
+// Decoding without the tests of the image's length and the address, for a caller that has made them: the promise holds
+// where they would pass. The table is lent, so that many decodings share one; it has to be the map's. An image without
+// a fixed half is refused at once: every step decodes, and the halves are then found without further tests.
+pub fn decode_in_range(table: &[u8; 256], image: &[u8], bank: u8, address: u16) -> Decoded
+    ensures { λ r. ⌜ (IsImage (now (image .entry)) → address < 4096 → Timings (now (table .entry))
+        → answerOf r ≡ decodeOf (spaceOf (now (image .entry)) bank) address) ⌝ }
 {
-    let RomByte::Byte(opcode) = rom_byte(image, address) else {
-        return Decoded::Refused(Refusal::OutsideRom(address));
-    };
-    let timing = timing_of(table, opcode);
-    let RomByte::Byte(first) = operand_byte(image, address, 1, timing.length) else {
-        return Decoded::Refused(Refusal::OutsideRom(address));
-    };
-    let RomByte::Byte(second) = operand_byte(image, address, 2, timing.length) else {
+    if image.len() < HALF_SPACE {
+        return Decoded::Refused(Refusal::ImageLength);
+    }
+    let page = page_in(image, bank);
+    let fixed = fixed_in(image);
+    let Code::Bytes(opcode, first, second) = code_at(table, page, fixed, address) else {
         return Decoded::Refused(Refusal::OutsideRom(address));
     };
     let Form::Is(instruction) = form(opcode, first, second) else {
         return Decoded::Refused(Refusal::UndefinedOpcode(address));
     };
+    let timing = timing_of(table, opcode);
     Decoded::Valid {
         instruction,
         length: timing.length,
@@ -38,9 +43,9 @@ pub fn decode_in_range(table: &[u8; 256], image: &[u8], address: u16) -> Decoded
     }
 }
 
-// The instruction at an address of an image.
-pub fn decode(image: &[u8], address: u16) -> Decoded
-    ensures { λ r. ⌜ answerOf r ≡ decodeAt (now (image .entry)) address ⌝ }
+// The instruction at an address of an image with a bank byte.
+pub fn decode(image: &[u8], bank: u8, address: u16) -> Decoded
+    ensures { λ r. ⌜ answerOf r ≡ decodeIn (now (image .entry)) bank address ⌝ }
 {
     if !is_image_length(image.len()) {
         return Decoded::Refused(Refusal::ImageLength);
@@ -49,5 +54,5 @@ pub fn decode(image: &[u8], address: u16) -> Decoded
         return Decoded::Refused(Refusal::AddressRange);
     }
     let table = timings();
-    decode_in_range(&table, image, address)
+    decode_in_range(&table, image, bank, address)
 }

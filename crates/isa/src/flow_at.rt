@@ -4,6 +4,8 @@ use crate::Condition;
 use crate::Continuation;
 use crate::Flow;
 use crate::Refusal;
+use crate::code::Code;
+use crate::code::code_at;
 use crate::control_flow::long;
 use crate::control_flow::short;
 use crate::displacement::forward;
@@ -11,12 +13,11 @@ use crate::displacement::long_displacement;
 use crate::displacement::short_displacement;
 use crate::map::bit_number;
 use crate::map::extended_target;
-use crate::rom::RomByte;
-use crate::rom::operand_byte;
-use crate::rom::rom_byte;
 use crate::table::timing_of;
 ghost use mathlib.Core.Path.{_≡_};
-ghost use Prim.Native.Nat.{ℕ, _%_};
+ghost use mathlib.Core.List.{_++_};
+ghost use Prim.Native.Nat.{ℕ, _%_, _<_};
+ghost use Rattle.isa.specs.Rom.{Halves};
 ghost use Rattle.isa.specs.Table.{Timings};
 ghost use Rattle.isa.specs.Map.{formOf};
 ghost use Rattle.isa.specs.Decode.{decodeOf};
@@ -79,20 +80,15 @@ fn flow_by(opcode: u8, first: u8, second: u8, at: u16) -> Flow
 // Where the instruction at an address continues, for a caller that has tested the image's length and the address. The
 // table is lent, so that many addresses share one; the promise holds where it is the map's, in which an undefined
 // opcode has length 0.
-pub fn flow_at(table: &[u8; 256], image: &[u8], address: u16) -> Continuation
-    ensures { λ r. ⌜ (Timings (now (table .entry))
-        → continuationOf r ≡ continuationFrom address (decodeOf (now (image .entry)) address)) ⌝ }
+pub fn flow_at<'a>(table: &[u8; 256], page: &'a [u8], fixed: &'a [u8], address: u16) -> Continuation
+    ensures { λ r. ⌜ (Halves (now (page .entry)) (now (fixed .entry)) → address < 4096 → Timings (now (table .entry))
+        → continuationOf r
+        ≡ continuationFrom address (decodeOf (now (page .entry) ++ now (fixed .entry)) address)) ⌝ }
 {
-    let RomByte::Byte(opcode) = rom_byte(image, address) else {
+    let Code::Bytes(opcode, first, second) = code_at(table, page, fixed, address) else {
         return Continuation::Refused(Refusal::OutsideRom(address));
     };
     let timing = timing_of(table, opcode);
-    let RomByte::Byte(first) = operand_byte(image, address, 1, timing.length) else {
-        return Continuation::Refused(Refusal::OutsideRom(address));
-    };
-    let RomByte::Byte(second) = operand_byte(image, address, 2, timing.length) else {
-        return Continuation::Refused(Refusal::OutsideRom(address));
-    };
     if timing.length == 0 {
         return Continuation::Refused(Refusal::UndefinedOpcode(address));
     }

@@ -1,11 +1,13 @@
 // The ST62 instruction set: its forms, the opcode map's table, decoding and writing, where an instruction may continue,
 // and the interrupt sources with their vectors.
+pub mod code;
 pub mod control_flow;
 pub mod decode;
 pub mod displacement;
 pub mod encode;
 pub mod flow_at;
 pub mod map;
+mod parts;
 pub mod refusals;
 pub mod rom;
 pub mod sources;

@@ -8,10 +8,13 @@ use mathlib.Core.List.{List, [], _∷_, _++_}
 use lib.Dec.{leb, eqb}
 use lib.ListN.{length, getD}
 use Rattle.isa.specs.Refusals.{Numbered, plain, located, refused, unless}
+use Rattle.isa.specs.Rom.{spacesIn, spaceOf}
 use Rattle.isa.specs.Decode.{decodeAt}
 use Rattle.certificate.specs.Marks.{lowest}
 use Rattle.certificate.specs.Check.{Verdict}
-use Rattle.certificate.specs.Refusals.{Question, FirstApplies, questions, atMark, atMarks, atVectors, tooManyLevels}
+use Rattle.certificate.specs.Refusals.{Question, FirstApplies, questions, atInstruction, atPages, atMark, atMarks}
+use Rattle.certificate.specs.Refusals.{atVectors, tooManyLevels}
+use Rattle.certificate.proofs.Facts.{at-most-4096}
 use Rattle.certificate.proofs.Refusals.{answers-first}
 use Rattle.jobs.specs.CheckJob.{isWhole, jobOf, imageOf, certificateOf, romBytes, wiredOf}
 use Rattle.jobs.specs.Addresses.{ThreeDigitsAreEnough}
@@ -35,12 +38,18 @@ first-below (q ∷ qs) r b (inl f) = subst (λ (x : Numbered). Below x) (sym (f 
 first-below (q ∷ qs) r b (inr f) = first-below qs r (b .1) (f .1)
 
 module _ (image certificate : List ℕ) (wired : ℕ) where
+  pages-below : (n a : ℕ) → a < 0x1000 → AllBelow (atPages certificate image n a)
+  pages-below zero a low = tt
+  pages-below (suc n) a low =
+      joined (atPages certificate image n a) (atInstruction certificate (decodeAt (spaceOf image n) a) a)
+      (pages-below n a low) (low, (low, (low, (low, (low, tt)))))
+
   marks-below : (count a : ℕ) → a + count ≤ 0x1000 → AllBelow (atMarks certificate image count a)
   marks-below zero a h = tt
   marks-below (suc n) a h =
       let low : a < 0x1000 = omega arith in
-      joined (atMark certificate (decodeAt image a) a) (atMarks certificate image n (suc a))
-      (low, (low, (low, (low, (low, (low, tt))))))
+      joined (atMark certificate image a) (atMarks certificate image n (suc a))
+      (low, pages-below (spacesIn (length image)) a low)
       (marks-below n (suc a) (omega arith))
 
   -- the questions of the marks, and all that come after 1, 13 and 11
@@ -62,7 +71,7 @@ module _ (image certificate : List ℕ) (wired : ℕ) where
   check-below r (inr (size, inl f)) = subst (λ (x : Numbered). Below x) (sym (f .1)) tt
   check-below r (inr (size, inr (same, inl f))) = subst (λ (x : Numbered). Below x) (sym (f .1)) tt
   check-below r (inr (size, inr (same, inr (known, f)))) =
-      let short : 0x1000 < length certificate → ⊥ = λ h. same (λ e. size ((λ p. omega arith), (λ p. omega arith))) in
+      let short : 0x1000 < length certificate → ⊥ = λ h. same (λ e. omega (arith, at-most-4096 (length image))) in
       first-below rules r (rules-below (omega (arith, short))) f
 
 -- where a job is refused with an address, its check refuses

@@ -25,6 +25,10 @@ both {a} {b} {s} p q =
 pub then : {a b : List ℕ} {s t : Line} → Holds a s → Adds b s t → Holds (a ++ b) t
 then {a} {b} p q = record { content = q .content ∙ rw (p .content) (cut-once 128 a b) }
 
+-- .. and has at most 128 bytes
+pub added-most : {b : List ℕ} {s t : Line} → Adds b s t → length (contentOf t) ≤ 128
+added-most p = rw (p .content, length-take) (omega arith)
+
 -- a line has at most as many bytes as its array
 content-most : (letters : List ℕ) (count : ℕ) → length letters ≡ 128 → length (take count letters) ≤ 128
 content-most letters count e = rw (length-take, e) (omega arith)

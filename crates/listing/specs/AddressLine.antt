@@ -1,15 +1,14 @@
 -- The line of an address in a listing: `881  01 89     CALL 890h         21  main, needs 1; its target needs 0`.
-use Prim.Native.Nat.{ℕ, _≤_}
+use Prim.Native.Nat.{ℕ, _+_, _≤_}
 use mathlib.Core.Bool.{cond}
 use mathlib.Core.List.{List, [], _++_}
 use lib.Dec.{eqb, leb}
 use lib.ListN.{length}
 use Rattle.isa.specs.Displacement.{forwardOf}
 use Rattle.isa.specs.Refusals.{Numbered, plain, located, Answer, done, refused}
-use Rattle.isa.specs.Rom.{romAt}
 use Rattle.isa.specs.ControlFlow.{flowOf}
 use Rattle.isa.specs.Decode as decode
-use Rattle.isa.specs.Decode.{Decoding, decodeAt}
+use Rattle.isa.specs.Decode.{Decoding, decodeIn}
 use Rattle.isa.specs.RoundTrip.{Bytes}
 use Rattle.isa.specs.declared.Flow.{Flow}
 use Rattle.isa.specs.declared.Flow.the-variants as flow
@@ -21,6 +20,7 @@ use Rattle.listing.specs.Words.{ascii}
 use Rattle.listing.specs.Pieces.{padTo, twoDigits}
 use Rattle.listing.specs.InstructionText.{instructionText}
 use Rattle.listing.specs.Kinds.{kindName}
+use Rattle.listing.specs.Pages.{pageText, romIn}
 
 -- a ROM byte, and nothing outside ROM
 unfoldable pub byteText : RomByte → List ℕ
@@ -28,14 +28,14 @@ byteText (Byte n) = twoDigits n
 byteText Outside = []
 
 -- the byte of an instruction at an offset from its address, where it has so many
-unfoldable pub operandByteText : (image : List ℕ) → (a offset bytes : ℕ) → List ℕ
-operandByteText image a offset bytes =
-    cond (leb bytes offset) [] (ascii " " ++ byteText (romAt image (forwardOf a offset)))
+unfoldable pub operandByteText : (image : List ℕ) → (bank a offset bytes : ℕ) → List ℕ
+operandByteText image bank a offset bytes =
+    cond (leb bytes offset) [] (ascii " " ++ byteText (romIn image bank (forwardOf a offset)))
 
 -- the bytes of an instruction
-unfoldable pub codeText : (image : List ℕ) → (a bytes : ℕ) → List ℕ
-codeText image a bytes =
-    byteText (romAt image a) ++ (operandByteText image a 1 bytes ++ operandByteText image a 2 bytes)
+unfoldable pub codeText : (image : List ℕ) → (bank a bytes : ℕ) → List ℕ
+codeText image bank a bytes =
+    byteText (romIn image bank a) ++ (operandByteText image bank a 1 bytes ++ operandByteText image bank a 2 bytes)
 
 -- how many bytes to show: where nothing decodes, the one that is there
 abbrev pub lengthOf : Answer Decoding → ℕ
@@ -78,14 +78,18 @@ markText certificate a d =
     let mark = markAt certificate a in
     ((twoDigits mark ++ ascii "  ") ++ kindName mark) ++ needText certificate a d mark
 
--- the address and the bytes of its instruction up to column 15, the instruction up to column 33, the mark
-unfoldable pub addressLine : (image certificate : List ℕ) → (a : ℕ) → List ℕ
-addressLine image certificate a =
-    let d = decodeAt image a in
-    let code = (threeDigits a ++ ascii "  ") ++ codeText image a (lengthOf d) in
-    padTo 33 (padTo 15 code ++ standingText a d) ++ markText certificate a d
+-- with a bank byte: the page, then the address and the bytes of its instruction up to column 15, the instruction up to
+-- column 33, the mark
+unfoldable pub addressLine : (image : List ℕ) → (bank : ℕ) → (certificate : List ℕ) → (a : ℕ) → List ℕ
+addressLine image bank certificate a =
+    let d = decodeIn image bank a in
+    let page = pageText (length image) bank a in
+    let code = ((page ++ threeDigits a) ++ ascii "  ") ++ codeText image bank a (lengthOf d) in
+    padTo (length page + 33) (padTo (length page + 15) code ++ standingText a d) ++ markText certificate a d
 
--- an address's line has at most 80 bytes, so that nothing of it is cut off
+-- an address's line has at most 82 bytes, so that nothing of it is cut off
 -- proved by line-fits, proofs/Fits
 abbrev pub LineFits : Type 0
-LineFits = (image certificate : List ℕ) → Bytes image → (a : ℕ) → length (addressLine image certificate a) ≤ 80
+LineFits =
+    (image : List ℕ) → Bytes image → (bank : ℕ) → (certificate : List ℕ) → (a : ℕ)
+    → length (addressLine image bank certificate a) ≤ 82

@@ -6,7 +6,7 @@ use lib.ListN.{getD, length}
 use Rattle.isa.specs.Displacement.{shortTarget, longTarget}
 use Rattle.isa.specs.Refusals.{done}
 use Rattle.isa.specs.Decode as decode
-use Rattle.isa.specs.Decode.{decodeAt}
+use Rattle.isa.specs.Decode.{decodeIn}
 use Rattle.isa.specs.RoundTrip.{Bytes}
 use Rattle.isa.specs.declared.Instruction.{Instruction}
 use Rattle.isa.specs.declared.Instruction.the-variants as I
@@ -79,5 +79,5 @@ instructionText I.Wait a = ascii "WAIT"
 abbrev pub TextFits : Type 0
 TextFits =
     (image : List ℕ) → Bytes image →
-    (a : ℕ) (i : Instruction) (n cycles : ℕ) → decodeAt image a ≡ done (decode.instruction i n cycles) →
+    (bank a : ℕ) (i : Instruction) (n cycles : ℕ) → decodeIn image bank a ≡ done (decode.instruction i n cycles) →
     length (instructionText i a) ≤ 16

@@ -4,5 +4,6 @@ pub mod Write
 pub mod InstructionText
 pub mod Disassemble
 pub mod Kinds
+pub mod Pages
 pub mod AddressLine
 pub mod Cases

@@ -2,6 +2,8 @@
 use crate::Line;
 use crate::instruction::instruction;
 use crate::kinds::kind_name;
+use crate::pages::page_text;
+use crate::pages::rom_in;
 use certificate::marks::kind_of;
 use certificate::marks::mark_at;
 use certificate::marks::need_at;
@@ -15,7 +17,6 @@ use isa::decode::decode;
 use isa::displacement::forward;
 use isa::refusals::number_of;
 use isa::rom::RomByte;
-use isa::rom::rom_byte;
 ghost use mathlib.Core.Path.{_≡_};
 ghost use Rattle.isa.specs.Refusals.{numbered};
 ghost use Rattle.isa.specs.Decode.{answerOf};
@@ -23,7 +24,7 @@ ghost use Rattle.listing.specs.Pieces.{Adds, contentOf};
 ghost use Rattle.listing.specs.AddressLine.{addressLine, byteText, callText, codeText, lengthOf, markText};
 ghost use Rattle.listing.specs.AddressLine.{needText, operandByteText, refusalText, standingText};
 
-// The columns where the instruction and the mark begin.
+// The columns where the instruction and the mark begin, after the page.
 const TEXT_COLUMN: usize = 15;
 
 const MARK_COLUMN: usize = 33;
@@ -39,22 +40,25 @@ fn rom_text(line: Line, byte: RomByte) -> Line
 }
 
 // The byte of an instruction at an offset from its address, nothing where the instruction is shorter.
-fn operand_text(line: Line, image: &[u8], address: u16, offset: u8, length: u8) -> Line
-    ensures { λ r. ⌜ Adds (operandByteText (now (image .entry)) address offset length) line r ⌝ }
+fn operand_text(line: Line, image: &[u8], bank: u8, address: u16, offset: u8, length: u8) -> Line
+    ensures { λ r. ⌜ Adds (operandByteText (now (image .entry)) bank address offset length) line r ⌝ }
 {
     if length <= offset {
         return line;
     }
-    rom_text(line.letter(b' '), rom_byte(image, forward(address, offset)))
+    rom_text(
+        line.letter(b' '),
+        rom_in(image, bank, forward(address, offset)),
+    )
 }
 
 // The bytes of an instruction of the given length.
-fn code(line: Line, image: &[u8], address: u16, length: u8) -> Line
-    ensures { λ r. ⌜ Adds (codeText (now (image .entry)) address length) line r ⌝ }
+fn code(line: Line, image: &[u8], bank: u8, address: u16, length: u8) -> Line
+    ensures { λ r. ⌜ Adds (codeText (now (image .entry)) bank address length) line r ⌝ }
 {
-    let opcode = rom_text(line, rom_byte(image, address));
-    let first = operand_text(opcode, image, address, 1, length);
-    operand_text(first, image, address, 2, length)
+    let opcode = rom_text(line, rom_in(image, bank, address));
+    let first = operand_text(opcode, image, bank, address, 1, length);
+    operand_text(first, image, bank, address, 2, length)
 }
 
 // How many bytes to show: one where nothing decodes.
@@ -141,13 +145,20 @@ fn mark_text(line: Line, certificate: &[u8], decoded: Decoded, address: u16) -> 
     need_text(named, certificate, decoded, address, mark)
 }
 
-// The line of an address, without line end: its bytes, its instruction and its mark.
-pub fn address_line(image: &[u8], certificate: &[u8], address: u16) -> Line
-    ensures { λ r. ⌜ contentOf r ≡ addressLine (now (image .entry)) (now (certificate .entry)) address ⌝ }
+// The line of an address, without line end, with a bank byte: its bytes, its instruction and its mark.
+pub fn address_line(image: &[u8], bank: u8, certificate: &[u8], address: u16) -> Line
+    ensures { λ r. ⌜ contentOf r ≡ addressLine (now (image .entry)) bank (now (certificate .entry)) address ⌝ }
 {
-    let decoded = decode(image, address);
-    let begun = Line::new().address(address).word(b"  ");
-    let coded = code(begun, image, address, length_of(decoded));
-    let text = standing_text(coded.spaces_to(TEXT_COLUMN), decoded, address);
-    mark_text(text.spaces_to(MARK_COLUMN), certificate, decoded, address)
+    let decoded = decode(image, bank, address);
+    let paged = page_text(Line::new(), image.len(), bank, address);
+    let wide = paged.length();
+    let begun = paged.address(address).word(b"  ");
+    let coded = code(begun, image, bank, address, length_of(decoded));
+    let text = standing_text(coded.spaces_to(wide + TEXT_COLUMN), decoded, address);
+    mark_text(
+        text.spaces_to(wide + MARK_COLUMN),
+        certificate,
+        decoded,
+        address,
+    )
 }

@@ -4,6 +4,7 @@ pub mod address_line;
 pub mod disassemble;
 pub mod instruction;
 pub mod kinds;
+pub mod pages;
 mod pieces;
 pub mod write;
 

@@ -19,6 +19,8 @@ use Rattle.isa.specs.declared.Instruction.{Instruction}
 use Rattle.isa.specs.declared.Flow.the-variants as flow
 use Rattle.control.specs.Requests.{requestedOf}
 use Rattle.control.specs.Transfers.{advanceOf}
+use Rattle.data.specs.Space.{programOf}
+use Rattle.isa.proofs.Halves.{is-space}
 use Rattle.machine.specs.declared.Machine.{Machine}
 use Rattle.machine.specs.Execute.{executeOf}
 use Rattle.machine.specs.State.{isWellFormed}
@@ -52,9 +54,11 @@ data-goes-on image m i bytes cycles e = record { control = rw e; stack = rw e; a
 module _ (image : List ℕ) (all : Bytes image) (size : isImage (length image) ≡ true) (requests : List ℕ) (m : Machine)
     (formed : isWellFormed m ≡ true) where
   stopped :
-      (n : Machine) (request : ℕ) → isWellFormed n ≡ true → (s : Step) → Does image n request s → (r : Run) →
+      (n : Machine) (request : ℕ) → isWellFormed n ≡ true → (s : Step) →
+      Does (programOf image (n .bytes)) n request s → (r : Run) →
       StopsOnly (joinedOf r s .report .ending)
-  stopped n request w _ (stops reason why) r = numbered-stop image n request size w reason why
+  stopped n request w _ (stops reason why) r =
+      numbered-stop (programOf image (n .bytes)) n request (is-space image (getD (n .bytes) 0xCA 0) size) w reason why
   stopped n request w _ (takes source e none) r = tt
   stopped n request w _ (idles none asleep) r = tt
   stopped n request w _ (executes i bytes cycles none awake at goes) r = tt
@@ -64,7 +68,10 @@ module _ (image : List ℕ) (all : Bytes image) (size : isImage (length image) �
       r .report .ending ≡ e → StopsOnly e → StopsOnly (continuedBy image r request e .report .ending)
   continued r request w fits (done tt) is f =
       rw (step-advances image (r .machine) request size w fits)
-      (stopped (r .machine) request w _ (step-does image (r .machine) request size w) r)
+      (stopped (r .machine) request w _
+      (step-does (programOf image (r .machine .bytes)) (r .machine) request
+      (is-space image (getD (r .machine .bytes) 0xCA 0) size) w)
+      r)
   continued r request w fits (refused reason) is f = rw is f
 
   ends :
@@ -127,7 +134,7 @@ module _ (image : List ℕ) (m : Machine) (size : isImage (length image) ≡ tru
     (asleep : m .control .asleep ≡ true) where
   idles-on : stepOf image m 0 ≡ doneOf m 0
   unfolding advancedOf respondOf requestedOf
-  idles-on = step-advances image m 0 size formed refl ∙ sym (idle image m asleep)
+  idles-on = step-advances image m 0 size formed refl ∙ sym (idle (programOf image (m .bytes)) m asleep)
 
   all-idle : (n : ℕ) → stepsOf image [] m n ≡ runAt m n 0 (done tt)
   unfolding stepsOf

@@ -9,3 +9,4 @@ pub mod PairUse
 pub mod ReadForms
 pub mod OriginTold
 pub mod WriteOnly
+pub mod OnePage

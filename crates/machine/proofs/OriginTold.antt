@@ -33,6 +33,8 @@ use Rattle.control.specs.Stack.{Transferred}
 use Rattle.control.specs.Requests.{requestedOf}
 use Rattle.control.specs.Transfers.{advanceOf}
 use Rattle.control.proofs.StaysWellFormed.{formed-exactly}
+use Rattle.data.specs.Space.{programOf}
+use Rattle.isa.proofs.Halves.{is-space}
 use Rattle.machine.specs.declared.Machine.{Machine}
 use Rattle.machine.specs.Pairs.{withPairOf}
 use Rattle.machine.specs.Execute.{jumpsOf, executeOf}
@@ -71,9 +73,9 @@ use Rattle.machine.proofs.ReadForms.{Change, changed, MadeOf, MadeApart
 -- where neither image nor machine is refused, decoding at PC is what stands there
 decoded :
     (image : List ℕ) (m : Machine) → isImage (length image) ≡ true → isWellFormed m ≡ true →
-    decodeOf image (m .control .pc) ≡ decodeAt image (m .control .pc)
+    decodeOf (programOf image (m .bytes)) (m .control .pc) ≡ decodeAt (programOf image (m .bytes)) (m .control .pc)
 decoded image m size formed =
-    in-range image (m .control .pc) size (formed-exactly .facts (m .stack) (m .control) formed .pc)
+    in-range (programOf image (m .bytes)) (m .control .pc) (is-space image (getD (m .bytes) 0xCA 0) size) (formed-exactly .facts (m .stack) (m .control) formed .pc)
 
 -- the end of a step that comes to an instruction, by what its change and its transfer of control are
 abbrev ended : Machine → Transferred → Change → (cycles : ℕ) → Step
@@ -91,16 +93,17 @@ transferOf m i jumps bytes =
 module _ (image : List ℕ) (m : Machine) (request : ℕ) (i : Instruction) (bytes cycles : ℕ)
     (at : Executes image m request i bytes cycles) where
   -- a step that comes to an instruction is that instruction
-  pub comes : stepOf image m request ≡ executedOf image m i bytes cycles
+  pub comes : stepOf image m request ≡ executedOf (programOf image (m .bytes)) m i bytes cycles
   unfolding advancedOf respondOf decodedOf
   comes =
       steps.step-advances image m request (at .image-length) (at .formed) (at .sources)
-      ∙ ap (respondOf image m) (at .none-taken) ∙ sym (steps.awake image m (at .awake))
-      ∙ ap (decodedOf image m) (at .at-pc)
+      ∙ ap (respondOf (programOf image (m .bytes)) m) (at .none-taken)
+      ∙ sym (steps.awake (programOf image (m .bytes)) m (at .awake))
+      ∙ ap (decodedOf (programOf image (m .bytes)) m) (at .at-pc)
 
   step-is :
-      (x : Change) (jumps : Bool) → effectOf image (viewOf m) i ≡ changed (viewOf m) x →
-      jumpsOf image (viewOf m) (flowOf i (m .control .pc)) ≡ jumps →
+      (x : Change) (jumps : Bool) → effectOf (programOf image (m .bytes)) (viewOf m) i ≡ changed (viewOf m) x →
+      jumpsOf (programOf image (m .bytes)) (viewOf m) (flowOf i (m .control .pc)) ≡ jumps →
       stepOf image m request ≡ ended m (transferOf m i jumps bytes) x cycles
   unfolding executedOf completedOf executeOf
   step-is x jumps effect jump = comes ∙ rw (effect, jump)
@@ -149,9 +152,9 @@ module _ (image : List ℕ) (m : Machine) (image′ : List ℕ) (m′ : Machine)
     (control : m .control ≡ m′ .control) (stack : m .stack ≡ m′ .stack) (flags : m .flags ≡ m′ .flags) where
   both-alike :
       (x : Change) (jumps : Bool) →
-      effectOf image (viewOf m) i ≡ changed (viewOf m) x → effectOf image′ (viewOf m′) i ≡ changed (viewOf m′) x →
-      jumpsOf image (viewOf m) (flowOf i (m .control .pc)) ≡ jumps →
-      jumpsOf image′ (viewOf m′) (flowOf i (m′ .control .pc)) ≡ jumps →
+      effectOf (programOf image (m .bytes)) (viewOf m) i ≡ changed (viewOf m) x → effectOf (programOf image′ (m′ .bytes)) (viewOf m′) i ≡ changed (viewOf m′) x →
+      jumpsOf (programOf image (m .bytes)) (viewOf m) (flowOf i (m .control .pc)) ≡ jumps →
+      jumpsOf (programOf image′ (m′ .bytes)) (viewOf m′) (flowOf i (m′ .control .pc)) ≡ jumps →
       StepsAlike m m′ (stepOf image m request) (stepOf image′ m′ request′)
   both-alike x jumps effect effect′ jump jump′ =
       let same : transferOf m i jumps bytes ≡ transferOf m′ i jumps bytes = rw (control, stack) in
@@ -172,10 +175,10 @@ module _ (image : List ℕ) (m : Machine) (image′ : List ℕ) (m′ : Machine)
       both-alike
       (made .change-of (accumulatorOf (m .bytes)) (getD (m .bytes) 0x80 0) (getD (m .bytes) 0x81 0) (viewOf m .flags))
       (made .jumps (viewOf m .flags))
-      (made .effect-is image (viewOf m))
-      (rw (agree .accumulator, agree .x, agree .y, view-flags) (made .effect-is image′ (viewOf m′)))
-      (made .jumps-is image (viewOf m) (m .control .pc))
-      (rw view-flags (made .jumps-is image′ (viewOf m′) (m′ .control .pc)))
+      (made .effect-is (programOf image (m .bytes)) (viewOf m))
+      (rw (agree .accumulator, agree .x, agree .y, view-flags) (made .effect-is (programOf image′ (m′ .bytes)) (viewOf m′)))
+      (made .jumps-is (programOf image (m .bytes)) (viewOf m) (m .control .pc))
+      (rw view-flags (made .jumps-is (programOf image′ (m′ .bytes)) (viewOf m′) (m′ .control .pc)))
 
   used-alike :
       (o : Operand) → MadeOf i o → AgreeOn image m image′ m′ i o →
@@ -183,20 +186,20 @@ module _ (image : List ℕ) (m : Machine) (image′ : List ℕ) (m′ : Machine)
   unfolding operandOf
   used-alike o made agree =
       both-alike
-      (made .change-of (accumulatorOf (m .bytes)) (operandOf image (m .bytes) o) (addressOf (m .bytes) o)
+      (made .change-of (accumulatorOf (m .bytes)) (operandOf (programOf image (m .bytes)) (m .bytes) o) (addressOf (m .bytes) o)
       (viewOf m .flags))
-      (made .jumps (operandOf image (m .bytes) o))
-      (made .effect-is image (viewOf m))
+      (made .jumps (operandOf (programOf image (m .bytes)) (m .bytes) o))
+      (made .effect-is (programOf image (m .bytes)) (viewOf m))
       (rw (
         agree .byte,
         agree .address,
         view-flags,
-        made .same (accumulatorOf (m .bytes)) (accumulatorOf (m′ .bytes)) (operandOf image′ (m′ .bytes) o)
+        made .same (accumulatorOf (m .bytes)) (accumulatorOf (m′ .bytes)) (operandOf (programOf image′ (m′ .bytes)) (m′ .bytes) o)
             (addressOf (m′ .bytes) o) (viewOf m′ .flags) (agree .accumulator),
       )
-      (made .effect-is image′ (viewOf m′)))
-      (made .jumps-is image (viewOf m) (m .control .pc))
-      (rw (agree .byte) (made .jumps-is image′ (viewOf m′) (m′ .control .pc)))
+      (made .effect-is (programOf image′ (m′ .bytes)) (viewOf m′)))
+      (made .jumps-is (programOf image (m .bytes)) (viewOf m) (m .control .pc))
+      (rw (agree .byte) (made .jumps-is (programOf image′ (m′ .bytes)) (viewOf m′) (m′ .control .pc)))
 
 -- a step that comes to an instruction which reads is done, and tells its operand's origin
 tells :
@@ -207,15 +210,15 @@ unfolding readingOf stepReadOf readAtPc originReadOf executedOf completedOf
 tells {i} {o} made image m request bytes cycles at reads =
     let completed : stepOf image m request .answer ≡ done cycles =
     ap (λ (s : Step). s .answer) (comes image m request i bytes cycles at)
-    ∙ rw (made .goes image (viewOf m) (m .stack) (m .control) (forwardOf (m .control .pc) bytes)) in
-    let stands : decodeOf image (m .control .pc) ≡ done (decode.instruction i bytes cycles) =
+    ∙ rw (made .goes (programOf image (m .bytes)) (viewOf m) (m .stack) (m .control) (forwardOf (m .control .pc) bytes)) in
+    let stands : decodeOf (programOf image (m .bytes)) (m .control .pc) ≡ done (decode.instruction i bytes cycles) =
     decoded image m (at .image-length) (at .formed) ∙ at .at-pc in
     record {
       completed = completed;
-      byte = readOf image (m .bytes) (addressOf (m .bytes) o);
-      origin = originOf image (m .bytes) (addressOf (m .bytes) o);
+      byte = readOf (programOf image (m .bytes)) (m .bytes) (addressOf (m .bytes) o);
+      origin = originOf (programOf image (m .bytes)) (m .bytes) (addressOf (m .bytes) o);
       reading = rw (at .image-length, at .formed);
-      comes = byte-comes-from image (m .bytes) (addressOf (m .bytes) o);
+      comes = byte-comes-from (programOf image (m .bytes)) (m .bytes) (addressOf (m .bytes) o);
       told = rw (completed, at .none-taken, at .awake, stands, reads);
     }
 
@@ -234,9 +237,9 @@ module _ (image : List ℕ) (m : Machine) (request : ℕ) (x : Origin) where
   module _ (spent : ℕ) (is-done : stepOf image m request .answer ≡ done spent)
       (none : requestedOf (m .control .mode) (enabledOf (m .bytes)) request ≡ Nothing)
       (awake : m .control .asleep ≡ false) (i : Instruction) (bytes cycles : ℕ)
-      (stands : decodeOf image (m .control .pc) ≡ done (decode.instruction i bytes cycles)) where
+      (stands : decodeOf (programOf image (m .bytes)) (m .control .pc) ≡ done (decode.instruction i bytes cycles)) where
     by-operand :
-        (r : OperandRead) → operandReadOf i ≡ r → originAt image (m .bytes) r ≡ origin.From x → Reads image m request
+        (r : OperandRead) → operandReadOf i ≡ r → originAt (programOf image (m .bytes)) (m .bytes) r ≡ origin.From x → Reads image m request
     by-operand operand.Nothing reads e = not-read x e
     by-operand (operand.Is o) reads e =
         let tested = passed image m request (stepOf image m request) (step-tested image m request) spent is-done in
@@ -263,24 +266,24 @@ module _ (image : List ℕ) (m : Machine) (request : ℕ) (x : Origin) where
   module _ (spent : ℕ) (is-done : stepOf image m request .answer ≡ done spent)
       (none : requestedOf (m .control .mode) (enabledOf (m .bytes)) request ≡ Nothing) where
     by-decoding :
-        m .control .asleep ≡ false → (a : Answer decode.Decoding) → decodeOf image (m .control .pc) ≡ a →
-        decodedRead image (m .bytes) a ≡ origin.From x → Reads image m request
+        m .control .asleep ≡ false → (a : Answer decode.Decoding) → decodeOf (programOf image (m .bytes)) (m .control .pc) ≡ a →
+        decodedRead (programOf image (m .bytes)) (m .bytes) a ≡ origin.From x → Reads image m request
     unfolding originReadOf
     by-decoding awake (done (decode.instruction i bytes cycles)) at e =
         by-operand spent is-done none awake i bytes cycles at (operandReadOf i) refl e
     by-decoding awake (refused r) at e = not-read x e
 
     by-sleep :
-        (asleep : Bool) → m .control .asleep ≡ asleep → readAtPc image (m .bytes) (m .control) ≡ origin.From x →
+        (asleep : Bool) → m .control .asleep ≡ asleep → readAtPc (programOf image (m .bytes)) (m .bytes) (m .control) ≡ origin.From x →
         Reads image m request
     unfolding readAtPc
     by-sleep true is e = not-read x (rw is at e)
-    by-sleep false is e = by-decoding is (decodeOf image (m .control .pc)) refl (rw is at e)
+    by-sleep false is e = by-decoding is (decodeOf (programOf image (m .bytes)) (m .control .pc)) refl (rw is at e)
 
   by-request :
       (spent : ℕ) → stepOf image m request .answer ≡ done spent → (r : Requested) →
       requestedOf (m .control .mode) (enabledOf (m .bytes)) request ≡ r →
-      respondRead image (m .bytes) (m .control) r ≡ origin.From x → Reads image m request
+      respondRead (programOf image (m .bytes)) (m .bytes) (m .control) r ≡ origin.From x → Reads image m request
   by-request spent is-done (Taken source) is e = not-read x e
   by-request spent is-done Nothing is e = by-sleep spent is-done is (m .control .asleep) refl e
 
@@ -315,7 +318,7 @@ reading-done false w more r e = let z : _≡_ {A = ℕ} 0 1 = cc in absurd (omeg
 
 reading-is :
     (image : List ℕ) (m : Machine) (a : ℕ) (r : Reading) → readingOf image m a ≡ done r →
-    readingAs (readOf image (m .bytes) a) (originOf image (m .bytes) a) ≡ r
+    readingAs (readOf (programOf image (m .bytes)) (m .bytes) a) (originOf (programOf image (m .bytes)) (m .bytes) a) ≡ r
 unfolding readingOf
 reading-is image m a r e = reading-done (isImage (length image)) (isWellFormed m) _ r e
 

@@ -29,6 +29,9 @@ use Rattle.control.specs.Stack.{goesOn, popOf}
 use Rattle.control.specs.Update.{withPc, withMode}
 use Rattle.control.specs.Transfers.{thenIn, endsStartUp, returnFromInterruptOf, advanceOf}
 use Rattle.control.specs.Requests.{requestedOf, takeOf}
+use Rattle.data.specs.Space.{programOf}
+use Rattle.isa.proofs.Halves.{is-space}
+use lib.ListN.{getD}
 use Rattle.machine.specs.declared.FlagPairs.{FlagPairs}
 use Rattle.machine.specs.declared.Machine.{Machine}
 use Rattle.machine.specs.Pairs.{pairOf, withNmi, withPairOf}
@@ -90,7 +93,7 @@ other-pair p f NmiOverInterrupt b n = other-than-nmi p f b n
 
 module _ (image : List ℕ) (m : Machine) (request : ℕ) (mode : Mode)
     (apart : pairNumber (m .control .mode) ≢ pairNumber mode) where
-  by-case : (s : Step) → Does image m request s → pairOf (s .machine .flags) mode ≡ pairOf (m .flags) mode
+  by-case : (s : Step) → Does (programOf image (m .bytes)) m request s → pairOf (s .machine .flags) mode ≡ pairOf (m .flags) mode
   by-case _ (stops r is) = refl
   by-case _ (takes source e none) = refl
   by-case _ (idles none asleep) = refl
@@ -98,7 +101,8 @@ module _ (image : List ℕ) (m : Machine) (request : ℕ) (mode : Mode)
 
   by-test : (s : Step) → Tested image m request s → pairOf (s .machine .flags) mode ≡ pairOf (m .flags) mode
   by-test _ (refuses r why) = refl
-  by-test _ (passes size formed sources) = by-case _ (step-does image m request size formed)
+  by-test _ (passes size formed sources) = by-case _
+      (step-does (programOf image (m .bytes)) m request (is-space image (getD (m .bytes) 0xCA 0) size) formed)
 
 pub other-pairs-kept : OtherPairsKept
 other-pairs-kept image m request mode apart = by-test image m request mode apart _ (step-tested image m request)
@@ -180,7 +184,7 @@ module _ (image : List ℕ) (m : Machine) (flags : FlagPairs)
 pub own-pair-read : OwnPairRead
 unfolding stepOf
 own-pair-read image m request flags same =
-    tested image m flags same (isImage (length image)) (isWellFormed m) (namesOnlySources request) request
+    tested (programOf image (m .bytes)) m flags same (isImage (length image)) (isWellFormed m) (namesOnlySources request) request
 
 -- RETI goes to the mode beneath, and puts back the pair that it was handed
 beneath :
@@ -208,26 +212,28 @@ not-done : {P : Type 0} (r : Numbered) (used : ℕ) → _≡_ {A = Answer ℕ} (
 not-done r used e = let z : _≡_ {A = ℕ} 0 1 = cc in absurd (omega arith)
 
 module _ (image : List ℕ) (m n : Machine) (request bytes cycles used : ℕ) (none : TakesNone m request)
-    (awake : m .control .asleep ≡ false) (at : AtPc image m I.Reti bytes cycles) where
+    (awake : m .control .asleep ≡ false) (at : AtPc (programOf image (m .bytes)) m I.Reti bytes cycles) where
   abbrev Returned : Type 0
   Returned = pairOf (n .flags) (n .control .mode) ≡ pairOf (m .flags) (modeBeneath (m .control .mode))
 
-  returned : (next : ℕ) → afterOf m (executeOf image (viewOf m) (m .stack) (m .control) I.Reti next) ≡ n → Returned
+  returned : (next : ℕ) → afterOf m
+      (executeOf (programOf image (m .bytes)) (viewOf m) (m .stack) (m .control) I.Reti next) ≡ n → Returned
   unfolding executeOf effectOf advanceOf flowOf
   returned next e = rw (← e, put-back (m .flags) (m .control .mode), beneath (m .stack) (m .control) next)
 
-  by-deed : (s : Step) → Does image m request s → s ≡ doneOf n used → Returned
+  by-deed : (s : Step) → Does (programOf image (m .bytes)) m request s → s ≡ doneOf n used → Returned
   by-deed _ (stops r why) e = not-done r used (ap (λ (s : Step). s .answer) e)
   by-deed _ (takes source taken room) e = let z : _≡_ {A = ℕ} 0 1 = cc in absurd (omega arith)
   by-deed _ (idles nothing asleep) e = let z : _≡_ {A = ℕ} 0 1 = cc in absurd (omega arith)
   by-deed _ (executes i b c nothing up here goes) e =
       let is : i ≡ I.Reti = cc in
-      let after : afterOf m (executionAt image m i b) ≡ n = ap (λ (s : Step). s .machine) e in
+      let after : afterOf m (executionAt (programOf image (m .bytes)) m i b) ≡ n = ap (λ (s : Step). s .machine) e in
       returned (forwardOf (m .control .pc) b) (rw is at after)
 
   by-answer : (s : Step) → Tested image m request s → s ≡ doneOf n used → Returned
   by-answer _ (refuses r why) e = not-done r used (ap (λ (s : Step). s .answer) e)
-  by-answer _ (passes size formed sources) e = by-deed _ (step-does image m request size formed) e
+  by-answer _ (passes size formed sources) e = by-deed _
+      (step-does (programOf image (m .bytes)) m request (is-space image (getD (m .bytes) 0xCA 0) size) formed) e
 
 pub flags-after-reti : FlagsAfterReti
 flags-after-reti image m n request bytes cycles used none awake at e =

@@ -19,6 +19,8 @@ use Rattle.control.specs.declared.Stop.the-variants as stop
 use Rattle.control.specs.Transfers.{advanceOf}
 use Rattle.control.specs.Requests.{takeOf}
 use Rattle.control.proofs.Stopped.{take-stops, call-stops, pop-stops, return-stops}
+use Rattle.data.specs.Space.{programOf}
+use Rattle.isa.proofs.Halves.{is-space}
 use Rattle.machine.specs.declared.Machine.{Machine}
 use Rattle.machine.specs.Execute.{executeOf}
 use Rattle.data.specs.Space.{inWindow}
@@ -93,12 +95,13 @@ module _ (image : List ℕ) (m : Machine) (request : ℕ) where
       instruction-stops none awake I.Reti bytes cycles at stop.Empty 7 (λ more. refl)
       (return-stops (m .stack) (m .control) (forwardOf (m .control .pc) bytes) .stop ∙ rw (empty, mode))
 
+module _ (image : List ℕ) (m : Machine) (request : ℕ) where
   given : (r : Numbered) → StepRefused image m request r → stepOf image m request ≡ refusedOf m r
   unfolding stepOf
   given _ (why.image-length i) = rw i
   given _ (why.ill-formed i w) = rw (i, w)
   given _ (why.unknown-source i w n) = rw (i, w, n)
-  given r (why.stops _ i w n s) = rw (i, w, n) (stop-given r s)
+  given r (why.stops _ i w n s) = rw (i, w, n) (stop-given (programOf image (m .bytes)) m request r s)
 
   -- the same number
   same-number :
@@ -108,7 +111,7 @@ module _ (image : List ℕ) (m : Machine) (request : ℕ) where
 
   only-stops :
       isImage (length image) ≡ true → isWellFormed m ≡ true → namesOnlySources request ≡ true →
-      (t : Step) → Does image m request t → (r : Numbered) → t .answer ≡ refused r → StepRefused image m request r
+      (t : Step) → Does (programOf image (m .bytes)) m request t → (r : Numbered) → t .answer ≡ refused r → StepRefused image m request r
   only-stops i w n _ (stops q s) r e = same-number q r e (why.stops q i w n s)
   only-stops i w n _ (takes source asked room) r e = not-refused 1 r e
   only-stops i w n _ (idles none asleep) r e = not-refused 0 r e
@@ -116,7 +119,8 @@ module _ (image : List ℕ) (m : Machine) (request : ℕ) where
 
   only : (t : Step) → Tested image m request t → (r : Numbered) → t .answer ≡ refused r → StepRefused image m request r
   only _ (refuses q s) r e = same-number q r e s
-  only _ (passes i w n) r e = only-stops i w n _ (step-does image m request i w) r e
+  only _ (passes i w n) r e = only-stops i w n _
+      (step-does (programOf image (m .bytes)) m request (is-space image (getD (m .bytes) 0xCA 0) i) w) r e
 
   done-else : (a : Answer ℕ) → ((r : Numbered) → a ≡ refused r → ⊥) → DoneIn a
   done-else (done cycles) nowhere = record { cycles = cycles; is = refl }

@@ -10,8 +10,10 @@ use Rattle.isa.specs.Displacement.{forwardOf}
 use Rattle.isa.specs.RoundTrip.{Bytes}
 use Rattle.isa.specs.ControlFlow.{flowOf}
 use Rattle.isa.specs.Refusals.{plain, Answer, Ended, done, refused, unless}
-use Rattle.isa.specs.Rom.{isImage}
-use Rattle.isa.proofs.Targets.{targets-in-range}
+use Rattle.isa.specs.Rom.{isImage, isSpace}
+use Rattle.isa.proofs.Halves.{is-space, space-bytes}
+use Rattle.data.specs.Space.{programOf}
+use Rattle.isa.proofs.Targets.{in-range-there}
 use Rattle.control.specs.WellFormed.{Formed}
 use Rattle.control.specs.Requests.{takeOf}
 use Rattle.control.proofs.StaysWellFormed.{formed-exactly, stays-formed}
@@ -43,14 +45,22 @@ module _ (image : List ℕ) (all : Bytes image) (m : Machine) (formed : isWellFo
   by-case _ (executes i bytes cycles none awake at goes) =
       formed-exactly .test _ _
       (stays-formed .by-flow (m .stack) (m .control) facts (flowOf i (m .control .pc))
-      (targets-in-range image all (m .control .pc) i bytes cycles at)
+      (in-range-there image all (m .control .pc) i bytes cycles at)
       (jumpsOf image (viewOf m) (flowOf i (m .control .pc))) (forwardOf (m .control .pc) bytes) (omega arith))
 
-  advance-formed : isImage (length image) ≡ true → FormedStep (advancedOf image m request)
-  advance-formed size = by-case _ (step-does image m request size formed)
+  by-program : isSpace (length image) ≡ true → FormedStep (advancedOf image m request)
+  by-program size = by-case _ (step-does image m request size formed)
+
+-- in program space as it stands
+module _ (image : List ℕ) (all : Bytes image) (m : Machine) (formed : isWellFormed m ≡ true) (request : ℕ) where
+  advance-formed : isImage (length image) ≡ true → FormedStep (advancedOf (programOf image (m .bytes)) m request)
+  advance-formed size =
+      by-program (programOf image (m .bytes)) (space-bytes image (getD (m .bytes) 0xCA 0) all) m formed request
+      (is-space image (getD (m .bytes) 0xCA 0) size)
 
   -- of what the program was handed
-  pub formed-step : isImage (length image) ≡ true → (s : Step) → s ≡ advancedOf image m request → FormedStep s
+  pub formed-step :
+      isImage (length image) ≡ true → (s : Step) → s ≡ advancedOf (programOf image (m .bytes)) m request → FormedStep s
   formed-step size s e = rw e (advance-formed size)
 
   -- a step, refused or not

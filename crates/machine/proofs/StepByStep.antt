@@ -12,6 +12,7 @@ use Rattle.isa.specs.Refusals.{Numbered, Answer, done, refused}
 use Rattle.isa.specs.Sources.{namesOnlySources}
 use Rattle.isa.specs.Rom.{isImage}
 use Rattle.isa.specs.Decode.{decodeAt}
+use Rattle.data.specs.Space.{programOf}
 use Rattle.machine.specs.declared.Machine.{Machine}
 use Rattle.machine.specs.State.{isWellFormed}
 use Rattle.machine.specs.Advance.{Step, doneOf, refusedOf, decodedOf, uninterruptedOf, advancedOf}
@@ -22,7 +23,7 @@ use Rattle.machine.specs.Operands.{readWith, stepReadOf}
 -- a step that is not refused
 pub step-advances :
     (image : List ℕ) (m : Machine) (request : ℕ) → isImage (length image) ≡ true → isWellFormed m ≡ true →
-    namesOnlySources request ≡ true → stepOf image m request ≡ advancedOf image m request
+    namesOnlySources request ≡ true → stepOf image m request ≡ advancedOf (programOf image (m .bytes)) m request
 unfolding stepOf
 step-advances image m request i w n = rw (i, w, n)
 
@@ -70,9 +71,10 @@ fit-past requests n h =
 pub stepped :
     (image requests : List ℕ) (m : Machine) (n i request : ℕ) (s : Step) → isImage (length image) ≡ true →
     isWellFormed m ≡ true → requestsFit requests n ≡ true → i < n → request ≡ getD requests i 0 →
-    s ≡ advancedOf image m request → s ≡ stepOf image m (getD requests i 0)
+    s ≡ advancedOf (programOf image (m .bytes)) m request → s ≡ stepOf image m (getD requests i 0)
 stepped image requests m n i request s v w f h e a =
-    a ∙ ap (advancedOf image m) e ∙ sym (step-advances image m (getD requests i 0) v w (fits-at requests n f i h))
+    a ∙ ap (advancedOf (programOf image (m .bytes)) m) e
+    ∙ sym (step-advances image m (getD requests i 0) v w (fits-at requests n f i h))
 
 -- asleep with nothing to take, and awake
 pub idle : (image : List ℕ) (m : Machine) → m .control .asleep ≡ true → doneOf m 0 ≡ uninterruptedOf image m

@@ -12,7 +12,7 @@ use Rattle.isa.specs.Refusals.{Numbered, plain, located, Answer, done, refused,
 use Rattle.isa.specs.Displacement.{forwardOf}
 use Rattle.isa.specs.ControlFlow.{flowOf}
 use Rattle.isa.specs.Sources.{namesOnlySources}
-use Rattle.isa.specs.Rom.{isImage}
+use Rattle.isa.specs.Rom.{isImage, isSpace}
 use Rattle.isa.specs.Decode.{decodeAt}
 use Rattle.isa.specs.Decode as decode
 use Rattle.isa.specs.declared.Instruction.{Instruction}
@@ -28,6 +28,7 @@ use Rattle.control.specs.Transfers.{advanceOf}
 use Rattle.control.specs.Requests.{requestedOf}
 use Rattle.control.proofs.StaysWellFormed.{formed-exactly}
 use Rattle.control.proofs.Stopped.{take-stops, call-stops, pop-stops, return-stops}
+use Rattle.data.specs.Space.{programOf}
 use Rattle.machine.specs.declared.Machine.{Machine}
 use Rattle.machine.specs.Execute.{executeOf}
 use Rattle.machine.specs.State.{viewOf, isWellFormed}
@@ -152,7 +153,7 @@ is-stop number address h l = record {
   most = omega arith;
 }
 
-module _ (image : List ℕ) (m : Machine) (request : ℕ) (size : isImage (length image) ≡ true)
+module _ (image : List ℕ) (m : Machine) (request : ℕ) (size : isSpace (length image) ≡ true)
     (formed : isWellFormed m ≡ true) where
   by-decoding : (a : Answer decode.Decoding) → AtAddress (m .control .pc) a → (r : Numbered) → a ≡ refused r → IsStop r
   by-decoding (done d) at r e = let z : _≡_ {A = ℕ} 0 1 = cc in absurd (omega arith)
@@ -179,7 +180,7 @@ pub data Tested (image : List ℕ) (m : Machine) (request : ℕ) : Step → Type
   refuses : (r : Numbered) → StepRefused image m request r → Tested image m request (refusedOf m r)
   passes :
       isImage (length image) ≡ true → isWellFormed m ≡ true → namesOnlySources request ≡ true →
-      Tested image m request (advancedOf image m request)
+      Tested image m request (advancedOf (programOf image (m .bytes)) m request)
 
 pub step-tested : (image : List ℕ) (m : Machine) (request : ℕ) → Tested image m request (stepOf image m request)
 unfolding stepOf
@@ -191,7 +192,8 @@ step-tested image m request =
         namesOnlySources request ≡ n →
         Tested image m request
         (unless i (refusedOf m (plain 1))
-        (unless w (refusedOf m (plain 2)) (unless n (refusedOf m (plain 11)) (advancedOf image m request))))
+        (unless w (refusedOf m (plain 2))
+        (unless n (refusedOf m (plain 11)) (advancedOf (programOf image (m .bytes)) m request))))
     by-tests false e w f n g = refuses (plain 1) (image-length e)
     by-tests true e false f n g = refuses (plain 2) (ill-formed e f)
     by-tests true e true f false g = refuses (plain 11) (unknown-source e f g)

@@ -16,6 +16,7 @@ use Rattle.isa.specs.declared.Instruction.the-variants as I
 use Rattle.data.specs.Space.{isWriteOnly, storeOf, addressOf, operandOf}
 use Rattle.data.specs.Effect.{Data, storeResultOf, effectOf}
 use Rattle.data.proofs.WriteOnly.{of-both, reads-zero, reads-held, reads-window, is-register, stores-there}
+use Rattle.data.specs.Space.{programOf}
 use Rattle.machine.specs.declared.Machine.{Machine}
 use Rattle.machine.specs.Execute.{executeOf}
 use Rattle.machine.specs.State.{viewOf, withByte}
@@ -66,7 +67,8 @@ agree image m i o a value w e =
       accumulator = λ uses. sym (other (m .bytes) a value w 0xFF (λ e. omega arith) (λ e. omega arith));
       address = same;
       byte =
-          rw (← same, e) (reads-zero image (m .bytes) a w ∙ sym (reads-zero image (storeOf (m .bytes) a value) a w));
+          rw (← same, e) (reads-zero (programOf image (m .bytes)) (m .bytes) a w
+          ∙ sym (reads-zero (programOf image (storeOf (m .bytes) a value)) (storeOf (m .bytes) a value) a w));
     }
 
 pub write-only : WriteOnly
@@ -76,7 +78,7 @@ write-only = record {
   operands = λ image m o e. reads-zero image (m .bytes) _ e;
   unseen = λ image m request i bytes cycles o value reads w at at′.
       origin-told .used image m image _ request request i bytes cycles o at at′ reads (agree image m i o _ value w refl);
-  reading = λ image m a e i w. rw (i, w, reads-zero image (m .bytes) a e, is-register image (m .bytes) a e);
+  reading = λ image m a e i w. rw (i, w, reads-zero (programOf image (m .bytes)) (m .bytes) a e, is-register (programOf image (m .bytes)) (m .bytes) a e);
   others = λ image m a e. reads-held image (m .bytes) a e;
   stores = λ m a value e. stores-there (m .bytes) value a e;
   enable = λ image m request i w n. steps.step-advances image m request i w n;
@@ -94,13 +96,13 @@ space-after image m i bytes = refl
 bytes-after :
     {i : Instruction} {o : Operand} → MadeOf i o → (image : List ℕ) (m : Machine) (request bytes cycles : ℕ) →
     Executes image m request i bytes cycles →
-    stepOf image m request .machine .bytes ≡ effectOf image (viewOf m) i .bytes
+    stepOf image m request .machine .bytes ≡ effectOf (programOf image (m .bytes)) (viewOf m) i .bytes
 unfolding executedOf completedOf
 bytes-after {i} {o} made image m request bytes cycles at =
-    let executed : stepOf image m request .machine .bytes ≡ executionAt image m i bytes .space .bytes =
+    let executed : stepOf image m request .machine .bytes ≡ executionAt (programOf image (m .bytes)) m i bytes .space .bytes =
     ap (λ (s : Step). s .machine .bytes) (comes image m request i bytes cycles at)
-    ∙ rw (made .goes image (viewOf m) (m .stack) (m .control) (forwardOf (m .control .pc) bytes)) in
-    executed ∙ ap (λ (d : Data). d .bytes) (space-after image m i bytes)
+    ∙ rw (made .goes (programOf image (m .bytes)) (viewOf m) (m .stack) (m .control) (forwardOf (m .control .pc) bytes)) in
+    executed ∙ ap (λ (d : Data). d .bytes) (space-after (programOf image (m .bytes)) m i bytes)
 
 modified :
     (image : List ℕ) (m : Machine) (request : ℕ) (i : Instruction) (bytes cycles a value : ℕ) →
@@ -109,16 +111,16 @@ modified :
 unfolding effectOf storeResultOf
 modified image m request _ bytes cycles a _ at w (set-bit n) =
     bytes-after (made-of _ _ (is-set n a)) image m request bytes cycles at
-    ∙ rw (reads-zero image (m .bytes) a w) (stores-there (m .bytes) (weightOf n) a w)
+    ∙ rw (reads-zero (programOf image (m .bytes)) (m .bytes) a w) (stores-there (m .bytes) (weightOf n) a w)
 modified image m request _ bytes cycles a _ at w (reset-bit n) =
     bytes-after (made-of _ _ (is-res n a)) image m request bytes cycles at
-    ∙ rw (reads-zero image (m .bytes) a w) (stores-there (m .bytes) 0 a w)
+    ∙ rw (reads-zero (programOf image (m .bytes)) (m .bytes) a w) (stores-there (m .bytes) 0 a w)
 modified image m request _ bytes cycles a _ at w (increment o e) =
     bytes-after (made-of _ _ (is-inc o)) image m request bytes cycles at
-    ∙ rw (e, reads-zero image (m .bytes) a w) (stores-there (m .bytes) 1 a w)
+    ∙ rw (e, reads-zero (programOf image (m .bytes)) (m .bytes) a w) (stores-there (m .bytes) 1 a w)
 modified image m request _ bytes cycles a _ at w (decrement o e) =
     bytes-after (made-of _ _ (is-dec o)) image m request bytes cycles at
-    ∙ rw (e, reads-zero image (m .bytes) a w) (stores-there (m .bytes) 0xFF a w)
+    ∙ rw (e, reads-zero (programOf image (m .bytes)) (m .bytes) a w) (stores-there (m .bytes) 0xFF a w)
 
 pub stores-from-zero : StoresFromZero
 stores-from-zero = record {

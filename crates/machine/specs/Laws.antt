@@ -9,7 +9,7 @@ use Rattle.isa.specs.Refusals.{Numbered, plain, located, Ended, done, refused}
 use Rattle.isa.specs.RoundTrip.{Bytes}
 use Rattle.isa.specs.Displacement.{forwardOf}
 use Rattle.isa.specs.ControlFlow.{flowOf}
-use Rattle.isa.specs.Rom.{isImage}
+use Rattle.isa.specs.Rom.{isImage, isSpace}
 use Rattle.isa.specs.declared.Instruction.{Instruction}
 use Rattle.isa.specs.declared.Flow.the-variants as flow
 use Rattle.isa.specs.declared.Source.{Source}
@@ -41,7 +41,7 @@ pub record IsStop (r : Numbered) : Type 0 where
 -- proved by stops-numbered, proofs/StepDoes
 abbrev pub StopsNumbered : Type 0
 StopsNumbered =
-    (image : List ℕ) (m : Machine) (request : ℕ) → isImage (length image) ≡ true → isWellFormed m ≡ true →
+    (image : List ℕ) (m : Machine) (request : ℕ) → isSpace (length image) ≡ true → isWellFormed m ≡ true →
     (r : Numbered) → StepStops image m request r → IsStop r
 
 -- What a step that is not refused does: it stops and leaves the machine as it was, or takes a request in one cycle,
@@ -61,7 +61,7 @@ pub data Does (image : List ℕ) (m : Machine) (request : ℕ) : Step → Type 0
 -- proved by step-does, proofs/StepDoes
 abbrev pub StepDoes : Type 0
 StepDoes =
-    (image : List ℕ) (m : Machine) (request : ℕ) → isImage (length image) ≡ true → isWellFormed m ≡ true →
+    (image : List ℕ) (m : Machine) (request : ℕ) → isSpace (length image) ≡ true → isWellFormed m ≡ true →
     Does image m request (advancedOf image m request)
 
 -- a data instruction, whose flow is the next address, moves PC there, and leaves stack, mode, levels and sleep

@@ -12,3 +12,4 @@ pub mod Laws
 pub mod PairUse
 pub mod OriginTold
 pub mod WriteOnly
+pub mod OnePage

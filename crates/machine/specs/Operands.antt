@@ -8,6 +8,7 @@ use Rattle.isa.specs.Decode.{decodeOf}
 use Rattle.isa.specs.Decode as decode
 use Rattle.data.specs.declared.OriginRead.{OriginRead}
 use Rattle.data.specs.declared.OriginRead.the-variants as origin
+use Rattle.data.specs.Space.{programOf}
 use Rattle.data.specs.Reads.{originReadOf}
 use Rattle.control.specs.declared.Control.{Control}
 use Rattle.control.specs.declared.Requested.{Requested}
@@ -43,7 +44,8 @@ readIfDone (refused r) read = origin.Nothing
 abbrev pub readWith : (image : List ℕ) → Machine → (request : ℕ) → Answer ℕ → OriginRead
 readWith image m request a =
     readIfDone a
-    (respondRead image (m .bytes) (m .control) (requestedOf (m .control .mode) (enabledOf (m .bytes)) request))
+    (respondRead (programOf image (m .bytes)) (m .bytes) (m .control)
+    (requestedOf (m .control .mode) (enabledOf (m .bytes)) request))
 
 -- the program's report of a step with this answer
 abbrev pub reportedOf : (image : List ℕ) → Machine → (request : ℕ) → StepAnswer → StepReport

@@ -14,7 +14,7 @@ use Rattle.isa.specs.declared.Operand.{Operand}
 use Rattle.data.specs.declared.Origin.{Origin}
 use Rattle.data.specs.declared.OperandRead.the-variants.{Nothing, Is}
 use Rattle.data.specs.declared.OriginRead.the-variants.{From}
-use Rattle.data.specs.Space.{readOf, storeOf, addressOf}
+use Rattle.data.specs.Space.{programOf, readOf, storeOf, addressOf}
 use Rattle.data.specs.Effect.{accumulatorOf}
 use Rattle.data.specs.Reads.{operandReadOf}
 use Rattle.data.specs.Laws.{ComesFrom}
@@ -32,7 +32,7 @@ pub record Executes (image : List ℕ) (m : Machine) (request : ℕ) (i : Instru
   pub sources : namesOnlySources request ≡ true
   pub none-taken : TakesNone m request
   pub awake : m .control .asleep ≡ false
-  pub at-pc : AtPc image m i bytes cycles
+  pub at-pc : AtPc (programOf image (m .bytes)) m i bytes cycles
 
 -- a step is done, and tells the origin that the reading gives at a data address of the machine before it, from which the
 -- byte there comes
@@ -41,7 +41,7 @@ pub record TellsOf (image : List ℕ) (m : Machine) (request cycles a : ℕ) : T
   pub byte : ℕ
   pub origin : Origin
   pub reading : readingOf image m a ≡ done (readingAs byte origin)
-  pub comes : ComesFrom image (m .bytes) a byte origin
+  pub comes : ComesFrom (programOf image (m .bytes)) (m .bytes) a byte origin
   pub told : stepReadOf image m request ≡ From origin
 
 -- a step completes an instruction that reads
@@ -71,7 +71,8 @@ pub record AgreeOn (image : List ℕ) (m : Machine) (image′ : List ℕ) (m′ 
   pub accumulator : UsesA i → accumulatorOf (m .bytes) ≡ accumulatorOf (m′ .bytes)
   pub address : addressOf (m .bytes) o ≡ addressOf (m′ .bytes) o
   pub byte :
-      readOf image (m .bytes) (addressOf (m .bytes) o) ≡ readOf image′ (m′ .bytes) (addressOf (m′ .bytes) o)
+      readOf (programOf image (m .bytes)) (m .bytes) (addressOf (m .bytes) o)
+      ≡ readOf (programOf image′ (m′ .bytes)) (m′ .bytes) (addressOf (m′ .bytes) o)
 
 -- two machines agree on all that an instruction which reads no data operand can use: control, stack and flags, A, and
 -- the pointers X and Y
@@ -139,4 +140,4 @@ pub record OriginTold : Type 0 where
 abbrev pub BytesAsBefore : Type 0
 BytesAsBefore =
     (image : List ℕ) (m : Machine) (a : ℕ) (r : Reading) → readingOf image m a ≡ done r →
-    r .byte ≡ readOf image (m .bytes) a
+    r .byte ≡ readOf (programOf image (m .bytes)) (m .bytes) a

@@ -10,6 +10,7 @@ use Rattle.control.specs.declared.Mode.{Mode}
 use Rattle.control.specs.declared.Mode.the-variants.{Reset, Normal, Interrupt, NmiOverNormal, NmiOverInterrupt}
 use Rattle.control.specs.Modes.{modeBeneath}
 use Rattle.machine.specs.declared.FlagPairs.{FlagPairs}
+use Rattle.data.specs.Space.{programOf}
 use Rattle.machine.specs.declared.Machine.{Machine}
 use Rattle.machine.specs.Pairs.{pairOf}
 use Rattle.machine.specs.State.{machineOf}
@@ -58,7 +59,7 @@ abbrev pub FlagsAfterReti : Type 0
 FlagsAfterReti =
     (image : List ℕ) (m n : Machine) (request bytes cycles used : ℕ) → TakesNone m request →
     m .control .asleep ≡ false →
-    AtPc image m I.Reti bytes cycles → stepOf image m request ≡ doneOf n used →
+    AtPc (programOf image (m .bytes)) m I.Reti bytes cycles → stepOf image m request ≡ doneOf n used →
     pairOf (n .flags) (n .control .mode) ≡ pairOf (m .flags) (modeBeneath (m .control .mode))
 
 -- not "Treating a second NMI as nested": in both NMI modes a step with requests is the step without

@@ -5,7 +5,7 @@ use lib.ListN.{length}
 use Rattle.isa.specs.Refusals.{plain, numbered, Answer, done, refused, unless}
 use Rattle.isa.specs.Rom.{isImage}
 use Rattle.data.specs.declared.Origin.{Origin}
-use Rattle.data.specs.Space.{readOf, originOf}
+use Rattle.data.specs.Space.{programOf, readOf, originOf}
 use Rattle.machine.specs.declared.Machine.{Machine}
 use Rattle.machine.specs.declared.ReadAnswer.{ReadAnswer}
 use Rattle.machine.specs.declared.ReadAnswer.the-variants as answer
@@ -29,4 +29,5 @@ unfoldable pub readingOf : (image : List ℕ) → Machine → (a : ℕ) → Answ
 readingOf image m a =
     unless (isImage (length image)) (refused (plain 1))
     (unless (isWellFormed m) (refused (plain 2))
-    (done (readingAs (readOf image (m .bytes) a) (originOf image (m .bytes) a))))
+    (done
+    (readingAs (readOf (programOf image (m .bytes)) (m .bytes) a) (originOf (programOf image (m .bytes)) (m .bytes) a))))

@@ -13,7 +13,7 @@ use Rattle.isa.specs.Decode as decode
 use Rattle.isa.specs.declared.Instruction.{Instruction}
 use Rattle.isa.specs.declared.Instruction.the-variants as I
 use Rattle.isa.specs.declared.Source.{Source}
-use Rattle.data.specs.Space.{readOf, originOf}
+use Rattle.data.specs.Space.{programOf, readOf, originOf}
 use Rattle.control.specs.declared.Requested.the-variants.{Nothing, Taken}
 use Rattle.control.specs.Modes.{isReset}
 use Rattle.control.specs.Requests.{requestedOf}
@@ -65,7 +65,7 @@ pub data StepRefused (image : List ℕ) (m : Machine) (request : ℕ) : Numbered
       StepRefused image m request (plain 11)
   stops :
       (r : Numbered) → isImage (length image) ≡ true → isWellFormed m ≡ true → namesOnlySources request ≡ true →
-      StepStops image m request r → StepRefused image m request r
+      StepStops (programOf image (m .bytes)) m request r → StepRefused image m request r
 
 -- the answer is done, in so many cycles
 pub record DoneIn (a : Answer ℕ) : Type 0 where
@@ -134,4 +134,5 @@ pub record ReadingRefusals : Type 0 where
       readingOf image m a ≡ refused r
   pub done-else :
       (image : List ℕ) (m : Machine) (a : ℕ) → ((r : Numbered) → ReadingRefused image m r → ⊥) →
-      readingOf image m a ≡ done (readingAs (readOf image (m .bytes) a) (originOf image (m .bytes) a))
+      readingOf image m a ≡ done
+      (readingAs (readOf (programOf image (m .bytes)) (m .bytes) a) (originOf (programOf image (m .bytes)) (m .bytes) a))

@@ -40,9 +40,10 @@ clearedPairs = record { normal = clearedFlags; interrupt = clearedFlags; nmi = c
 abbrev pub resetControl : Control
 resetControl = record { pc = resetVector; levels = 0; mode = Reset; asleep = false }
 
--- ", clears six flags, 0C8h and 0C9h, and keeps other data": and writes 0 to the six slots
+-- ", clears six flags, 0C8h and 0C9h, and keeps other data", but 0CAh: "reset clears it, in every machine" (document 02,
+-- W-210); and writes 0 to the six slots
 unfoldable pub resetOf : Machine → Machine
-resetOf m = machineOf resetControl (replicate 6 0) clearedPairs (set (set (m .bytes) 0xC8 0) 0xC9 0)
+resetOf m = machineOf resetControl (replicate 6 0) clearedPairs (set (set (set (m .bytes) 0xC8 0) 0xC9 0) 0xCA 0)
 
 -- "A fresh machine is a reset one with all data 0."
 unfoldable pub freshOf : Machine

@@ -5,6 +5,7 @@ use lib.ListN.{length}
 use Rattle.isa.specs.Refusals.{plain, unless}
 use Rattle.isa.specs.Sources.{namesOnlySources}
 use Rattle.isa.specs.Rom.{isImage}
+use Rattle.data.specs.Space.{programOf}
 use Rattle.machine.specs.declared.Machine.{Machine}
 use Rattle.machine.specs.declared.Stepped.{Stepped}
 use Rattle.machine.specs.State.{isWellFormed}
@@ -23,10 +24,11 @@ unfoldable pub use Rattle.machine.specs.Advance.{
 abbrev pub steppedOf : Stepped → Step
 steppedOf r = record { machine = r .machine; answer = answerOf (r .report .answer) }
 
--- "Step: 1, 2, 11 (bit 5, 6 or 7 set in a request byte), then the stops"
+-- "Step: 1, 2, 11 (bit 5, 6 or 7 set in a request byte), then the stops", in program space as it stands when the step
+-- begins (document 02, W-210)
 unfoldable pub stepOf : (image : List ℕ) → Machine → (request : ℕ) → Step
 stepOf image m request =
     unless (isImage (length image)) (refusedOf m (plain 1))
     (unless (isWellFormed m) (refusedOf m (plain 2))
     (unless (namesOnlySources request) (refusedOf m (plain 11))
-    (advancedOf image m request)))
+    (advancedOf (programOf image (m .bytes)) m request)))

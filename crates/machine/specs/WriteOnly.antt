@@ -13,7 +13,7 @@ use Rattle.isa.specs.declared.Instruction.{Instruction}
 use Rattle.isa.specs.declared.Instruction.the-variants as I
 use Rattle.data.specs.declared.Origin.the-variants.{Register}
 use Rattle.data.specs.declared.OperandRead.the-variants.{Is}
-use Rattle.data.specs.Space.{isWriteOnly, shownOf, heldOf, readOf, storeOf, addressOf, operandOf}
+use Rattle.data.specs.Space.{programOf, isWriteOnly, shownOf, heldOf, readOf, storeOf, addressOf, operandOf}
 use Rattle.data.specs.Reads.{operandReadOf}
 use Rattle.control.specs.Requests.{requestedOf}
 use Rattle.machine.specs.declared.Machine.{Machine}
@@ -56,7 +56,8 @@ pub record WriteOnly : Type 0 where
       (image : List ℕ) (m : Machine) (request : ℕ) → isImage (length image) ≡ true → isWellFormed m ≡ true →
       namesOnlySources request ≡ true →
       stepOf image m request
-      ≡ respondOf image m (requestedOf (m .control .mode) (bitOf (getD (m .bytes) 0xC8 0) 4) request)
+      ≡ respondOf (programOf image (m .bytes)) m
+      (requestedOf (m .control .mode) (bitOf (getD (m .bytes) 0xC8 0) 4) request)
   -- ".. and the window": what it shows goes by the low six bits of the byte stored at 0C9h
   pub window :
       (image : List ℕ) (m : Machine) (a : ℕ) → 0x40 ≤ a → a < 0x80 →

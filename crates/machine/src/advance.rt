@@ -11,6 +11,7 @@ use control::Requested;
 use control::Stop;
 use control::requests::requested;
 use control::requests::take;
+use data::space::BANK;
 use data::space::INTERRUPT_OPTION;
 use isa::Decoded;
 use isa::Instruction;
@@ -25,7 +26,8 @@ ghost use Prim.Native.Nat.{ℕ, _<_};
 ghost use lib.ListN.{length};
 ghost use Rattle.isa.specs.Refusals.{numbered};
 ghost use Rattle.isa.specs.Table.{Timings};
-ghost use Rattle.isa.specs.Rom.{isImage};
+ghost use Rattle.isa.specs.Rom.{isImage, IsImage};
+ghost use Rattle.data.specs.Space.{programOf};
 ghost use Rattle.machine.specs.State.{machineOf};
 ghost use Rattle.machine.specs.Advance.{
   advancedAs,
@@ -88,8 +90,10 @@ fn executed(
     length: u8,
     cycles: u8,
 ) -> Advanced
+    requires { ⌜ IsImage (now image) ⌝ }
     ensures { λ r. ⌜ advancedAs (now (bytes .exit)) (now (stack .exit)) r
-        ≡ executedOf (now (image .entry)) (machineOf c (now (stack .entry)) flags (now (bytes .entry)))
+        ≡ executedOf (programOf (now (image .entry)) (now (bytes .entry)))
+        (machineOf c (now (stack .entry)) flags (now (bytes .entry)))
         instruction length cycles ⌝ }
 {
     let mode = c.mode;
@@ -124,12 +128,13 @@ fn uninterrupted(
 ) -> Advanced
     requires { ⌜ Timings (now table) × (isImage (length (now image)) ≡ true) × (c .pc < 4096) ⌝ }
     ensures { λ r. ⌜ advancedAs (now (bytes .exit)) (now (stack .exit)) r
-        ≡ uninterruptedOf (now (image .entry)) (machineOf c (now (stack .entry)) flags (now (bytes .entry))) ⌝ }
+        ≡ uninterruptedOf (programOf (now (image .entry)) (now (bytes .entry)))
+        (machineOf c (now (stack .entry)) flags (now (bytes .entry))) ⌝ }
 {
     if c.asleep {
         return done(c, flags, 0);
     }
-    match decode_in_range(table, image, c.pc) {
+    match decode_in_range(table, image, bytes[BANK], c.pc) {
         Decoded::Refused(reason) => return stopped(c, flags, reason),
         Decoded::Valid {
             instruction,
@@ -151,7 +156,8 @@ pub fn advance(
 ) -> Advanced
     requires { ⌜ Timings (now table) × (isImage (length (now image)) ≡ true) × (c .pc < 4096) ⌝ }
     ensures { λ r. ⌜ advancedAs (now (bytes .exit)) (now (stack .exit)) r
-        ≡ advancedOf (now (image .entry)) (machineOf c (now (stack .entry)) flags (now (bytes .entry))) request ⌝ }
+        ≡ advancedOf (programOf (now (image .entry)) (now (bytes .entry)))
+        (machineOf c (now (stack .entry)) flags (now (bytes .entry))) request ⌝ }
 {
     let mode = c.mode;
     match requested(mode, is_enabled(bytes), request) {

@@ -15,6 +15,8 @@ use isa::displacement::short_target;
 ghost use mathlib.Core.Path.{_≡_};
 ghost use mathlib.Core.List.{List};
 ghost use Prim.Native.Nat.{ℕ};
+ghost use Rattle.isa.specs.Rom.{IsImage};
+ghost use Rattle.data.specs.Space.{programOf};
 ghost use Rattle.data.specs.Effect.{dataOf, effectOf};
 ghost use Rattle.control.specs.Stack.{transferOf, goesOn};
 ghost use Rattle.control.specs.Update.{withPc};
@@ -55,8 +57,10 @@ fn on_data(
     instruction: Instruction,
     next: u16,
 ) -> Executed
+    requires { ⌜ IsImage (now image) ⌝ }
     ensures { λ r. ⌜ ((stack : List ℕ) → executionOf (now (bytes .exit)) stack r
-        ≡ executionBy (effectOf (now (image .entry)) (dataOf (now (bytes .entry)) flags) instruction)
+        ≡ executionBy
+        (effectOf (programOf (now (image .entry)) (now (bytes .entry))) (dataOf (now (bytes .entry)) flags) instruction)
         (goesOn stack (withPc c next))) ⌝ }
 {
     let after = data::effect::effect(image, bytes, flags, instruction);
@@ -73,8 +77,9 @@ pub fn execute(
     instruction: Instruction,
     next: u16,
 ) -> Executed
+    requires { ⌜ IsImage (now image) ⌝ }
     ensures { λ r. ⌜ executionOf (now (bytes .exit)) (now (stack .exit)) r
-        ≡ executeOf (now (image .entry)) (dataOf (now (bytes .entry)) flags)
+        ≡ executeOf (programOf (now (image .entry)) (now (bytes .entry))) (dataOf (now (bytes .entry)) flags)
         (now (stack .entry)) c instruction next ⌝ }
 {
     match instruction {

@@ -9,24 +9,30 @@ use control::Requested;
 use control::requests::requested;
 use data::OriginRead;
 use data::reads::origin_read;
+use data::space::BANK;
 use isa::Decoded;
 use isa::decode::decode_in_range;
 use isa::table::timings;
 ghost use mathlib.Core.Path.{_≡_};
+ghost use mathlib.Core.Bool.{true};
+ghost use Prim.Native.Nat.{_<_};
+ghost use lib.ListN.{length};
+ghost use Rattle.isa.specs.Rom.{isImage};
+ghost use Rattle.data.specs.Space.{programOf};
 ghost use Rattle.control.specs.Requests.{requestedOf};
 ghost use Rattle.machine.specs.Advance.{answerOf, enabledOf};
 ghost use Rattle.machine.specs.Operands.{readAtPc, respondRead, readIfDone, reportedOf};
 
-// What the instruction at PC reads. A sleeping machine executes none. Where the image or PC is refused, the step is too,
-// so that they need no test here.
+// What the instruction at PC reads. A sleeping machine executes none.
 fn read_at_pc(image: &[u8], bytes: &[u8; 256], c: Control) -> OriginRead
-    ensures { λ r. ⌜ r ≡ readAtPc (now (image .entry)) (now (bytes .entry)) c ⌝ }
+    requires { ⌜ (isImage (length (now image)) ≡ true) × (c .pc < 4096) ⌝ }
+    ensures { λ r. ⌜ r ≡ readAtPc (programOf (now (image .entry)) (now (bytes .entry))) (now (bytes .entry)) c ⌝ }
 {
     if c.asleep {
         return OriginRead::Nothing;
     }
     let table = timings();
-    match decode_in_range(&table, image, c.pc) {
+    match decode_in_range(&table, image, bytes[BANK], c.pc) {
         Decoded::Refused(_) => OriginRead::Nothing,
         Decoded::Valid {
             instruction,
@@ -38,7 +44,8 @@ fn read_at_pc(image: &[u8], bytes: &[u8; 256], c: Control) -> OriginRead
 
 // What a step reads, if it is done. Taking a request is a step by itself, and reads none.
 fn read_by(image: &[u8], bytes: &[u8; 256], c: Control, request: u8) -> OriginRead
-    ensures { λ r. ⌜ r ≡ respondRead (now (image .entry)) (now (bytes .entry)) c
+    requires { ⌜ (isImage (length (now image)) ≡ true) × (c .pc < 4096) ⌝ }
+    ensures { λ r. ⌜ r ≡ respondRead (programOf (now (image .entry)) (now (bytes .entry))) (now (bytes .entry)) c
         (requestedOf (c .mode) (enabledOf (now (bytes .entry))) request) ⌝ }
 {
     let mode = c.mode;
@@ -60,6 +67,7 @@ fn read_if_done(answer: StepAnswer, read: OriginRead) -> OriginRead
 
 // The report of a step of a machine, from its answer.
 pub fn step_report(image: &[u8], m: Machine, request: u8, answer: StepAnswer) -> StepReport
+    requires { ⌜ (isImage (length (now image)) ≡ true) × (m .control .pc < 4096) ⌝ }
     ensures { λ r. ⌜ r ≡ reportedOf (now (image .entry)) m request answer ⌝ }
 {
     let c = m.control;

@@ -7,6 +7,7 @@ use alu::Flags;
 use control::Control;
 use control::Mode;
 use control::well_formed::is_well_formed;
+use data::space::BANK;
 use data::space::INTERRUPT_OPTION;
 use data::space::ROM_WINDOW;
 use data::space::is_window;
@@ -52,13 +53,15 @@ fn cleared_pairs() -> FlagPairs
     }
 }
 
-// Reset keeps all data but 0C8h and 0C9h. The slots of the stack are cleared too, so that a fresh machine is one value.
+// Reset keeps all data but 0C8h, 0C9h and 0CAh. The slots of the stack are cleared too, so that a fresh machine is one
+// value.
 pub fn reset(m: Machine) -> Machine
     ensures { λ r. ⌜ r ≡ resetOf m ⌝ }
 {
     let mut bytes = m.bytes;
     bytes[INTERRUPT_OPTION] = 0;
     bytes[ROM_WINDOW] = 0;
+    bytes[BANK] = 0;
     Machine {
         control: reset_control(),
         stack: [0; 6],

@@ -11,26 +11,20 @@ use Rattle.isa.specs.Refusals.{Numbered, plain, done, refused}
 use Rattle.isa.specs.Rom.{isImage}
 use Rattle.isa.specs.Sources.{namesOnlySources}
 use Rattle.certificate.proofs.Agreement.{agreement}
-use Rattle.certificate.proofs.Facts.{image-length, at-most-4096}
+use Rattle.certificate.proofs.Facts.{at-most-4096}
+use Rattle.certificate.specs.Check.{marksIn}
 use Rattle.maker.specs.Least.{NoneAccepted, Least}
 use Rattle.maker.specs.Progress.{Sound}
 use Rattle.maker.specs.Make.{Makes}
-use Rattle.maker.proofs.Following.{is-image}
 use Rattle.maker.proofs.Final.{blank-sound}
 
 module _ (image : List ℕ) (wired : ℕ) (before : List ℕ) where
   pub answers-1 : isImage (length image) ≡ false → Makes image wired before before (refused (plain 1))
-  answers-1 e =
-      let no : (length image ≡ 2048) ⊎ (length image ≡ 4096) → ⊥ = λ o. false≢true (sym e ∙ is-image o) in
-      (inl ((λ h. no (inl h), λ h. no (inr h)), refl), refl)
+  answers-1 e = (inl (e, refl), refl)
 
   module _ (i : isImage (length image) ≡ true) where
-    not-1 : (length image ≢ 2048) × (length image ≢ 4096) → ⊥
-    not-1 n = go (image-length (length image) i)
-      where
-        go : (length image ≡ 2048) ⊎ (length image ≡ 4096) → ⊥
-        go (inl e) = n .0 e
-        go (inr e) = n .1 e
+    not-1 : isImage (length image) ≡ false → ⊥
+    not-1 e = false≢true (sym e ∙ i)
 
     pub answers-11 : namesOnlySources wired ≡ false → Makes image wired before before (refused (plain 11))
     answers-11 e = (inr (not-1, inl (e, refl)), refl)
@@ -39,10 +33,10 @@ module _ (image : List ℕ) (wired : ℕ) (before : List ℕ) where
       not-11 : namesOnlySources wired ≡ false → ⊥
       not-11 e = false≢true (sym e ∙ w)
 
-      pub answers-25 : length before ≢ length image → Makes image wired before before (refused (plain 25))
+      pub answers-25 : length before ≢ marksIn (length image) → Makes image wired before before (refused (plain 25))
       answers-25 n = (inr (not-1, inr (not-11, inl (n, refl))), refl)
 
-      module _ (l : length before ≡ length image) where
+      module _ (l : length before ≡ marksIn (length image)) where
         pub answers-26 : {r : Numbered} → NoneAccepted image wired × (r ≡ plain 26)
             → Makes image wired before before (refused r)
         answers-26 none = (inr (not-1, inr (not-11, inr ((λ n. n l), inl none))), refl)
@@ -52,10 +46,7 @@ module _ (image : List ℕ) (wired : ℕ) (before : List ℕ) where
         answers-done {after} {levels} least =
             ((not-1, (not-11, ((λ n. n l), ((λ none. none after levels (least .is-accepted)), tt)))), least)
 
--- an image's part of a new array
-pub image-fits : (image : List ℕ) → isImage (length image) ≡ true → length image ≤ 4096
-image-fits image i = at-most-4096 (image-length (length image) i)
-
+-- a certificate's part of a new array
 pub zeros : (n i : ℕ) → _≡_ {A = ℕ} (getD (replicate n 0) i 0) 0
 zeros zero i = refl
 zeros (suc n) zero = refl
@@ -67,16 +58,15 @@ part-zeros (suc k) [] h i = refl
 part-zeros (suc k) (m ∷ l) h zero = h 0
 part-zeros (suc k) (m ∷ l) h (suc i) = part-zeros k l (λ j. h (suc j)) i
 
-pub part-length : (image : List ℕ) → isImage (length image) ≡ true
-    → length {A = ℕ} (take (length image) (replicate 4096 0)) ≡ length image
-part-length image i =
-    length-take-le (length image) (replicate 4096 0) (rw length-replicate (image-fits image i))
+pub part-length : (image : List ℕ)
+    → length {A = ℕ} (take (marksIn (length image)) (replicate 4096 0)) ≡ marksIn (length image)
+part-length image =
+    length-take-le (marksIn (length image)) (replicate 4096 0) (rw length-replicate (at-most-4096 (length image)))
 
 pub new-sound : (image : List ℕ) (wired : ℕ) → isImage (length image) ≡ true
-    → Sound image wired (take (length image) (replicate 4096 0))
+    → Sound image wired (take (marksIn (length image)) (replicate 4096 0))
 new-sound image wired i =
-    blank-sound (image-length (length image) i) (part-length image i)
-    (part-zeros (length image) (replicate 4096 0) (zeros 4096))
+    blank-sound i (part-length image) (part-zeros (marksIn (length image)) (replicate 4096 0) (zeros 4096))
 
 -- all of a list is copied over another one of its length
 copied : (source target : List ℕ) → length source ≡ length target
@@ -85,29 +75,29 @@ copied source target e = rw (take-all (length source) source (omega arith), e, d
 
 -- the certificate is the array's first part, and what is copied from it
 module _ {image marks : List ℕ} {wired levels : ℕ} (rest : List ℕ) (least : Least image wired marks levels) where
-  least-length : length marks ≡ length image
+  least-length : length marks ≡ marksIn (length image)
   least-length = agreement image marks wired levels .sound (least .is-accepted) .certificate-length
 
-  pub made-part : take (length image) (marks ++ rest) ≡ marks
-  made-part = take-at marks rest (length image) least-length
+  pub made-part : take (marksIn (length image)) (marks ++ rest) ≡ marks
+  made-part = take-at marks rest (marksIn (length image)) least-length
 
-  pub made-length : length (take (length image) (marks ++ rest)) ≡ length image
+  pub made-length : length (take (marksIn (length image)) (marks ++ rest)) ≡ marksIn (length image)
   made-length = ap length made-part ∙ least-length
 
-  pub made-fits : length image ≤ length (marks ++ rest)
+  pub made-fits : marksIn (length image) ≤ length (marks ++ rest)
   made-fits = simp length-append (omega (arith, least-length))
 
   -- a buffer of the image's length takes it, and then holds it
-  pub part-most : (target : List ℕ) → length target ≡ length image
-      → length (take (length image) (marks ++ rest)) ≤ length target
+  pub part-most : (target : List ℕ) → length target ≡ marksIn (length image)
+      → length (take (marksIn (length image)) (marks ++ rest)) ≤ length target
   part-most target l = omega (arith, l, made-length)
 
-  pub copied-least : (target : List ℕ) {after : List ℕ} → length target ≡ length image
+  pub copied-least : (target : List ℕ) {after : List ℕ} → length target ≡ marksIn (length image)
       → after
-      ≡ take (length (take (length image) (marks ++ rest))) (take (length image) (marks ++ rest))
-      ++ drop (length (take (length image) (marks ++ rest))) target
+      ≡ take (length (take (marksIn (length image)) (marks ++ rest))) (take (marksIn (length image)) (marks ++ rest))
+      ++ drop (length (take (marksIn (length image)) (marks ++ rest))) target
       → Least image wired after levels
   copied-least target l e =
-      let source = take (length image) (marks ++ rest) in
+      let source = take (marksIn (length image)) (marks ++ rest) in
       subst (λ m. Least image wired m levels)
       (sym (e ∙ copied source target (made-length ∙ sym l) ∙ made-part)) least

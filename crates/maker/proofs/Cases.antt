@@ -22,7 +22,8 @@ use Rattle.certificate.specs.Marks.{markAt, Marked, kindAt, needAt}
 use Rattle.certificate.specs.Successors
 use Rattle.certificate.specs.Levels
 use Rattle.certificate.specs.Vectors.{vectorsFound, sourceFound, vectorFound}
-use Rattle.certificate.specs.Check.{accepted, checkOf, marksFound, markFound, decodedFound, flowFound}
+use Rattle.certificate.specs.Check.{accepted, checkOf, marksFound, markFound, pagesFound, decodedFound}
+use Rattle.certificate.specs.Check.{flowFound}
 use Rattle.certificate.specs.Rules.{Rules}
 use Rattle.certificate.specs.Refusals.{None}
 use Rattle.certificate.specs.Cases.{image11, certificate11}
@@ -105,7 +106,7 @@ least-made {image} {certificate} {wired} {levels} least before after answer size
 
     none : None (questions image wired before)
     none = (
-      λ p. ⊎-elim (p .0) (p .1) (rules .image-length),
+      λ p. true≢false (sym (rules .image-length) ∙ p),
       (λ p. true≢false (sym (rules .sources) ∙ p), (λ p. p size, (λ p. p certificate levels (least .is-accepted), tt))),
     )
 
@@ -116,10 +117,10 @@ mark r t more = (record { reached = r; takes = t }, more)
 
 -- an instruction leads on
 decoding : {image : List ℕ} {a kind b kind′ levels : ℕ} {i : Instruction} {bytes cycles : ℕ}
-    → Decode.decodeAt image a ≡ done (Decode.instruction i bytes cycles)
+    → Decode.decodeAt (Rom.spaceOf image 0) a ≡ done (Decode.instruction i bytes cycles)
     → GoesOn kind (ControlFlow.flowOf i a) (forwardOf a bytes) b kind′ levels → Leads image a kind b kind′ levels
 decoding {i = i} {bytes = bytes} {cycles = cycles} d g =
-    record { instruction = i; bytes = bytes; cycles = cycles; decodes = d; goes-on = g }
+    record { bank = 0; instruction = i; bytes = bytes; cycles = cycles; decodes = d; goes-on = g }
 
 -- where each instruction leads. P11: FFEh JP 880h; 880h RETI; 881h CALL 890h; 883h JP 881h
 record Steps11 : Type 0 where
@@ -144,7 +145,7 @@ record StepsRecursive : Type 0 where
   itself : Leads recursiveImage 0x890 4 0x890 4 1
 
 steps : Steps11 × StepsBranching × StepsRecursive
-unfolding Map.entryOf Table.bytesOf Table.cyclesOf Map.formAs Map.formOf Rom.romAt Rom.operandAt Decode.decodeAt
+unfolding Map.entryOf Table.bytesOf Table.cyclesOf Map.formAs Map.formOf Rom.romAt Rom.spaceOf Rom.pageOf Rom.fixedOf Rom.operandAt Decode.decodeAt
     ControlFlow.flowOf
 steps = (
   record {
@@ -191,10 +192,10 @@ least11 = least-of image11 0x01 certificate11 2 refl all (check-cases .p11)
         (mark (at-vector Nmi refl) here (mark at-reset (along (s .start) t880) tt)))))
 
 branching-accepts : checkOf branchingImage branchingCertificate 0x00 ≡ accepted 1
-unfolding checkOf marksFound markFound decodedFound flowFound vectorsFound sourceFound vectorFound Marks.markAt
+unfolding checkOf marksFound markFound pagesFound decodedFound flowFound vectorsFound sourceFound vectorFound Marks.markAt
     Marks.kindAt Marks.needAt Successors.placed Successors.successorsOf Successors.allHaveKind Successors.coversAll
     Successors.successorsFound Levels.sourceLevels Levels.levelsFor Levels.levelsOf Map.entryOf Table.bytesOf
-    Table.cyclesOf Map.formAs Map.formOf Rom.romAt Rom.operandAt Decode.decodeAt ControlFlow.flowOf
+    Table.cyclesOf Map.formAs Map.formOf Rom.romAt Rom.spaceOf Rom.pageOf Rom.fixedOf Rom.operandAt Decode.decodeAt ControlFlow.flowOf
 branching-accepts = refl
 
 least-branching : Least branchingImage 0x00 branchingCertificate 1
@@ -247,5 +248,5 @@ make-cases =
       recursive = none-recursive;
       recursive-refused = λ before after answer size makes.
           refused-with-26-exactly recursiveImage 0x00 before after answer makes .always
-          (λ p. p .0 refl, (λ p. true≢false p, (λ p. p size, tt))) (none-recursive 0x00);
+          (λ p. true≢false p, (λ p. true≢false p, (λ p. p size, tt))) (none-recursive 0x00);
     }

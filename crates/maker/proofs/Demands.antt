@@ -5,6 +5,7 @@ use mathlib.Core.Path.{_≡_, refl, sym, _∙_}
 use mathlib.Core.Logic.{_⊎_, inl, inr, _≢_}
 use mathlib.Core.List.{List}
 use lib.ListN.{length, getD, set}
+use Rattle.certificate.specs.Check.{marksIn}
 use Rattle.certificate.specs.Marks.{markAt, WellFormed, kindAt, needAt, lowest}
 use Rattle.certificate.proofs.Facts.{mark-is, kind-of}
 use Rattle.maker.specs.declared.Progress.the-variants.{Same, Changed, Impossible}
@@ -29,8 +30,8 @@ module _ (marks : List ℕ) (a kind need : ℕ) where
   pub is-outside : (4096 ≤ a) ⊎ (a + length marks < 4096) → Demanded marks marks a kind need Impossible
   is-outside o image wired s r t = (refuted s (outside image wired a kind r (go o (s .size))), λ n. absurd (n refl))
     where
-      go : (4096 ≤ a) ⊎ (a + length marks < 4096) → length marks ≡ length image
-          → (4096 ≤ a) ⊎ (a + length image < 4096)
+      go : (4096 ≤ a) ⊎ (a + length marks < 4096) → length marks ≡ marksIn (length image)
+          → (4096 ≤ a) ⊎ (a + marksIn (length image) < 4096)
       go (inl h) e = inl h
       go (inr h) e = inr (omega arith)
 

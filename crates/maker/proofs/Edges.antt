@@ -1,25 +1,25 @@
 -- Edges are noted while addresses are explored, and needs rise over them.
 use Prim.Native.Nat.{ℕ, zero, suc, _+_, _-_, _*_, _/_, _%_, _≤_, _<_}
+use native.Mathlib.Nat.{mod-eq-of-lt, mul-add-mod-self-right}
 use native.Mathlib.Omega.{arith}
-use mathlib.Core.Path.{_≡_, refl, _∙_}
+use mathlib.Core.Path.{_≡_, refl, sym, _∙_}
 use mathlib.Core.Logic.{_≢_}
 use mathlib.Core.Bool.{Bool, true, false}
 use mathlib.Core.List.{List, [], _∷_}
 use lib.Dec.{eqb}
-use lib.ListN.{getD, set, replicate}
+use lib.ListN.{length, getD, set}
 use lib.Seq.{getD-set-other}
-use borrow.Author.Tests.{eqb-true, eqb-false}
+use borrow.Author.Tests.{eqb-true, eqb-false, lt-ltb, le-ltb}
 use Rattle.certificate.specs.Marks.{markAt, kindAt, needAt}
 use Rattle.maker.specs.declared.Progress.{Progress}
 use Rattle.maker.specs.declared.Progress.the-variants.{Same}
 use Rattle.maker.specs.Reach.{along}
-use Rattle.maker.specs.Progress.{Sound, Kept, Stepped, joined, Demanded, Edge, Known}
-use Rattle.maker.specs.Progress.{Explored, Raised, Spread}
+use Rattle.maker.specs.Progress.{Sound, Kept, Stepped, joined, Demanded, Edge, leaves, FirstEdge}
+use Rattle.maker.specs.Progress.{linkAt, NoEdges, Known, Explored, Raised, Spread}
 use Rattle.maker.proofs.Rising.{then, by}
 use Rattle.maker.proofs.Reached.{goes-bounded, has-mark}
 use Rattle.maker.proofs.Following.{takes-need, kind-most}
 use Rattle.maker.proofs.Final.{only-reachable}
-use Rattle.maker.proofs.Answering.{zeros}
 
 pub kind-at-most : (marks : List ℕ) (a : ℕ) → kindAt marks a ≤ 4
 unfolding kindAt
@@ -42,8 +42,8 @@ edge-kept {from = from} {to} kept e =
     let t = kept to (edge-bounded e .0) in
     record { kind-least = rw f (e .kind-least); leads = rw (f, t) (e .leads) }
 
-known-kept : {image before after links : List ℕ} → Kept before after → Known image before links
-    → Known image after links
+known-kept : {image before after edges : List ℕ} → Kept before after → Known image before edges
+    → Known image after edges
 known-kept kept known = record { edge = λ e n. edge-kept kept (known .edge e n) }
 
 -- what is set is read again
@@ -52,25 +52,61 @@ set-here [] i v n = absurd (n refl)
 set-here (m ∷ l) zero v n = refl
 set-here (m ∷ l) (suc i) v n = set-here l i v n
 
+-- past the end nothing is noted
+pub past-end : (l : List ℕ) (i : ℕ) → length l ≤ i → getD l i 0 ≡ 0
+past-end [] i h = refl
+past-end (m ∷ l) zero h = absurd (omega arith)
+past-end (m ∷ l) (suc i) h = past-end l i (omega arith)
+
+-- the address that an edge leaves, by its number, with the first page ..
+pub leaves-below : (e : ℕ) → e < 8192 → e / 2 ≡ leaves e
+unfolding leaves
+leaves-below e h = rw (lt-ltb e 8192 h)
+
+pub first-page : (from : ℕ) → from < 4096 → FirstEdge from (from * 2)
+first-page from h =
+    record {
+      first = sym (leaves-below (from * 2) (omega arith)) ∙ omega arith;
+      second = sym (leaves-below (from * 2 + 1) (omega arith)) ∙ omega arith;
+      numbered = omega arith;
+    }
+
+-- .. and with another
+pub leaves-above : (e : ℕ) → 8192 ≤ e → ((e - 8192) / 16 + 4096 - 2) % 4096 ≡ leaves e
+unfolding leaves
+leaves-above e h = rw (le-ltb e 8192 h) (omega arith)
+
+pub other-page : (from page : ℕ) → from < 4096 → (from + 2) % 4096 < 2050
+    → FirstEdge from (8192 + (from + 2) % 4096 * 16 + page % 8 * 2)
+other-page from page h k =
+    let e = 8192 + (from + 2) % 4096 * 16 + page % 8 * 2 in
+    record {
+      first = sym (leaves-above e (omega arith)) ∙ omega arith;
+      second = sym (leaves-above (e + 1) (omega arith)) ∙ omega arith;
+      numbered = omega arith;
+    }
+
 -- an edge is noted
-pub recorded-one : (links : List ℕ) (from place edge to levels v : ℕ) → from < 4096 → edge ≡ from * 2 + place % 2
-    → v ≡ to * 2 + levels % 2 + 1 → (image marks : List ℕ) → Known image marks links
-    → Edge image marks from to levels × Unit {0} → Known image marks (set links edge v)
-recorded-one links from place edge to levels v low edge-is v-is image marks known each =
+pub recorded-one : (edges : List ℕ) (edge to levels earlier v : ℕ) → to < 4096
+    → v ≡ earlier * 0x10000 + (to * 2 + levels % 2 + 1) → (image marks : List ℕ) → Known image marks edges
+    → Edge image marks (leaves edge) to levels × Unit {0} → Known image marks (set edges edge v)
+recorded-one edges edge to levels earlier v low v-is image marks known each =
     record { edge = λ e n. go e n (eqb e edge) refl }
   where
-    go : (e : ℕ) → getD (set links edge v) e 0 ≢ 0 → (t : Bool) → eqb e edge ≡ t
-        → Edge image marks (e / 2) ((getD (set links edge v) e 0 - 1) / 2) ((getD (set links edge v) e 0 - 1) % 2)
+    go : (e : ℕ) → linkAt (set edges edge v) e ≢ 0 → (t : Bool) → eqb e edge ≡ t
+        → Edge image marks (leaves e) ((linkAt (set edges edge v) e - 1) / 2) ((linkAt (set edges edge v) e - 1) % 2)
     go e n true p =
         let same = eqb-true e edge p in
         let most = edge-bounded (each .0) .1 in
-        let half : edge / 2 ≡ from = omega arith in
-        let to-is : (v - 1) / 2 ≡ to = omega arith in
-        let levels-are : (v - 1) % 2 ≡ levels = omega arith in
-        rw (same, set-here links edge v (rw same at n), half, to-is, levels-are) (each .0)
+        let here = set-here edges edge v (λ z. n (rw (same, z))) in
+        let link : v % 0x10000 ≡ to * 2 + levels % 2 + 1 =
+        rw v-is (mul-add-mod-self-right earlier 0x10000 (to * 2 + levels % 2 + 1) ∙ mod-eq-of-lt (omega arith)) in
+        let to-is : (v % 0x10000 - 1) / 2 ≡ to = omega arith in
+        let levels-are : (v % 0x10000 - 1) % 2 ≡ levels = omega arith in
+        rw (same, here, to-is, levels-are) (each .0)
     go e n false p =
-        let other = getD-set-other links edge e v 0 (eqb-false e edge p) in
-        rw other (known .edge e (λ z. n (other ∙ z)))
+        let other = getD-set-other edges edge e v 0 (eqb-false e edge p) in
+        rw other (known .edge e (λ z. n (rw other z)))
 
 -- then another
 pub recorded-two : {before middle after : List ℕ} {P Q : List ℕ → List ℕ → Type 0}
@@ -81,54 +117,54 @@ pub recorded-two : {before middle after : List ℕ} {P Q : List ℕ → List ℕ
 recorded-two f g image marks known each = g image marks (f image marks known (each .0, tt)) (each .1)
 
 -- addresses are explored
-pub explored-none : {image marks links : List ℕ} → Explored image marks marks links links Same
+pub explored-none : {image marks edges : List ℕ} → Explored image marks marks edges edges Same
 explored-none wired s known = (record { sound = s; told = (refl, tt); kept = λ b h. refl }, known)
 
 -- an address is visited, and the edges that leave it are noted
-pub explored-one : {image before after links links′ : List ℕ} {p : Progress} {Q : List ℕ → Type 0}
+pub explored-one : {image before after edges edges′ : List ℕ} {p : Progress} {Q : List ℕ → Type 0}
     {P : List ℕ → List ℕ → Type 0}
-    → ((image marks : List ℕ) → Known image marks links → P image marks → Known image marks links′)
+    → ((image marks : List ℕ) → Known image marks edges → P image marks → Known image marks edges′)
     → ((wired : ℕ) → Sound image wired before → Stepped image wired Q before after p × P image after)
-    → Explored image before after links links′ p
+    → Explored image before after edges edges′ p
 explored-one {image} {after = after} r v wired s known =
     let t = v wired s in
     (by (λ z. tt) (t .0), r image after (known-kept (t .0 .kept) known) (t .1))
 
-pub explored-more : {image before middle after links links′ links″ : List ℕ} {p q : Progress}
-    → Explored image before middle links links′ p → Explored image middle after links′ links″ q
-    → Explored image before after links links″ (joined p q)
+pub explored-more : {image before middle after edges edges′ edges″ : List ℕ} {p q : Progress}
+    → Explored image before middle edges edges′ p → Explored image middle after edges′ edges″ q
+    → Explored image before after edges edges″ (joined p q)
 explored-more f g wired s known =
     let t = f wired s known in
     let u = g wired (t .0 .sound) (t .1) in
     (by (λ z. tt) (then (t .0) (u .0)), u .1)
 
 -- needs are raised
-pub raised-none : {links marks : List ℕ} → Raised links marks marks Same
+pub raised-none : {edges marks : List ℕ} → Raised edges marks marks Same
 raised-none image wired s known = record { sound = s; told = (refl, tt); kept = λ b h. refl }
 
-pub raised-one : {links before after : List ℕ} {p : Progress} (number link : ℕ)
-    → link ≡ getD links number 0 → link ≢ 0
-    → Demanded before after (number / 2) (kindAt before (number / 2))
+pub raised-one : {edges before after : List ℕ} {p : Progress} (number link : ℕ)
+    → link ≡ linkAt edges number → link ≢ 0
+    → Demanded before after (leaves number) (kindAt before (leaves number))
     (needAt before ((link - 1) / 2) + (link - 1) % 2) p
-    → Raised links before after p
+    → Raised edges before after p
 raised-one {before = before} number link e n d image wired s known =
     let edge = rw (← e) at (known .edge number (λ z. n (e ∙ z))) in
-    let from = number / 2 in
+    let from = leaves number in
     let to = (link - 1) / 2 in
     let r = only-reachable s from (has-mark before from (kindAt before from) refl (edge .kind-least)) in
     let t = takes-need to (kindAt before to) s refl (edge-bounded edge .0) in
     by (λ z. tt) (d image wired s r (along (edge .leads) t) .0)
 
-pub raised-more : {links before middle after : List ℕ} {p q : Progress} → Raised links before middle p
-    → Raised links middle after q → Raised links before after (joined p q)
+pub raised-more : {edges before middle after : List ℕ} {p q : Progress} → Raised edges before middle p
+    → Raised edges middle after q → Raised edges before after (joined p q)
 raised-more f g image wired s known =
     let t = f image wired s known in
     by (λ z. tt) (then t (g image wired (t .sound) (known-kept (t .kept) known)))
 
 -- addresses are explored where no edge is noted yet, then needs are raised
-pub spreads : {image before middle after links : List ℕ} {p q : Progress}
-    → Explored image before middle (replicate 8192 0) links p → Raised links middle after q
+pub spreads : {image before middle after edges edges′ : List ℕ} {p q : Progress} → NoEdges edges
+    → Explored image before middle edges edges′ p → Raised edges′ middle after q
     → Spread image before after (joined p q)
-spreads {image} f g wired s =
-    let t = f wired s (record { edge = λ e n. absurd (n (zeros 8192 e)) }) in
+spreads {image} none f g wired s =
+    let t = f wired s (record { edge = λ e n. absurd (n (rw (none e))) }) in
     by (λ z. tt) (then (t .0) (g image wired (t .0 .sound) (t .1)))

@@ -10,6 +10,8 @@ use mathlib.Core.List.{List}
 use lib.Dec.{leb, ltb, eqb}
 use lib.ListN.{length, getD}
 use borrow.Author.Tests.{eqb-true, eqb-false}
+use Rattle.isa.specs.Rom.{isImage}
+use Rattle.certificate.specs.Check.{marksIn}
 use Rattle.isa.specs.Refusals.{Numbered, refused}
 use Rattle.isa.specs.Sources.{isNamed, namesOnlySources, vectorOf}
 use Rattle.isa.specs.declared.Source.{Source}
@@ -117,7 +119,7 @@ blank marks a zeros = go (ltb a 4096 && leb 4096 (a + length marks))
     go true = zeros (a + length marks - 4096)
     go false = refl
 
-pub blank-sound : {image marks : List ℕ} {wired : ℕ} → (length image ≡ 2048) ⊎ (length image ≡ 4096)
-    → length marks ≡ length image → ((i : ℕ) → getD marks i 0 ≡ 0) → Sound image wired marks
+pub blank-sound : {image marks : List ℕ} {wired : ℕ} → isImage (length image) ≡ true
+    → length marks ≡ marksIn (length image) → ((i : ℕ) → getD marks i 0 ≡ 0) → Sound image wired marks
 blank-sound {image} {marks} l e zeros =
     record { image-length = l; size = e; forced = λ a m. absurd (m (blank marks a zeros)) }

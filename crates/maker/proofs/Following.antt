@@ -10,7 +10,8 @@ use lib.ListN.{length}
 use borrow.Author.Tests.{leb-true, eqb-true}
 use denote.Enum.Declared.{tagOf}
 use types.Run.{OneOf, miss}
-use Rattle.isa.specs.Rom.{isImage}
+use Rattle.isa.specs.Rom.{spaceOf}
+use Rattle.isa.proofs.Halves.{is-space}
 use Rattle.isa.specs.Decode as decode
 use Rattle.isa.specs.Decode.{Decoding, decodeOf, decodeAt}
 use Rattle.isa.specs.Displacement.{forwardOf}
@@ -21,10 +22,10 @@ use Rattle.isa.specs.declared.Flow.{Flow}
 use Rattle.isa.specs.declared.Flow.the-variants as flow
 use Rattle.isa.proofs.AtAddress.{in-range}
 use Rattle.certificate.specs.declared.successors.Successor.{Successor}
-use Rattle.certificate.specs.Marks.{markAt, Marked, kindOf, kindAt, needAt}
+use Rattle.certificate.specs.Marks.{markAt, Marked, WellFormed, kindOf, kindAt, needAt}
 use Rattle.certificate.specs.Successors.{placed, successorsOf, continuesAt}
 use Rattle.certificate.specs.Links.{Link, Every}
-use Rattle.certificate.specs.Rules.{Lawful}
+use Rattle.certificate.specs.Rules.{Runs}
 use Rattle.certificate.proofs.Facts.{kind-of}
 use Rattle.certificate.proofs.Links.{flow-rule-exactly}
 use Rattle.certificate.proofs.Sound.{marked-in-rom}
@@ -155,13 +156,14 @@ successors-small {kind} mark k n f next e =
     small : (s : Successor) → (1 ≤ s .kind) × (s .kind ≤ 4) × (s .levels ≤ 1) → Small s
     small s b = record { kind-least = b .0; kind-most = b .1; levels-most = b .2 }
 
-pub is-image : {n : ℕ} → (n ≡ 2048) ⊎ (n ≡ 4096) → isImage n ≡ true
-is-image (inl e) = rw e
-is-image (inr e) = rw e
+-- an address of a kind is a program address
+pub in-space : (marks : List ℕ) (a kind : ℕ) → kind ≡ kindOf (markAt marks a) → kind ≢ 0 → a < 4096
+unfolding kindAt
+in-space marks a kind k n = marked-in-rom marks a (has-mark marks a kind (sym k) (omega arith)) .most
 
 -- the address has a mark of a kind, or none
-module _ (image marks : List ℕ) (a kind : ℕ) (kind-is : kind ≡ kindOf (markAt marks a)) where
-  pub visits-none : kind ≡ 0 → Visited image marks marks a Same []
+module _ (image marks : List ℕ) (page a kind : ℕ) (kind-is : kind ≡ kindOf (markAt marks a)) where
+  pub visits-none : kind ≡ 0 → Visited image marks marks page a Same []
   visits-none z wired s =
       (record { sound = s; told = (refl, λ m. absurd (contradicts m)); kept = λ b h. refl }, tt)
     where
@@ -182,30 +184,29 @@ module _ (image marks : List ℕ) (a kind : ℕ) (kind-is : kind ≡ kindOf (mar
         rw e at (f .reached)
 
     -- what decoding answers, of an image and an address in ROM
-    decodes-at : {wired : ℕ} → Sound image wired marks → {d : Answer Decoding} → d ≡ decodeOf image a
-        → decodeAt image a ≡ d
+    decodes-at : {wired : ℕ} → Sound image wired marks → {d : Answer Decoding} → d ≡ decodeOf (spaceOf image page) a
+        → decodeAt (spaceOf image page) a ≡ d
     decodes-at s e =
-        sym (e ∙ in-range image a (is-image (s .image-length)) (marked-in-rom marks a mark-here .most))
+        sym (e ∙ in-range (spaceOf image page) a (is-space image page (s .image-length)) (marked-in-rom marks a mark-here .most))
 
-    pub visits-undecodable : {r : Numbered} → refused r ≡ decodeOf image a → Visited image marks marks a Impossible []
-    visits-undecodable {r} d wired s = (refuted s (undecodable image wired a kind (reach s) r (decodes-at s d)), tt)
+    pub visits-undecodable : {r : Numbered} → refused r ≡ decodeOf (spaceOf image page) a → Visited image marks marks page a Impossible []
+    visits-undecodable {r} d wired s = (refuted s (undecodable image wired a kind (reach s) page r (decodes-at s d)), tt)
 
-    module _ {i : Instruction} {bytes cycles : ℕ} (d : done (decode.instruction i bytes cycles) ≡ decodeOf image a) where
-      pub visits-misplaced : placed kind (flowOf i a) ≡ false → Visited image marks marks a Impossible []
+    module _ {i : Instruction} {bytes cycles : ℕ} (d : done (decode.instruction i bytes cycles) ≡ decodeOf (spaceOf image page) a) where
+      pub visits-misplaced : placed kind (flowOf i a) ≡ false → Visited image marks marks page a Impossible []
       visits-misplaced p wired s =
-          (refuted s (misplaced image wired a kind (reach s) i bytes cycles (decodes-at s d) p), tt)
+          (refuted s (misplaced image wired a kind (reach s) page i bytes cycles (decodes-at s d) p), tt)
 
       lawful : {wired : ℕ} → Sound image wired marks → placed kind (flowOf i a) ≡ true
-          → Every (Link marks a) (successorsOf kind (flowOf i a) (forwardOf a bytes)) → Lawful image marks a
+          → Every (Link marks a) (successorsOf kind (flowOf i a) (forwardOf a bytes)) → WellFormed (markAt marks a) × Runs (spaceOf image page) marks a
       unfolding kindAt
       lawful s p links =
           let rule =
           flow-rule-exactly marks a (flowOf i a) (forwardOf a bytes) .rule
-          (record { stands = rw (← kind-is) p; links = rw (← kind-is) links }) in
-          record {
-            mark = s .forced a mark-here .formed;
-            runs = record { instruction = i; bytes = bytes; cycles = cycles; decodes = decodes-at s d; rule = rule };
-          }
+          (record { stands = rw (← kind-is) p; links = rw (← kind-is) links }) in (
+            s .forced a mark-here .formed,
+            record { instruction = i; bytes = bytes; cycles = cycles; decodes = decodes-at s d; rule = rule },
+          )
 
       -- what follows from its successors
       module _ {after : List ℕ} {p : Progress} (q : placed kind (flowOf i a) ≡ true)
@@ -214,10 +215,10 @@ module _ (image marks : List ℕ) (a kind : ℕ) (kind-is : kind ≡ kindOf (mar
             → Every (LeadsTo image a kind) (successorsOf kind (flowOf i a) (forwardOf a bytes))
         every-leads s =
             every-by {Q = LeadsTo image a kind}
-            (λ t g. record { instruction = i; bytes = bytes; cycles = cycles; decodes = decodes-at s d; goes-on = g })
+            (λ t g. record { bank = page; instruction = i; bytes = bytes; cycles = cycles; decodes = decodes-at s d; goes-on = g })
             (successorsOf kind (flowOf i a) (forwardOf a bytes)) (every-goes kind (flowOf i a) (forwardOf a bytes))
 
-        pub visits-ended : Visited image marks after a p []
+        pub visits-ended : Visited image marks after page a p []
         visits-ended wired s = (by (λ links. λ m. lawful s q links) (f image wired s (reach s) (every-leads s) .0), tt)
 
         edge-to : Kept marks after → (t : Successor) → LeadsTo image a kind t → HasKind after t → EdgeTo image after a t
@@ -228,7 +229,7 @@ module _ (image marks : List ℕ) (a kind : ℕ) (kind-is : kind ≡ kindOf (mar
             record { kind-least = rw e least; leads = rw (e, k) leads }
 
         pub visits : (p ≡ Impossible → ⊥)
-            → Visited image marks after a p (successorsOf kind (flowOf i a) (forwardOf a bytes))
+            → Visited image marks after page a p (successorsOf kind (flowOf i a) (forwardOf a bytes))
         visits n wired s =
             let u = f image wired s (reach s) (every-leads s) in (
               visits-ended wired s .0,

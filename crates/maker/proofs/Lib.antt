@@ -9,3 +9,4 @@ pub mod Answering
 pub mod Edges
 pub mod Outcomes
 pub mod Cases
+pub mod OnePage

@@ -109,7 +109,7 @@ module _ {image : List ℕ} {wired : ℕ} where
       same : (i : ℕ) → i < length c → getD c i 0 ≡ getD d i 0
       same i h =
           let rules = rules-of (p .is-accepted) in
-          let most = at-most-4096 (rules .image-length) in
+          let most = at-most-4096 (length image) in
           let l = rules .certificate-length in
           let e = size in
           let x = mark-is c i (omega arith) h in

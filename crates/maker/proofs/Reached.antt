@@ -71,7 +71,7 @@ module _ {image certificate : List ℕ} {wired number : ℕ} (rules : Rules imag
   led : (a kind b kind′ levels : ℕ) → kindAt certificate a ≡ kind → 1 ≤ kind → Leads image a kind b kind′ levels
       → Follows certificate a b kind′ levels
   led a kind b kind′ levels k h leads =
-      let runs = rules .marked a (has-mark certificate a kind k h) .runs in
+      let runs = rules .marked a (has-mark certificate a kind k h) .runs (leads .bank) in
       let d = runs .decodes in
       let d′ = leads .decodes in
       let i : runs .instruction ≡ leads .instruction = cc in

@@ -6,6 +6,8 @@ use mathlib.Core.Logic.{_⊎_, inl, inr, _≢_}
 use mathlib.Core.Bool.{true, false, false≢true}
 use mathlib.Core.List.{List}
 use lib.ListN.{length}
+use Rattle.isa.specs.Rom.{spaceOf}
+use Rattle.certificate.specs.Check.{marksIn}
 use Rattle.isa.specs.Decode as decode
 use Rattle.isa.specs.Decode.{Decoding, decodeAt}
 use Rattle.isa.specs.Displacement.{forwardOf}
@@ -35,11 +37,11 @@ module _ (image : List ℕ) (wired a kind : ℕ) (reach : Reachable image wired 
   law {certificate} rules =
       rules .marked a (has-mark certificate a kind (reached rules a kind reach) (reached-kind a kind reach .0))
 
-  pub outside : (4096 ≤ a) ⊎ (a + length image < 4096) → NoneAccepted image wired
+  pub outside : (4096 ≤ a) ⊎ (a + marksIn (length image) < 4096) → NoneAccepted image wired
   outside o = none-meets (λ certificate levels rules. contradicts certificate levels rules o)
     where
       contradicts : (certificate : List ℕ) (levels : ℕ) → Rules image certificate wired levels
-          → (4096 ≤ a) ⊎ (a + length image < 4096) → ⊥
+          → (4096 ≤ a) ⊎ (a + marksIn (length image) < 4096) → ⊥
       contradicts certificate levels rules (inl h) =
           let k = reached rules a kind reach in
           omega (arith, marked-in-rom certificate a (has-mark certificate a kind k (reached-kind a kind reach .0)) .most)
@@ -61,19 +63,20 @@ module _ (image : List ℕ) (wired a kind : ℕ) (reach : Reachable image wired 
   two-kinds other reach′ n =
       none-meets (λ certificate levels rules. n (sym (reached rules a other reach′) ∙ reached rules a kind reach))
 
-  pub undecodable : (r : Numbered) → decodeAt image a ≡ refused r → NoneAccepted image wired
-  undecodable r d = none-meets (λ certificate levels rules. contradicts (law rules .runs .decodes))
+  pub undecodable : (bank : ℕ) (r : Numbered) → decodeAt (spaceOf image bank) a ≡ refused r → NoneAccepted image wired
+  undecodable bank r d = none-meets (λ certificate levels rules. contradicts (law rules .runs bank .decodes))
     where
-      contradicts : {i : Decoding} → decodeAt image a ≡ done i → ⊥
+      contradicts : {i : Decoding} → decodeAt (spaceOf image bank) a ≡ done i → ⊥
       contradicts e = let z : _≡_ {A = ℕ} 0 1 = cc in omega arith
 
-  pub misplaced : (i : Instruction) (bytes cycles : ℕ) → decodeAt image a ≡ done (decode.instruction i bytes cycles)
+  pub misplaced : (bank : ℕ) (i : Instruction) (bytes cycles : ℕ)
+      → decodeAt (spaceOf image bank) a ≡ done (decode.instruction i bytes cycles)
       → placed kind (flowOf i a) ≡ false → NoneAccepted image wired
-  misplaced i bytes cycles d p = none-meets (λ certificate levels rules. contradicts rules)
+  misplaced bank i bytes cycles d p = none-meets (λ certificate levels rules. contradicts rules)
     where
       contradicts : {certificate : List ℕ} {levels : ℕ} → Rules image certificate wired levels → ⊥
       contradicts {certificate} rules =
-          let runs = law rules .runs in
+          let runs = law rules .runs bank in
           let e = runs .decodes in
           let same : runs .instruction ≡ i = cc in
           let flow = flowOf (runs .instruction) a in

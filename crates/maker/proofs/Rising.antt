@@ -69,9 +69,7 @@ kind-set marks j v fits h w same b k = go (eqb b (lowest marks + j)) refl
     go false p = rw (set-other marks j v b fits (eqb-false b (lowest marks + j) p))
 
 pub fits : {image marks : List ℕ} {wired : ℕ} → Sound image wired marks → length marks ≤ 4096
-fits s =
-    let m = at-most-4096 (s .image-length) in
-    omega (arith, s .size)
+fits {image} s = omega (arith, at-most-4096 (length image), s .size)
 
 -- a forced mark keeps the marks forced
 pub sound-set : (image marks : List ℕ) (wired j v : ℕ) → Sound image wired marks → j < length marks

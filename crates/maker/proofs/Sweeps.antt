@@ -8,6 +8,7 @@ use mathlib.Core.List.{List}
 use lib.Dec.{ltb}
 use lib.ListN.{length}
 use borrow.Author.Tests.{ltb-true, ltb-false}
+use borrow.Author.Count.{below-more}
 use Rattle.isa.specs.Sources.{isNamed, vectorOf}
 use Rattle.isa.specs.declared.Source.{Source}
 use Rattle.isa.specs.declared.Source.the-variants.{Nmi, First, Second, Third, Fourth}
@@ -16,7 +17,10 @@ use Rattle.certificate.proofs.Sound.{marked-in-rom}
 use Rattle.maker.specs.declared.Progress.{Progress}
 use Rattle.maker.specs.declared.Progress.the-variants.{Same}
 use Rattle.maker.specs.Reach.{at-reset, at-vector, here}
-use Rattle.maker.specs.Progress.{Sound, Stepped, joined, Demanded, LawfulAt, Swept}
+use Rattle.maker.specs.Progress.{Sound, Stepped, joined, Demanded, LawfulAt, RunsAt, VisitedEach, Swept}
+use Rattle.isa.specs.Rom.{isImage, spacesIn}
+use Rattle.isa.proofs.Halves.{with-any-bank}
+use Rattle.certificate.specs.Rules.{Runs}
 use Rattle.maker.specs.Progress.{SourceKind, Seeded, Seeds, Finished}
 use Rattle.maker.proofs.Rising.{then, by}
 
@@ -54,6 +58,34 @@ passed-more {image} {before} {i = i} f g wired s =
         → LawfulAt image a before
     pick a (inl h) each last = each a h
     pick a (inr e) each last = rw e last
+
+-- an address has been visited with the pages below one
+abbrev pub PassedPages : (image before after : List ℕ) → (a end : ℕ) → Progress → Type 0
+PassedPages image before after a end p =
+    (wired : ℕ) → Sound image wired before
+    → Stepped image wired (λ m. (k : ℕ) → k < end → RunsAt image k a m) before after p
+
+pub pages-none : {image marks : List ℕ} {a : ℕ} → PassedPages image marks marks a 0 Same
+pages-none wired s = record { sound = s; told = (refl, λ k h. absurd (omega arith)); kept = λ b h. refl }
+
+pub pages-more : {image before middle after : List ℕ} {a i : ℕ} {p q : Progress}
+    → PassedPages image before middle a i p
+    → ((wired : ℕ) → Sound image wired middle → Stepped image wired (RunsAt image i a) middle after q)
+    → PassedPages image before after a (i + 1) (joined p q)
+pages-more {image} {before} {a = a} {i = i} f g wired s =
+    let t = f wired s in
+    by (λ z. λ k h. below-more (λ j. RunsAt image j a before) i (z .0) (z .1) k h) (then t (g wired (t .sound)))
+
+pub pages-all : {image before after : List ℕ} {a : ℕ} {p : Progress} → isImage (length image) ≡ true
+    → PassedPages image before after a (spacesIn (length image)) p → VisitedEach image before after a p
+pages-all {image} {before} {a = a} is f wired s =
+    by
+    (λ z. λ m.
+    record {
+      mark = z 0 (omega arith) m .0;
+      runs = with-any-bank image (λ program. Runs program before a) (λ k h. z k h m .1);
+    })
+    (f wired s)
 
 -- above ROM neither
 pub passed-all : {image before after : List ℕ} {i : ℕ} {p : Progress} → 4096 ≤ i → Passed image before after i p

@@ -4,6 +4,7 @@ use Prim.Native.Nat.{ℕ}
 use mathlib.Core.Path.{_≡_}
 use mathlib.Core.List.{List, [], _∷_}
 use lib.ListN.{length}
+use Rattle.certificate.specs.Check.{marksIn}
 use Rattle.isa.specs.Refusals.{plain, Answer, done, refused}
 use Rattle.certificate.specs.Cases.{blank, put, image11, certificate11}
 use Rattle.maker.specs.Least.{NoneAccepted, Least}
@@ -31,7 +32,8 @@ recursiveImage =
 -- whatever a buffer of the image's length holds, the maker answers these levels and writes this certificate
 abbrev pub IsMade : (image : List ℕ) → (wired : ℕ) → (certificate : List ℕ) → (levels : ℕ) → Type 0
 IsMade image wired certificate levels =
-    (before after : List ℕ) (answer : Answer ℕ) → length before ≡ length image → Makes image wired before after answer
+    (before after : List ℕ) (answer : Answer ℕ) → length before ≡ marksIn (length image)
+    → Makes image wired before after answer
     → (answer ≡ done levels) × (after ≡ certificate)
 
 -- proved by make-cases, proofs/Cases
@@ -46,5 +48,5 @@ pub record MakeCases : Type 0 where
   -- the maker refuses with 26
   pub recursive : (wired : ℕ) → NoneAccepted recursiveImage wired
   pub recursive-refused :
-      (before after : List ℕ) (answer : Answer ℕ) → length before ≡ length recursiveImage
+      (before after : List ℕ) (answer : Answer ℕ) → length before ≡ marksIn (length recursiveImage)
       → Makes recursiveImage 0x00 before after answer → answer ≡ refused (plain 26)

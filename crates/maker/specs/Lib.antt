@@ -4,3 +4,4 @@ pub mod Make
 pub mod Progress
 pub mod Outcomes
 pub mod Cases
+pub mod OnePage

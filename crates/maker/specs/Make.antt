@@ -4,6 +4,7 @@ use mathlib.Core.Path.{_≡_}
 use mathlib.Core.Logic.{_≢_}
 use mathlib.Core.List.{List, [], _∷_}
 use lib.ListN.{length}
+use Rattle.certificate.specs.Check.{marksIn}
 use Rattle.isa.specs.Refusals.{Numbered, plain, numbered, Answer, done, refused}
 use Rattle.certificate.specs.Refusals.{Question, asks, FirstApplies, None, imageLength, unknownSource}
 use Rattle.maker.specs.declared.Made.{Made}
@@ -17,7 +18,7 @@ madeOf (Refused refusal) = refused (numbered refusal)
 
 -- "25 when the buffer isn't the image's length"
 abbrev pub bufferLength : (image buffer : List ℕ) → Question
-bufferLength image buffer = asks (plain 25) (length buffer ≢ length image)
+bufferLength image buffer = asks (plain 25) (length buffer ≢ marksIn (length image))
 
 -- "26 exactly when no certificate would be accepted"
 abbrev pub noCertificate : (image : List ℕ) → (wired : ℕ) → Question

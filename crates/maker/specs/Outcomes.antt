@@ -6,6 +6,7 @@ use mathlib.Core.Path.{_≡_}
 use mathlib.Core.Logic.{_⊎_}
 use mathlib.Core.List.{List, [], _∷_}
 use lib.ListN.{length}
+use Rattle.certificate.specs.Check.{marksIn}
 use Rattle.isa.specs.Refusals.{Numbered, plain, Answer, done, refused}
 use Rattle.certificate.specs.Marks.{markAt, Marked, kindAt, needAt}
 use Rattle.certificate.specs.Check.{accepted, checkOf}
@@ -37,7 +38,7 @@ pub record MadeLeast (image : List ℕ) (wired : ℕ) (certificate : List ℕ) (
   -- ".. so no accepted one has a smaller need anywhere": at every address, marked or not
   pub no-smaller : NoSmaller image wired certificate
   -- "into a lent buffer": all of the buffer is written, a mark for each byte of the image ..
-  pub whole : length certificate ≡ length image
+  pub whole : length certificate ≡ marksIn (length image)
   -- .. which is 00h where the address is reached with no kind
   pub unreachable : (a : ℕ) → ((kind : ℕ) → Reachable image wired a kind → ⊥) → markAt certificate a ≡ 0x00
 

@@ -3,15 +3,18 @@
 use Prim.Native.Nat.{ℕ, _+_, _-_, _/_, _%_, _≤_, _<_}
 use mathlib.Core.Path.{_≡_}
 use mathlib.Core.Logic.{_⊎_, _≢_}
-use mathlib.Core.Bool.{true}
+use mathlib.Core.Bool.{true, cond}
 use mathlib.Core.List.{List, [], _∷_}
+use lib.Dec.{ltb}
 use lib.ListN.{length, getD}
 use Rattle.isa.specs.Sources.{isNamed, vectorOf}
 use Rattle.isa.specs.declared.Source.{Source}
 use Rattle.certificate.specs.declared.successors.Successor.{Successor}
 use Rattle.certificate.specs.Marks.{markAt, Marked, WellFormed, kindAt, needAt}
 use Rattle.certificate.specs.Links.{Link, Every}
-use Rattle.certificate.specs.Rules.{Lawful}
+use Rattle.certificate.specs.Rules.{Runs, Lawful}
+use Rattle.certificate.specs.Check.{marksIn}
+use Rattle.isa.specs.Rom.{isImage, spaceOf}
 use Rattle.maker.specs.declared.Progress.{Progress}
 use Rattle.maker.specs.declared.Progress.the-variants.{Same, Changed, Impossible}
 use Rattle.maker.specs.Reach.{Leads, Reachable, Takes}
@@ -26,8 +29,8 @@ pub record Forced (image : List ℕ) (wired a mark : ℕ) : Type 0 where
 
 -- every mark is forced
 pub record Sound (image : List ℕ) (wired : ℕ) (marks : List ℕ) : Type 0 where
-  pub image-length : (length image ≡ 2048) ⊎ (length image ≡ 4096)
-  pub size : length marks ≡ length image
+  pub image-length : isImage (length image) ≡ true
+  pub size : length marks ≡ marksIn (length image)
   pub forced : (a : ℕ) → Marked marks a → Forced image wired a (markAt marks a)
 
 -- how far the marks can still rise: it falls with each change
@@ -104,11 +107,29 @@ pub record Edge (image marks : List ℕ) (from to levels : ℕ) : Type 0 where
 abbrev pub EdgeTo : (image marks : List ℕ) → (a : ℕ) → Successor → Type 0
 EdgeTo image marks a s = Edge image marks a (s .address) (s .levels)
 
--- every link that is noted is an edge: its number is twice the address that it leaves, plus its place there; it says
--- twice the address to which it leads, and the levels, plus 1
-pub record Known (image marks links : List ℕ) : Type 0 where
+-- the address that an edge leaves, by its number: twice the address, plus its place there, with the first page; after
+-- these, with the others, sixteen times the address, counted from FFEh on, plus twice the page, plus the place
+unfoldable pub leaves : ℕ → ℕ
+leaves e = cond (ltb e 8192) (e / 2) (((e - 8192) / 16 + 4094) % 4096)
+
+-- the number of the first of two edges that leave an address
+pub record FirstEdge (from edge : ℕ) : Type 0 where
+  pub first : leaves edge ≡ from
+  pub second : leaves (edge + 1) ≡ from
+  pub numbered : edge + 1 < 40992
+
+-- where it leads, as noted: twice the address, and the levels, plus 1; 0 where it is not noted
+abbrev pub linkAt : (edges : List ℕ) → (e : ℕ) → ℕ
+linkAt edges e = getD edges e 0 % 0x10000
+
+-- nothing is noted
+abbrev pub NoEdges : List ℕ → Type 0
+NoEdges edges = (e : ℕ) → getD edges e 0 ≡ 0
+
+-- every link that is noted is an edge of the program
+pub record Known (image marks edges : List ℕ) : Type 0 where
   pub edge :
-      (e : ℕ) → getD links e 0 ≢ 0 → Edge image marks (e / 2) ((getD links e 0 - 1) / 2) ((getD links e 0 - 1) % 2)
+      (e : ℕ) → linkAt edges e ≢ 0 → Edge image marks (leaves e) ((linkAt edges e - 1) / 2) ((linkAt edges e - 1) % 2)
 
 -- edges are noted
 abbrev pub Recorded : (before after : List ℕ) → (from : ℕ) → List Successor → Type 0
@@ -120,22 +141,31 @@ Recorded before after from successors =
 abbrev pub LawfulAt : (image : List ℕ) → (a : ℕ) → (marks : List ℕ) → Type 0
 LawfulAt image a marks = Marked marks a → Lawful image marks a
 
--- an address is visited, and edges lead from it to the successors
-abbrev pub Visited : (image before after : List ℕ) → (a : ℕ) → Progress → List Successor → Type 0
-Visited image before after a p successors =
+-- .. with a page in place
+abbrev pub RunsAt : (image : List ℕ) → (page a : ℕ) → (marks : List ℕ) → Type 0
+RunsAt image page a marks = Marked marks a → WellFormed (markAt marks a) × Runs (spaceOf image page) marks a
+
+-- an address is visited with a page in place, and edges lead from it to the successors
+abbrev pub Visited : (image before after : List ℕ) → (page a : ℕ) → Progress → List Successor → Type 0
+Visited image before after page a p successors =
     (wired : ℕ) → Sound image wired before
-    → Stepped image wired (LawfulAt image a) before after p × Every (EdgeTo image after a) successors
+    → Stepped image wired (RunsAt image page a) before after p × Every (EdgeTo image after a) successors
+
+-- .. with every page
+abbrev pub VisitedEach : (image before after : List ℕ) → (a : ℕ) → Progress → Type 0
+VisitedEach image before after a p =
+    (wired : ℕ) → Sound image wired before → Stepped image wired (LawfulAt image a) before after p
 
 -- .. some addresses, and their edges noted
-abbrev pub Explored : (image before after links links′ : List ℕ) → Progress → Type 0
-Explored image before after links links′ p =
-    (wired : ℕ) → Sound image wired before → Known image before links
-    → Stepped image wired (λ marks. Unit) before after p × Known image after links′
+abbrev pub Explored : (image before after edges edges′ : List ℕ) → Progress → Type 0
+Explored image before after edges edges′ p =
+    (wired : ℕ) → Sound image wired before → Known image before edges
+    → Stepped image wired (λ marks. Unit) before after p × Known image after edges′
 
 -- some needs are raised over the edges that are noted
-abbrev pub Raised : (links before after : List ℕ) → Progress → Type 0
-Raised links before after p =
-    (image : List ℕ) (wired : ℕ) → Sound image wired before → Known image before links
+abbrev pub Raised : (edges before after : List ℕ) → Progress → Type 0
+Raised edges before after p =
+    (image : List ℕ) (wired : ℕ) → Sound image wired before → Known image before edges
     → Stepped image wired (λ marks. Unit) before after p
 
 -- some addresses are visited, in some order: which ones is not promised, since the check decides in the end

@@ -3,6 +3,7 @@ use Prim.Native.Nat.{ℕ, _+_}
 use mathlib.Core.Path.{_≡_}
 use mathlib.Core.Bool.{true}
 use mathlib.Core.List.{List}
+use Rattle.isa.specs.Rom.{spaceOf}
 use Rattle.isa.specs.Refusals.{done}
 use Rattle.isa.specs.Decode as decode
 use Rattle.isa.specs.Decode.{decodeAt}
@@ -29,12 +30,14 @@ pub data GoesOn : (kind : ℕ) → Flow → (next : ℕ) → (address kind′ le
   comes-back : {k t n : ℕ} → GoesOn k (flow.Call t) n n k 0
   ends-start-up : {n : ℕ} → GoesOn 1 flow.ReturnFromInterrupt n n 2 0
 
--- the instruction that stands at a leads, in code of a kind, to b
+-- the instruction that stands at a, with some page in place, leads, in code of a kind, to b: reach is the union over
+-- the pages (document 02, W-210)
 pub record Leads (image : List ℕ) (a kind b kind′ levels : ℕ) : Type 0 where
+  pub bank : ℕ
   pub instruction : Instruction
   pub bytes : ℕ
   pub cycles : ℕ
-  pub decodes : decodeAt image a ≡ done (decode.instruction instruction bytes cycles)
+  pub decodes : decodeAt (spaceOf image bank) a ≡ done (decode.instruction instruction bytes cycles)
   pub goes-on : GoesOn kind (flowOf instruction a) (forwardOf a bytes) b kind′ levels
 
 -- "addresses reachable from FFEh or a wired vector", each with the kind that the rules force on it: "FFEh has kind 1.

@@ -5,6 +5,7 @@ use crate::join::join;
 use crate::sources::seed;
 use crate::spread::spread;
 use crate::sweep::settle;
+use certificate::check::marks_in;
 use isa::Refusal;
 use isa::rom::is_image_length;
 use isa::sources::names_only_sources;
@@ -34,13 +35,13 @@ fn complete(image: &[u8], marks: &mut [u8], wired: u8) -> Made
 pub fn make(image: &[u8], wired: u8, buffer: &mut [u8]) -> Made
     ensures { λ r. ⌜ Makes (now (image .entry)) wired (now (buffer .entry)) (now (buffer .exit)) (madeOf r) ⌝ }
 {
-    let size = image.len();
-    if !is_image_length(size) {
+    if !is_image_length(image.len()) {
         return Made::Refused(Refusal::ImageLength);
     }
     if !names_only_sources(wired) {
         return Made::Refused(Refusal::UnknownSource);
     }
+    let size = marks_in(image.len());
     if buffer.len() != size {
         return Made::Refused(Refusal::CertificateBuffer);
     }

@@ -18,6 +18,7 @@ use isa::rom::PROGRAM_SPACE;
 ghost use mathlib.Core.Path.{_≡_};
 ghost use mathlib.Core.List.{[], _∷_};
 ghost use Prim.Native.Nat.{_≤_, _<_};
+ghost use Rattle.isa.specs.Rom.{IsImage};
 ghost use Rattle.isa.specs.Table.{Timings};
 ghost use Rattle.certificate.specs.Successors.{listed};
 ghost use Rattle.certificate.specs.Links.{Every};
@@ -94,11 +95,11 @@ fn ended(progress: Progress) -> Visit
     }
 }
 
-// Visits an address: where it is marked, an instruction stands there that may stand in code of its kind, and its
-// successors are followed.
-pub fn visit(table: &[u8; 256], image: &[u8], marks: &mut [u8], address: u16) -> Visit
-    requires { ⌜ Timings (now table) ⌝ }
-    ensures { λ r. ⌜ Visited (now (image .entry)) (now (marks .entry)) (now (marks .exit)) address
+// Visits an address with a page in place: where it is marked, an instruction stands there that may stand in code of its
+// kind, and its successors are followed.
+pub fn visit(table: &[u8; 256], image: &[u8], page: u8, marks: &mut [u8], address: u16) -> Visit
+    requires { ⌜ Timings (now table) × IsImage (now image) ⌝ }
+    ensures { λ r. ⌜ Visited (now (image .entry)) (now (marks .entry)) (now (marks .exit)) page address
         (r .progress) (listed (r .successors)) ⌝ }
 {
     let kind = kind_of(mark_at(marks, address));
@@ -109,7 +110,7 @@ pub fn visit(table: &[u8; 256], image: &[u8], marks: &mut [u8], address: u16) ->
         instruction,
         length,
         cycles: _,
-    } = decode_in_range(table, image, address)
+    } = decode_in_range(table, image, page, address)
     else {
         return ended(Progress::Impossible);
     };

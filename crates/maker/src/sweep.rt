@@ -8,25 +8,43 @@ use certificate::Checked;
 use certificate::check::check;
 use isa::Refusal;
 use isa::rom::PROGRAM_SPACE;
+use isa::rom::spaces_in;
 ghost use mathlib.Core.Path.{_≡_};
 ghost use mathlib.Core.Bool.{true};
 ghost use Prim.Native.Nat.{_≤_};
 ghost use lib.ListN.{length};
 ghost use Rattle.isa.specs.Table.{Timings};
+ghost use Rattle.isa.specs.Rom.{IsImage};
 ghost use Rattle.isa.specs.Sources.{namesOnlySources};
-ghost use Rattle.maker.specs.Progress.{Sound, Swept, Stepped, Finished};
+ghost use Rattle.maker.specs.Progress.{Sound, VisitedEach, Swept, Stepped, Finished};
 ghost use Rattle.maker.specs.Make.{madeOf, Completed};
+
+// Visits an address with each page in place.
+fn visit_each(table: &[u8; 256], image: &[u8], marks: &mut [u8], address: u16) -> Progress
+    requires { ⌜ Timings (now table) × IsImage (now image) ⌝ }
+    ensures { λ r. ⌜ VisitedEach (now (image .entry)) (now (marks .entry)) (now (marks .exit)) address r ⌝ }
+{
+    let spaces = spaces_in(image.len());
+    let mut progress = Progress::Same;
+    let mut page: u8 = 0;
+    while page < spaces {
+        let visited = visit(table, image, page, marks, address);
+        let here = visited.progress;
+        progress = join(progress, here);
+        page += 1;
+    }
+    progress
+}
 
 // Visits all addresses, upward.
 fn sweep(table: &[u8; 256], image: &[u8], marks: &mut [u8]) -> Progress
-    requires { ⌜ Timings (now table) × (length (now marks) ≤ 4096) ⌝ }
+    requires { ⌜ Timings (now table) × IsImage (now image) × (length (now marks) ≤ 4096) ⌝ }
     ensures { λ r. ⌜ Swept (now (image .entry)) (now (marks .entry)) (now (marks .exit)) r ⌝ }
 {
     let mut progress = Progress::Same;
     let mut address = PROGRAM_SPACE - marks.len();
     while address < PROGRAM_SPACE {
-        let visited = visit(table, image, marks, address as u16);
-        let here = visited.progress;
+        let here = visit_each(table, image, marks, address as u16);
         progress = join(progress, here);
         address += 1;
     }

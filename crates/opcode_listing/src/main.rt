@@ -40,7 +40,7 @@ fn put_line(line: Line) {
 
 fn list_opcode(opcode: u8) {
     let image = image_with(opcode);
-    match decode(&image, 0x100) {
+    match decode(&image, 0, 0x100) {
         Decoded::Valid {
             instruction: decoded,
             length,

@@ -1,14 +1,18 @@
 -- Laws of the image that a file holds.
-use Prim.Native.Nat.{ℕ, _-_, _≤_}
+use Prim.Native.Nat.{ℕ, _+_, _-_, _≤_}
 use native.Mathlib.Omega.{arith}
 use mathlib.Core.Path.{_≡_, refl, sym, ap, _∙_}
-use mathlib.Core.Bool.{Bool, true, false}
+use mathlib.Core.Bool.{Bool, true, false, cond}
 use mathlib.Core.List.{List, [], _∷_, _++_, append-nil}
 use lib.ListN.{length, take, drop, getD, drop-of-length-le, length-drop}
 use lib.Seq.{take-all}
+use lib.Dec.{eqb}
+use borrow.Author.Tests.{eqb-true, eqb-false}
 use types.Run.{OneOf, miss}
 use denote.Enum.Declared.{tagOf}
 use borrow.Rule.Slice.PartMut.{putMid, midOf, post-is}
+use Rattle.isa.specs.Rom.{isImage, spacesIn}
+use Rattle.isa.proofs.Halves.{Sized, sized}
 use Rattle.hex.specs.declared.HexAnswer.{HexAnswer}
 use Rattle.hex.specs.Read.{answerOf, imageAfter, outcomeOf, Reads}
 use Rattle.options.specs.declared.image.Rom.the-variants as rom
@@ -16,7 +20,7 @@ use Rattle.options.specs.declared.image.Asked.{Asked}
 use Rattle.options.specs.declared.image.Asked.the-variants as asked
 use Rattle.options.specs.declared.image.ImageRead.{ImageRead}
 use Rattle.options.proofs.image.Asked.{the-type}
-use Rattle.options.specs.Image.{got, hexGot, isHex, sizedBy, sizedByLowest}
+use Rattle.options.specs.Image.{bytesOf, got, hexGot, isHex, sizedBy, sizedByLowest, sizeOf}
 
 -- a file without bytes is not HEX
 pub nothing-is-hex : (file : List ℕ) → length file ≡ 0 → isHex file false ≡ false
@@ -24,65 +28,100 @@ unfolding isHex
 nothing-is-hex [] e = refl
 nothing-is-hex (x ∷ file) e = absurd (omega arith)
 
-module _ (space : List ℕ) (whole : length space ≡ 4096) where
-  -- the last half of the space, as it is lent
-  half : midOf 2048 (length space - 2048) space ≡ drop 2048 space
-  half = take-all (length space - 2048) (drop 2048 space) (rw length-drop (omega arith))
+module _ (space : List ℕ) (start : ℕ) (fits : start ≤ length space) where
+  -- the last bytes of a space, as they are lent
+  part : midOf start (length space - start) space ≡ drop start space
+  part = take-all (length space - start) (drop start space) (rw length-drop (omega arith))
 
-  half-length : length (drop 2048 space) ≡ 2048
-  half-length = rw length-drop (omega arith)
+  part-length : length (drop start space) ≡ length space - start
+  part-length = rw length-drop (omega arith)
 
-  -- .. and as it comes back
-  pub half-back : (new : List ℕ) → putMid 2048 (length space - 2048) space new ≡ take 2048 space ++ new
-  half-back new =
+  -- .. and as they come back
+  part-back : (new : List ℕ) → putMid start (length space - start) space new ≡ take start space ++ new
+  part-back new =
       let none : drop (length space) space ≡ [] = drop-of-length-le space {i = length space} (omega arith) in
-      rw (post-is 2048 (length space) space (omega arith), none, append-nil new)
+      rw (post-is start (length space) space (omega arith), none, append-nil new)
 
-  -- a raw file of that size, put there
-  pub half-filled :
-      (file new : List ℕ) → length file ≡ 2048
-      → new ≡ take (length file) file ++ drop (length file) (midOf 2048 (length space - 2048) space)
-      → putMid 2048 (length space - 2048) space new ≡ take 2048 space ++ file
-  half-filled file new e copied =
-      let none : drop (length file) (drop 2048 space) ≡ [] =
-      drop-of-length-le (drop 2048 space) {i = length file} (omega (arith, half-length)) in
-      rw (half-back new, copied, half, none, take-all (length file) file (omega arith), append-nil file)
+  -- a file copied there, which fills them
+  pub part-filled :
+      (file new : List ℕ) → start + length file ≡ length space
+      → new ≡ take (length file) file ++ drop (length file) (midOf start (length space - start) space)
+      → putMid start (length space - start) space new ≡ take start space ++ file
+  part-filled file new e copied =
+      let none : drop (length file) (drop start space) ≡ [] =
+      drop-of-length-le (drop start space) {i = length file} (omega (arith, part-length)) in
+      rw (part-back new, copied, part, none, take-all (length file) file (omega arith), append-nil file)
 
-  pub space-filled :
-      (file new : List ℕ) → length file ≡ 4096 → new ≡ take (length file) file ++ drop (length file) space → new ≡ file
-  space-filled file new e copied =
-      let none : drop (length file) space ≡ [] = drop-of-length-le space {i = length file} (omega arith) in
-      rw (copied, none, take-all (length file) file (omega arith), append-nil file)
+  -- a HEX file read there
+  module _ (size : ℕ) (e : length space - start ≡ size) (file : List ℕ) (fill : ℕ) (after : List ℕ) (answer : HexAnswer)
+      (reads : Reads file fill (midOf start (length space - start) space) after answer) where
+    pub part-answer : answer ≡ answerOf (outcomeOf file size)
+    part-answer = rw (part, part-length, e) at (reads .answer)
+
+    pub part-read :
+        putMid start (length space - start) space after
+        ≡ take start space ++ imageAfter fill (drop start space) (outcomeOf file size)
+    part-read =
+        let i : after ≡ imageAfter fill (drop start space) (outcomeOf file size) =
+        rw (part, part-length, e) at (reads .image) in
+        rw (part-back after, i)
+
+module _ (space : List ℕ) (whole : length space ≡ 20480) where
+  -- there is room for a file in as many of the last bytes as it has
+  pub part-room :
+      (size : ℕ) → size ≤ 20480
+      → size ≤ length (midOf (20480 - size) (length space - (20480 - size)) space)
+  part-room size most =
+      let count = part-length space (20480 - size) (omega arith) in
+      rw (part space (20480 - size) (omega arith)) (omega arith)
 
   module _ (file : List ℕ) (fill : ℕ) (after : List ℕ) (answer : HexAnswer) (r : ImageRead) where
-    -- a HEX file read into the half, or into all of the space
-    pub half-read :
-        Reads file fill (midOf 2048 (length space - 2048) space) after answer → r ≡ sizedBy rom.Small answer
-        → got r (putMid 2048 (length space - 2048) space after) ≡ hexGot file asked.Small fill space
+    -- a HEX file read as 2K, as 4K, and by the lowest address that it names
+    pub small-read :
+        Reads file fill (midOf 18432 (length space - 18432) space) after answer → r ≡ sizedBy rom.Small answer
+        → got r (putMid 18432 (length space - 18432) space after) ≡ hexGot file asked.Small fill space
     unfolding hexGot
-    half-read reads e =
-        let a : answer ≡ answerOf (outcomeOf file 2048) = rw (half, half-length) at (reads .answer) in
-        let i : after ≡ imageAfter fill (drop 2048 space) (outcomeOf file 2048) =
-        rw (half, half-length) at (reads .image) in
-        rw (e, half-back after, a, i)
+    small-read reads e =
+        rw (
+          e,
+          part-answer space 18432 (omega arith) 2048 (omega arith) file fill after answer reads,
+          part-read space 18432 (omega arith) 2048 (omega arith) file fill after answer reads,
+        )
 
-    pub space-read :
-        Reads file fill space after answer → r ≡ sizedBy rom.Large answer
-        → got r after ≡ hexGot file asked.Large fill space
+    pub large-read :
+        Reads file fill (midOf 16384 (length space - 16384) space) after answer → r ≡ sizedBy rom.Large answer
+        → got r (putMid 16384 (length space - 16384) space after) ≡ hexGot file asked.Large fill space
     unfolding hexGot
-    space-read reads e =
-        let a : answer ≡ answerOf (outcomeOf file 4096) = rw whole at (reads .answer) in
-        let i : after ≡ imageAfter fill space (outcomeOf file 4096) = reads .image ∙ rw whole in
-        rw (e, a, i)
+    large-read reads e =
+        rw (
+          e,
+          part-answer space 16384 (omega arith) 4096 (omega arith) file fill after answer reads,
+          part-read space 16384 (omega arith) 4096 (omega arith) file fill after answer reads,
+        )
 
     pub lowest-read :
-        Reads file fill space after answer → r ≡ sizedByLowest answer
-        → got r after ≡ hexGot file asked.Nothing fill space
+        Reads file fill (midOf 16384 (length space - 16384) space) after answer → r ≡ sizedByLowest answer
+        → got r (putMid 16384 (length space - 16384) space after) ≡ hexGot file asked.Nothing fill space
     unfolding hexGot
     lowest-read reads e =
-        let a : answer ≡ answerOf (outcomeOf file 4096) = rw whole at (reads .answer) in
-        let i : after ≡ imageAfter fill space (outcomeOf file 4096) = reads .image ∙ rw whole in
-        rw (e, a, i)
+        rw (
+          e,
+          part-answer space 16384 (omega arith) 4096 (omega arith) file fill after answer reads,
+          part-read space 16384 (omega arith) 4096 (omega arith) file fill after answer reads,
+        )
+
+-- an image's bytes are those of its size
+pub size-bytes : (n : ℕ) → isImage n ≡ true → n ≡ bytesOf (sizeOf n)
+unfolding sizeOf
+size-bytes n is = by-tests (eqb n 2048) (eqb n 4096) refl refl
+  where
+    by-tests : (t u : Bool) → eqb n 2048 ≡ t → eqb n 4096 ≡ u
+        → n ≡ bytesOf (cond t rom.Small (cond u rom.Large (rom.Paged (spacesIn n))))
+    by-tests true u p q = eqb-true n 2048 p
+    by-tests false true p q = eqb-true n 4096 q
+    by-tests false false p q =
+        let size : Sized n = sized n is in
+        omega (arith, size .whole, size .least, eqb-false n 2048 p)
 
 -- a size that is none is as if none were asked for
 abbrev noSizes : List ℕ

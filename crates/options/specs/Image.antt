@@ -1,11 +1,12 @@
 -- The image that a file holds: Intel HEX, which begins with a colon, or raw bytes.
-use Prim.Native.Nat.{ℕ, _≤_, _<_}
+use Prim.Native.Nat.{ℕ, _+_, _*_, _-_, _≤_, _<_}
 use mathlib.Core.Path.{_≡_}
 use mathlib.Core.Bool.{Bool, true, false, cond}
 use mathlib.Core.List.{List, [], _∷_, _++_}
 use lib.Dec.{eqb, leb}
 use lib.ListN.{length, take, drop, getD}
 use Rattle.isa.specs.Refusals.{unless}
+use Rattle.isa.specs.Rom.{isImage, spacesIn}
 use Rattle.hex.specs.declared.HexAnswer.{HexAnswer}
 use Rattle.hex.specs.declared.HexAnswer.the-variants as hex
 use Rattle.hex.specs.Read.{answerOf, imageAfter, outcomeOf}
@@ -28,17 +29,24 @@ isHex file raw = cond raw false (eqb (getD file 0 0) 0x3A)
 unfoldable pub sizeNamed : (word : List ℕ) → Asked
 sizeNamed = lookUp asked.Wrong (named (ascii "2K") asked.Small ∷ named (ascii "4K") asked.Large ∷ [])
 
--- how many bytes an image has
+-- how many bytes an image has: a paged one its pages and the fixed half
 abbrev pub bytesOf : Rom → ℕ
 bytesOf rom.Small = 2048
 bytesOf rom.Large = 4096
+bytesOf (rom.Paged pages) = (pages + 1) * 2048
 
--- a size may be that which is asked for
+-- the size of an image of so many bytes
+unfoldable pub sizeOf : (bytes : ℕ) → Rom
+sizeOf n = cond (eqb n 2048) rom.Small (cond (eqb n 4096) rom.Large (rom.Paged (spacesIn n)))
+
+-- a size may be that which is asked for; no word asks for pages
 abbrev pub mayBe : Asked → Rom → Bool
 mayBe asked.Small rom.Small = true
 mayBe asked.Small rom.Large = false
+mayBe asked.Small (rom.Paged pages) = false
 mayBe asked.Large rom.Small = false
 mayBe asked.Large rom.Large = true
+mayBe asked.Large (rom.Paged pages) = false
 mayBe asked.Nothing size = true
 mayBe asked.Wrong size = true
 
@@ -63,38 +71,36 @@ sizedByLowest (hex.Read lowest) = sizedFor lowest
 sizedByLowest (hex.Refused line fault) = read.Fault line fault
 sizedByLowest hex.ImageLength = read.NoSize
 
--- a HEX file read into a space of 4096 bytes: where 2K is asked for into the last 2048, else into all of them, also
--- where the file names no address; where a line is at fault, the space stays as it was
+-- a HEX file read into the last bytes of a space, as many as an image of that size has; where a line is at fault, the
+-- space stays as it was
+abbrev pub hexPut : (file : List ℕ) → (size : Rom) → (fill : ℕ) → (space : List ℕ) → List ℕ
+hexPut file size fill space =
+    let start = 20480 - bytesOf size in
+    take start space ++ imageAfter fill (drop start space) (outcomeOf file (bytesOf size))
+
+-- .. as 2K where that is asked for, else as 4K, also where the file names no address
 unfoldable pub hexGot : (file : List ℕ) → Asked → (fill : ℕ) → (space : List ℕ) → Got
 hexGot file asked.Small fill space =
-    let outcome = outcomeOf file 2048 in
-    got (sizedBy rom.Small (answerOf outcome)) (take 2048 space ++ imageAfter fill (drop 2048 space) outcome)
+    got (sizedBy rom.Small (answerOf (outcomeOf file 2048))) (hexPut file rom.Small fill space)
 hexGot file asked.Large fill space =
-    let outcome = outcomeOf file 4096 in
-    got (sizedBy rom.Large (answerOf outcome)) (imageAfter fill space outcome)
+    got (sizedBy rom.Large (answerOf (outcomeOf file 4096))) (hexPut file rom.Large fill space)
 hexGot file asked.Nothing fill space =
-    let outcome = outcomeOf file 4096 in
-    got (sizedByLowest (answerOf outcome)) (imageAfter fill space outcome)
+    got (sizedByLowest (answerOf (outcomeOf file 4096))) (hexPut file rom.Large fill space)
 hexGot file asked.Wrong fill space =
-    let outcome = outcomeOf file 4096 in
-    got (sizedByLowest (answerOf outcome)) (imageAfter fill space outcome)
+    got (sizedByLowest (answerOf (outcomeOf file 4096))) (hexPut file rom.Large fill space)
 
--- a raw file put into the last bytes of a space, where it may be of that size
-abbrev pub rawPut : (file : List ℕ) → Asked → Rom → (before space : List ℕ) → Got
-rawPut file a size before space =
-    unless (mayBe a size) (got read.OtherSize space) (got (read.Whole size by.Size) (before ++ file))
-
--- a raw file has 2048 or 4096 bytes
+-- a raw file has 1 to 10 halves, and is put into the last bytes of a space where it may be of that size
 unfoldable pub rawGot : (file : List ℕ) → Asked → (space : List ℕ) → Got
 rawGot file a space =
-    cond (eqb (length file) 2048) (rawPut file a rom.Small (take 2048 space) space)
-    (cond (eqb (length file) 4096) (rawPut file a rom.Large [] space)
-    (got read.NoSize space))
+    let size = sizeOf (length file) in
+    unless (isImage (length file)) (got read.NoSize space)
+    (unless (mayBe a size) (got read.OtherSize space)
+    (got (read.Whole size by.Size) (take (20480 - length file) space ++ file)))
 
--- a file read into a space, which has 4096 bytes
+-- a file read into a space, which has as many bytes as the longest image
 unfoldable pub imageGot : (file : List ℕ) → Asked → (fill : ℕ) → (raw : Bool) → (space : List ℕ) → Got
 imageGot file a fill raw space =
-    unless (eqb (length space) 4096) (got read.NoSize space)
+    unless (eqb (length space) 20480) (got read.NoSize space)
     (cond (isHex file raw) (hexGot file a fill space) (rawGot file a space))
 
 -- where no size is asked for, that of a HEX file's image is chosen by the lowest address that the file names

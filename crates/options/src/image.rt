@@ -4,15 +4,28 @@ use hex::Fault;
 use hex::HexAnswer;
 use isa::rom::HALF_SPACE;
 use isa::rom::PROGRAM_SPACE;
+use isa::rom::is_image_length;
+use isa::rom::spaces_in;
 ghost use mathlib.Core.Path.{_≡_};
+ghost use mathlib.Core.Bool.{true};
 ghost use lib.ListN.{length};
-ghost use Rattle.options.specs.Image.{got, hexGot, imageGot, isHex, mayBe, rawGot, sizedBy, sizedByLowest};
-ghost use Rattle.options.specs.Image.{sizeNamed};
+ghost use Rattle.isa.specs.Rom.{isImage};
+ghost use Rattle.options.specs.Image.{bytesOf, got, hexGot, imageGot, isHex, mayBe, rawGot, sizeOf};
+ghost use Rattle.options.specs.Image.{sizedBy, sizedByLowest, sizeNamed};
 
-// The two sizes: 2K, from 800h to FFFh, and 4K.
+// The bytes of the longest image: nine pages and the fixed half.
+pub const SPACE: usize = 20480;
+
+// Where an image of 2K, and one of 4K, begins in the space.
+const SMALL: usize = 18432;
+
+const LARGE: usize = 16384;
+
+// The sizes: 2K, from 800h to FFFh; 4K; and paged, with how many pages there are to choose from, two or more.
 pub enum Rom {
     Small,
     Large,
+    Paged(u8),
 }
 
 // What `--rom` says.
@@ -30,11 +43,11 @@ pub enum ChosenBy {
     Lowest(u16),
 }
 
-// What came of a file. An image stands in the last bytes of its space, so that each byte stands at its address.
+// What came of a file. An image stands in the last bytes of its space.
 pub enum ImageRead {
     Whole { rom: Rom, by: ChosenBy },
     Fault { line: usize, fault: Fault },
-    // A raw file has neither 2048 nor 4096 bytes.
+    // A raw file has not 1 to 10 halves of 2048 bytes.
     NoSize,
     // A raw file's size is not that which was asked for.
     OtherSize,
@@ -95,23 +108,20 @@ fn by_lowest(answer: HexAnswer) -> ImageRead
     }
 }
 
-// A HEX file, read into the space of the size that is asked for.
+// A HEX file, read into the last bytes of the space, as many as the size has that is asked for.
 fn hex_image(file: &[u8], asked: Asked, fill: u8, space: &mut [u8]) -> ImageRead
-    requires { ⌜ length (now space) ≡ 4096 ⌝ }
+    requires { ⌜ length (now space) ≡ 20480 ⌝ }
     ensures { λ r. ⌜ got r (now (space .exit))
         ≡ hexGot (now (file .entry)) asked fill (now (space .entry)) ⌝ }
 {
     match asked {
-        Asked::Small => sized(
-            hex::read::read(file, fill, &mut space[HALF_SPACE..]),
-            Rom::Small,
-        ),
-        Asked::Large => sized(hex::read::read(file, fill, space), Rom::Large),
-        _ => by_lowest(hex::read::read(file, fill, space)),
+        Asked::Small => sized(hex::read::read(file, fill, &mut space[SMALL..]), Rom::Small),
+        Asked::Large => sized(hex::read::read(file, fill, &mut space[LARGE..]), Rom::Large),
+        _ => by_lowest(hex::read::read(file, fill, &mut space[LARGE..])),
     }
 }
 
-// Whether a size may be that which is asked for.
+// Whether a size may be that which is asked for. No word asks for pages.
 fn may_be(asked: Asked, rom: Rom) -> bool
     ensures { λ r. ⌜ r ≡ mayBe asked rom ⌝ }
 {
@@ -119,41 +129,60 @@ fn may_be(asked: Asked, rom: Rom) -> bool
         Asked::Small => match rom {
             Rom::Small => true,
             Rom::Large => false,
+            Rom::Paged(_) => false,
         },
         Asked::Large => match rom {
             Rom::Small => false,
             Rom::Large => true,
+            Rom::Paged(_) => false,
         },
         Asked::Nothing => true,
         Asked::Wrong => true,
     }
 }
 
+// The size of an image of so many bytes.
+fn size_of(length: usize) -> Rom
+    requires { ⌜ isImage length ≡ true ⌝ }
+    ensures { λ r. ⌜ r ≡ sizeOf length ⌝ }
+{
+    if length == HALF_SPACE {
+        return Rom::Small;
+    }
+    if length == PROGRAM_SPACE {
+        return Rom::Large;
+    }
+    Rom::Paged(spaces_in(length))
+}
+
+// How many bytes an image has.
+pub fn bytes_of(rom: Rom) -> usize
+    ensures { λ r. ⌜ r ≡ bytesOf rom ⌝ }
+{
+    match rom {
+        Rom::Small => HALF_SPACE,
+        Rom::Large => PROGRAM_SPACE,
+        Rom::Paged(pages) => (pages as usize + 1) * HALF_SPACE,
+    }
+}
+
 // A raw file, in the last bytes of the space.
 fn raw_image(file: &[u8], asked: Asked, space: &mut [u8]) -> ImageRead
-    requires { ⌜ length (now space) ≡ 4096 ⌝ }
+    requires { ⌜ length (now space) ≡ 20480 ⌝ }
     ensures { λ r. ⌜ got r (now (space .exit))
         ≡ rawGot (now (file .entry)) asked (now (space .entry)) ⌝ }
 {
-    if file.len() == HALF_SPACE {
-        if !may_be(asked, Rom::Small) {
-            return ImageRead::OtherSize;
-        }
-        bytes::copy(file, &mut space[HALF_SPACE..]);
-        return ImageRead::Whole {
-            rom: Rom::Small,
-            by: ChosenBy::Size,
-        };
-    }
-    if file.len() != PROGRAM_SPACE {
+    let length = file.len();
+    if !is_image_length(length) {
         return ImageRead::NoSize;
     }
-    if !may_be(asked, Rom::Large) {
+    let rom = size_of(length);
+    if !may_be(asked, rom) {
         return ImageRead::OtherSize;
     }
-    bytes::copy(file, space);
+    bytes::copy(file, &mut space[SPACE - length..]);
     ImageRead::Whole {
-        rom: Rom::Large,
+        rom,
         by: ChosenBy::Size,
     }
 }
@@ -163,7 +192,7 @@ pub fn image_of(file: &[u8], asked: Asked, fill: u8, raw: bool, space: &mut [u8]
     ensures { λ r. ⌜ got r (now (space .exit))
         ≡ imageGot (now (file .entry)) asked fill raw (now (space .entry)) ⌝ }
 {
-    if space.len() != PROGRAM_SPACE {
+    if space.len() != SPACE {
         return ImageRead::NoSize;
     }
     if is_hex(file, raw) {

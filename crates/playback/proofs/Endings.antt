@@ -4,10 +4,12 @@ use native.Mathlib.Omega.{arith}
 use mathlib.Core.Path.{_≡_, refl, sym, ap, _∙_}
 use mathlib.Core.Bool.{Bool, true, false, false≢true}
 use mathlib.Core.List.{List, [], _∷_}
-use lib.ListN.{length}
+use lib.ListN.{getD, length}
 use Rattle.isa.specs.Refusals.{Numbered, plain, Answer, Ended, done, refused, unless}
 use Rattle.isa.specs.RoundTrip.{Bytes}
 use Rattle.isa.specs.Rom.{isImage}
+use Rattle.isa.proofs.Halves.{is-space}
+use Rattle.data.specs.Space.{programOf}
 use Rattle.machine.specs.declared.Machine.{Machine}
 use Rattle.machine.specs.State.{isWellFormed, freshOf, resetOf, hostStoreOf}
 use Rattle.machine.specs.Step.{stepOf}
@@ -78,7 +80,8 @@ module _ (image : List ℕ) (all : Bytes image) (size : isImage (length image) �
         ends.safely 0 (refused (plain 11)) (ends.step-refused 0 request (first (Step request) rest))
     step-ends request reason (why.stops _ i w k stop) =
         ends.step-stops 0 request reason (first (Step request) rest)
-        (stops-numbered image m request size formed reason stop)
+        (stops-numbered (programOf image (m .bytes)) m request (is-space image (getD (m .bytes) 0xCA 0) size) formed reason
+        stop)
 
     by-step :
         (request : ℕ) (a : Answer ℕ) → stepOf image m request .answer ≡ a →

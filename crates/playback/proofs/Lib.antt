@@ -12,3 +12,4 @@ pub mod Presses
 pub mod Turns
 pub mod Counted
 pub mod ValueWalk
+pub mod OnePage

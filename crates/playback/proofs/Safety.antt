@@ -63,14 +63,10 @@ module _ (image : List ℕ) (levels : ℕ) where
   safely (Reset ∷ rest) n cycles m (low, kept, more) =
       one-before n Reset rest _ (safely rest (n + 1) (cycles + 0) _ more)
 
-is-image : (n : ℕ) → (n ≡ 2048) ⊎ (n ≡ 4096) → isImage n ≡ true
-is-image n (inl e) = rw e
-is-image n (inr e) = rw e
-
 pub played-safely : PlayedSafely
 unfolding playOf freshOf
 played-safely image certificate wired levels accepts session entries reads asks =
-    let size = is-image (length image) (agreement image certificate wired levels .sound accepts .image-length) in
+    let size = agreement image certificate wired levels .sound accepts .image-length in
     let promised = never-stops image certificate wired levels accepts in
     let kept =
     promised .1 (machineOf resetControl (replicate 6 0) clearedPairs (replicate 256 0)) (callsOf entries) asks in

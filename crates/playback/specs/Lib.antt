@@ -7,3 +7,4 @@ pub mod Keys
 pub mod Safety
 pub mod Cases
 pub mod Turn
+pub mod OnePage

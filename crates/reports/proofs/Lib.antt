@@ -1,3 +1,4 @@
 pub mod FirstLine
 pub mod PartsAddUp
 pub mod ExitStatus
+pub mod PageLaws

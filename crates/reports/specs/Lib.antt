@@ -1,3 +1,4 @@
 pub mod Answers
 pub mod Levels
 pub mod Output
+pub mod PageFound

@@ -9,12 +9,14 @@ use crate::levels::put_wired;
 use crate::output::finish;
 use crate::output::put;
 use crate::output::put_text;
+use crate::page_found::page_found;
 use certificate::Checked;
 use certificate::check::check;
 use hex::crc::crc_32;
 use isa::Number;
 use isa::Refusal;
 use isa::refusals::number_of;
+use isa::rom::PROGRAM_SPACE;
 use listing::Line;
 use options::image::ChosenBy;
 use options::image::Rom;
@@ -56,6 +58,15 @@ fn accepted_line(levels: u8) -> Line
     Line::new().word(b"accepted ").decimal(levels as u32)
 }
 
+// The reason of a refusal by the check, with the page with which it was found.
+fn put_found(image: &[u8], marks: &[u8], wired: u8, refusal: Refusal, is_written: bool) -> bool {
+    let page = match number_of(refusal) {
+        Number::Plain(_) => 0,
+        Number::Located(_, address) => page_found(image, marks, wired, address),
+    };
+    put_reason(image, page, marks, wired, refusal, is_written)
+}
+
 // Why no certificate exists: the first rule that the marks of what can be reached do not meet. The marks are the
 // maker's, which left them all 00h.
 fn put_no_certificate(image: &[u8], marks: &mut [u8], wired: u8, is_written: bool) -> bool {
@@ -67,19 +78,22 @@ fn put_no_certificate(image: &[u8], marks: &mut [u8], wired: u8, is_written: boo
                 b"no marks are accepted; those of all code that can be reached: ",
             );
             let is_put = put(refusal_line(line, refusal), is_written);
-            put_reason(image, marks, wired, refusal, is_put)
+            put_found(image, marks, wired, refusal, is_put)
         }
     }
 }
 
-// Why the check with nothing wired refused the marks: the gauge's 23.
+// The gauge's 23: it takes no pages, or the check with nothing wired refused the marks.
 fn put_unchecked(image: &[u8], marks: &[u8], is_written: bool) -> bool {
+    if PROGRAM_SPACE < image.len() {
+        return put_text(b"the gauge takes images of 2K and 4K only\n", is_written);
+    }
     match check(image, marks, 0) {
         Checked::Accepted(_) => is_written,
         Checked::Refused(refusal) => {
             let line = Line::new().word(b"the check with nothing wired: ");
             let is_put = put(refusal_line(line, refusal), is_written);
-            put_reason(image, marks, 0, refusal, is_put)
+            put_found(image, marks, 0, refusal, is_put)
         }
     }
 }
@@ -92,7 +106,7 @@ fn put_why(image: &[u8], marks: &mut [u8], wired: u8, refusal: Refusal, is_writt
     if let Refusal::CheckRefused = refusal {
         return put_unchecked(image, marks, is_written);
     }
-    put_reason(image, marks, wired, refusal, is_written)
+    put_found(image, marks, wired, refusal, is_written)
 }
 
 // Where the marks came from. Where they were to be made, a refusal has none, or is not about them.

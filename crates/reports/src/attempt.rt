@@ -15,10 +15,13 @@ use isa::Continuation;
 use isa::Source;
 use isa::flow_at::flow_at;
 use isa::rom::PROGRAM_SPACE;
+use isa::rom::fixed_of;
+use isa::rom::page_of;
 use isa::sources::RESET_VECTOR;
 use isa::sources::names;
 use isa::sources::vector_of;
 use isa::table::timings;
+use listing::pages::choices_in;
 
 // More passes than there are marks to raise.
 const MOST_PASSES: u32 = 32768;
@@ -81,13 +84,19 @@ fn follow(marks: &mut [u8], address: u16, successor: Successor) -> bool {
     begun || raised
 }
 
-// Follows an instruction to where it leads; whether a mark changed.
-fn visit(table: &[u8; 256], image: &[u8], marks: &mut [u8], address: u16) -> bool {
+// Follows an instruction to where it leads with a page in place; whether a mark changed.
+fn visit<'a>(
+    table: &[u8; 256],
+    page: &'a [u8],
+    fixed: &'a [u8],
+    marks: &mut [u8],
+    address: u16,
+) -> bool {
     let kind = kind_of(mark_at(marks, address));
     if kind == 0 {
         return false;
     }
-    let Continuation::Valid { flow, next } = flow_at(table, image, address) else {
+    let Continuation::Valid { flow, next } = flow_at(table, page, fixed, address) else {
         return false;
     };
     if !is_placed(kind, flow) {
@@ -105,14 +114,29 @@ fn visit(table: &[u8; 256], image: &[u8], marks: &mut [u8], address: u16) -> boo
 }
 
 // Visits all addresses, downward: most instructions lead upward, and needs come back from there.
-fn pass(table: &[u8; 256], image: &[u8], marks: &mut [u8]) -> bool {
+fn pass<'a>(table: &[u8; 256], page: &'a [u8], fixed: &'a [u8], marks: &mut [u8]) -> bool {
     let mut changed = false;
     let mut address = 4096u16;
     while 0 < address {
         address -= 1;
-        if visit(table, image, marks, address) {
+        if visit(table, page, fixed, marks, address) {
             changed = true;
         }
+    }
+    changed
+}
+
+// A pass with each page in place: what can be reached with any of them is reached.
+fn pass_pages(table: &[u8; 256], image: &[u8], marks: &mut [u8]) -> bool {
+    let fixed = fixed_of(image);
+    let pages = choices_in(image.len());
+    let mut changed = false;
+    let mut page = 0u8;
+    while page < pages {
+        if pass(table, page_of(image, page), fixed, marks) {
+            changed = true;
+        }
+        page += 1;
     }
     changed
 }
@@ -138,7 +162,7 @@ pub fn attempt(image: &[u8], wired: u8, marks: &mut [u8]) {
     begin_vectors(marks, wired);
     let mut passes = MOST_PASSES;
     while 0 < passes {
-        if !pass(&table, image, marks) {
+        if !pass_pages(&table, image, marks) {
             return;
         }
         passes -= 1;

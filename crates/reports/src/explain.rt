@@ -16,26 +16,30 @@ use isa::Refusal;
 use isa::decode::decode;
 use isa::flow_at::flow_at;
 use isa::rom::RomByte;
-use isa::rom::rom_byte;
+use isa::rom::fixed_of;
+use isa::rom::page_of;
 use isa::sources::RESET_VECTOR;
 use isa::table::timings;
 use listing::Line;
 use listing::instruction::instruction;
 use listing::kinds::kind_name;
+use listing::pages::choices_in;
+use listing::pages::paged_address;
+use listing::pages::rom_in;
 
-// `CALL 890h at 881`.
-fn instruction_at(image: &[u8], address: u16) -> Line {
+// `CALL 890h at 881`, or, where there are several pages, `CALL 890h at 2:3F0`.
+fn instruction_at(image: &[u8], bank: u8, address: u16) -> Line {
     let Decoded::Valid {
         instruction: decoded,
         length: _,
         cycles: _,
-    } = decode(image, address)
+    } = decode(image, bank, address)
     else {
-        return Line::new().word(b"what stands at ").address(address);
+        let begun = Line::new().word(b"what stands at ");
+        return paged_address(begun, image.len(), bank, address);
     };
-    instruction(Line::new(), decoded, address)
-        .word(b" at ")
-        .address(address)
+    let begun = instruction(Line::new(), decoded, address).word(b" at ");
+    paged_address(begun, image.len(), bank, address)
 }
 
 // What a mark is: `main (mark 21)`.
@@ -68,10 +72,18 @@ fn deeper(certificate: &[u8], first: Successor, second: Successor) -> Successor 
 }
 
 // 16: where the instruction leads, what stands there, and what should.
-fn put_wrong_kind(image: &[u8], certificate: &[u8], at: u16, to: Successor, ok: bool) -> bool {
+fn put_wrong_kind(
+    image: &[u8],
+    bank: u8,
+    certificate: &[u8],
+    at: u16,
+    to: Successor,
+    ok: bool,
+) -> bool {
     let there = to.address;
-    let led = instruction_at(image, at).word(b" leads to ").address(there);
-    let RomByte::Byte(_) = rom_byte(image, there) else {
+    let begun = instruction_at(image, bank, at).word(b" leads to ");
+    let led = paged_address(begun, image.len(), bank, there);
+    let RomByte::Byte(_) = rom_in(image, bank, there) else {
         return put(led.word(b", which is outside ROM"), ok);
     };
     let is_put = put(
@@ -83,64 +95,70 @@ fn put_wrong_kind(image: &[u8], certificate: &[u8], at: u16, to: Successor, ok: 
 }
 
 // 17 where no mark would do: the need of a subroutine that calls itself has no bound.
-fn put_bottomless(image: &[u8], at: u16, ok: bool) -> bool {
-    let line = instruction_at(image, at).word(
+fn put_bottomless(image: &[u8], bank: u8, at: u16, ok: bool) -> bool {
+    let line = instruction_at(image, bank, at).word(
         b" leads deeper than six levels, or into a subroutine that calls itself",
     );
     put(line, ok)
 }
 
 // 17: the levels that the instruction needs, and those that its mark allows.
-fn put_shallow(image: &[u8], certificate: &[u8], at: u16, to: Successor, ok: bool) -> bool {
+fn put_shallow(
+    image: &[u8],
+    bank: u8,
+    certificate: &[u8],
+    at: u16,
+    to: Successor,
+    ok: bool,
+) -> bool {
     if (MOST_LEVELS as u32) < asked(certificate, to) {
-        return put_bottomless(image, at, ok);
+        return put_bottomless(image, bank, at, ok);
     }
-    let line = instruction_at(image, at).word(b" needs ");
+    let line = instruction_at(image, bank, at).word(b" needs ");
     let line = counted(line, asked(certificate, to), b"further level").word(b"; its mark allows ");
     let need = need_of(mark_at(certificate, at));
     let is_put = put(line.decimal(need as u32), ok);
-    let cause = Line::new()
-        .word(b"it leads to ")
-        .address(to.address)
-        .word(b", which is ");
-    put(mark_text(cause, mark_at(certificate, to.address)), is_put)
+    let there = to.address;
+    let cause = Line::new().word(b"it leads to ");
+    let cause = paged_address(cause, image.len(), bank, there).word(b", which is ");
+    put(mark_text(cause, mark_at(certificate, there)), is_put)
 }
 
 // The successors of the marked instruction at an address.
-fn successors_at(image: &[u8], certificate: &[u8], address: u16) -> Successors {
+fn successors_at(image: &[u8], bank: u8, certificate: &[u8], address: u16) -> Successors {
     let table = timings();
     let kind = kind_of(mark_at(certificate, address));
-    match flow_at(&table, image, address) {
+    match flow_at(&table, page_of(image, bank), fixed_of(image), address) {
         Continuation::Valid { flow, next } => successors_of(kind, flow, next),
         Continuation::Refused(_) => Successors::None,
     }
 }
 
-fn put_successor_kind(image: &[u8], certificate: &[u8], at: u16, ok: bool) -> bool {
-    match successors_at(image, certificate, at) {
+fn put_successor_kind(image: &[u8], bank: u8, certificate: &[u8], at: u16, ok: bool) -> bool {
+    match successors_at(image, bank, certificate, at) {
         Successors::None => ok,
-        Successors::One(one) => put_wrong_kind(image, certificate, at, one, ok),
+        Successors::One(one) => put_wrong_kind(image, bank, certificate, at, one, ok),
         Successors::Two(first, second) => {
             let wrong = wrong_kind(certificate, first, second);
-            put_wrong_kind(image, certificate, at, wrong, ok)
+            put_wrong_kind(image, bank, certificate, at, wrong, ok)
         }
     }
 }
 
-fn put_need(image: &[u8], certificate: &[u8], at: u16, ok: bool) -> bool {
-    match successors_at(image, certificate, at) {
+fn put_need(image: &[u8], bank: u8, certificate: &[u8], at: u16, ok: bool) -> bool {
+    match successors_at(image, bank, certificate, at) {
         Successors::None => ok,
-        Successors::One(one) => put_shallow(image, certificate, at, one, ok),
+        Successors::One(one) => put_shallow(image, bank, certificate, at, one, ok),
         Successors::Two(first, second) => {
             let deep = deeper(certificate, first, second);
-            put_shallow(image, certificate, at, deep, ok)
+            put_shallow(image, bank, certificate, at, deep, ok)
         }
     }
 }
 
 // 15: the code that RET or RETI stands in, and where each may stand.
-fn put_misplaced(image: &[u8], certificate: &[u8], at: u16, ok: bool) -> bool {
-    let line = instruction_at(image, at).word(b" stands in code of kind ");
+fn put_misplaced(image: &[u8], bank: u8, certificate: &[u8], at: u16, ok: bool) -> bool {
+    let line = instruction_at(image, bank, at).word(b" stands in code of kind ");
     let is_put = put(mark_text(line, mark_at(certificate, at)), ok);
     put(
         Line::new().word(b"RET stands only in subroutines, RETI only in start-up and service code"),
@@ -168,38 +186,49 @@ fn put_vector(certificate: &[u8], vector: u16, ok: bool) -> bool {
 }
 
 // 5: the byte that is no opcode.
-fn put_undefined(image: &[u8], at: u16, ok: bool) -> bool {
-    let RomByte::Byte(byte) = rom_byte(image, at) else {
+fn put_undefined(image: &[u8], bank: u8, at: u16, ok: bool) -> bool {
+    let RomByte::Byte(byte) = rom_in(image, bank, at) else {
         return ok;
     };
-    let line = Line::new()
-        .word(b"the byte ")
-        .byte(byte)
-        .word(b" at ")
-        .address(at)
-        .word(b" is no instruction");
-    put(line, ok)
+    let line = Line::new().word(b"the byte ").byte(byte).word(b" at ");
+    let line = paged_address(line, image.len(), bank, at);
+    put(line.word(b" is no instruction"), ok)
 }
 
-// Words for an address, before and after it.
-fn put_located(before: &[u8], at: u16, after: &[u8], ok: bool) -> bool {
-    put(Line::new().word(before).address(at).word(after), ok)
+// Words for the address of an instruction, before and after it.
+fn put_located(before: &[u8], length: usize, bank: u8, at: u16, after: &[u8], ok: bool) -> bool {
+    let line = paged_address(Line::new().word(before), length, bank, at);
+    put(line.word(after), ok)
 }
 
 fn put_words(words: &[u8], ok: bool) -> bool {
     put(Line::new().word(words), ok)
 }
 
+// 13: how many marks there must be.
+fn put_marks_wanted(length: usize, ok: bool) -> bool {
+    if 1 < choices_in(length) {
+        return put_words(b"there must be 4096 marks, one for each address", ok);
+    }
+    put_words(b"there must be one mark for each byte of the image", ok)
+}
+
+// 14: the mark stands for its address with every page.
+fn put_malformed(at: u16, ok: bool) -> bool {
+    let line = Line::new().word(b"the mark at ").address(at);
+    put(
+        line.word(b" is malformed: its kind is 1 to 4, its need 0 to 6, or it is 00"),
+        ok,
+    )
+}
+
 // Refusals of operations on a machine and of records: what was refused, in words.
-fn put_plain(refusal: Refusal, ok: bool) -> bool {
+fn put_plain(length: usize, refusal: Refusal, ok: bool) -> bool {
     match refusal {
-        Refusal::ImageLength => put_words(b"an image has 2048 or 4096 bytes", ok),
+        Refusal::ImageLength => put_words(b"an image has 1 to 10 halves of 2048 bytes", ok),
         Refusal::WindowAddress => put_words(b"a host store to 40h-7Fh, the ROM window", ok),
         Refusal::UnknownSource => put_words(b"a request byte has only bits 0 to 4", ok),
-        Refusal::CertificateLength => put_words(
-            b"there must be one mark for each byte of the image",
-            ok,
-        ),
+        Refusal::CertificateLength => put_marks_wanted(length, ok),
         Refusal::NoSleep => put_words(b"the program does not sleep within 65535 steps", ok),
         Refusal::RecordVersion => put_words(b"a record's first byte is 1 or 2, its version", ok),
         Refusal::RecordLength => put_words(
@@ -212,34 +241,91 @@ fn put_plain(refusal: Refusal, ok: bool) -> bool {
     }
 }
 
-// Why the check refused, or why a step stopped.
-pub fn put_reason(image: &[u8], certificate: &[u8], wired: u8, refusal: Refusal, ok: bool) -> bool {
+// A step that stopped: 6 and 7.
+fn put_stop(length: usize, bank: u8, refusal: Refusal, ok: bool) -> bool {
     match refusal {
-        Refusal::OutsideRom(at) => put_located(
-            b"the instruction at ",
-            at,
-            b" is not wholly in ROM",
-            ok,
-        ),
-        Refusal::UndefinedOpcode(at) => put_undefined(image, at, ok),
         Refusal::StackFull(at) => put_located(
             b"a push on six levels at ",
+            length,
+            bank,
             at,
             b": the seventh",
             ok,
         ),
-        Refusal::StackEmpty(at) => put_located(b"a pop of an empty stack at ", at, b"", ok),
-        Refusal::MalformedMark(at) => put_located(
-            b"the mark at ",
+        Refusal::StackEmpty(at) => put_located(
+            b"a pop of an empty stack at ",
+            length,
+            bank,
             at,
-            b" is malformed: its kind is 1 to 4, its need 0 to 6, or it is 00",
+            b"",
             ok,
         ),
-        Refusal::MisplacedReturn(at) => put_misplaced(image, certificate, at, ok),
-        Refusal::SuccessorKind(at) => put_successor_kind(image, certificate, at, ok),
-        Refusal::NeedTooSmall(at) => put_need(image, certificate, at, ok),
+        _ => put_plain(length, refusal, ok),
+    }
+}
+
+// The rule that does not hold, or what stopped.
+fn put_rule(
+    image: &[u8],
+    bank: u8,
+    certificate: &[u8],
+    wired: u8,
+    refusal: Refusal,
+    ok: bool,
+) -> bool {
+    match refusal {
+        Refusal::OutsideRom(at) => put_located(
+            b"the instruction at ",
+            image.len(),
+            bank,
+            at,
+            b" is not wholly in ROM",
+            ok,
+        ),
+        Refusal::UndefinedOpcode(at) => put_undefined(image, bank, at, ok),
+        Refusal::MalformedMark(at) => put_malformed(at, ok),
+        Refusal::MisplacedReturn(at) => put_misplaced(image, bank, certificate, at, ok),
+        Refusal::SuccessorKind(at) => put_successor_kind(image, bank, certificate, at, ok),
+        Refusal::NeedTooSmall(at) => put_need(image, bank, certificate, at, ok),
         Refusal::VectorKind(vector) => put_vector(certificate, vector, ok),
         Refusal::TooManyLevels => put_levels(certificate, wired, ok),
-        _ => put_plain(refusal, ok),
+        _ => put_stop(image.len(), bank, refusal, ok),
     }
+}
+
+// Whether a refusal is of an instruction, which the page in place may change; a mark and a vector stand for all pages.
+fn is_of_instruction(refusal: Refusal) -> bool {
+    match refusal {
+        Refusal::OutsideRom(_) => true,
+        Refusal::UndefinedOpcode(_) => true,
+        Refusal::StackFull(_) => true,
+        Refusal::StackEmpty(_) => true,
+        Refusal::MisplacedReturn(_) => true,
+        Refusal::SuccessorKind(_) => true,
+        Refusal::NeedTooSmall(_) => true,
+        _ => false,
+    }
+}
+
+// Why the check refused, or why a step stopped, with a bank byte; and the page in place, where there are several.
+pub fn put_reason(
+    image: &[u8],
+    bank: u8,
+    certificate: &[u8],
+    wired: u8,
+    refusal: Refusal,
+    ok: bool,
+) -> bool {
+    let told = put_rule(image, bank, certificate, wired, refusal, ok);
+    let pages = choices_in(image.len());
+    if pages <= 1 {
+        return told;
+    }
+    if !is_of_instruction(refusal) {
+        return told;
+    }
+    let line = Line::new()
+        .word(b"with page ")
+        .decimal(bank as u32 % pages as u32);
+    put(line.word(b" in place"), told)
 }

@@ -8,6 +8,10 @@ fn size_text(line: Line, rom: Rom) -> Line {
     match rom {
         Rom::Small => line.word(b"2K, 800 to FFF"),
         Rom::Large => line.word(b"4K, 000 to FFF"),
+        Rom::Paged(pages) => line.decimal((pages as u32 + 1) * 2)
+            .word(b"K, ")
+            .decimal(pages as u32)
+            .word(b" pages and the fixed half"),
     }
 }
 

@@ -7,6 +7,7 @@ mod image_line;
 pub mod levels;
 pub mod machine_lines;
 pub mod output;
+mod page_found;
 
 // The program's exit status.
 // Accepted, or done.

@@ -5,6 +5,7 @@ use control::Mode;
 use data::Origin;
 use data::OriginRead;
 use listing::Line;
+use listing::pages::paged_address;
 use machine::FlagPairs;
 use machine::Machine;
 
@@ -27,21 +28,21 @@ pub fn mode_name(line: Line, mode: Mode) -> Line {
     }
 }
 
-// Where a data byte came from.
-fn origin_name(line: Line, origin: Origin) -> Line {
+// Where a data byte came from, with a bank byte, in an image of so many bytes.
+fn origin_name(line: Line, length: usize, bank: u8, origin: Origin) -> Line {
     match origin {
         Origin::Ram => line.word(b"RAM"),
         Origin::Register => line.word(b"register"),
-        Origin::Rom(address) => line.word(b"ROM ").address(address),
+        Origin::Rom(address) => paged_address(line.word(b"ROM "), length, bank, address),
         Origin::NoRom => line.word(b"no ROM"),
     }
 }
 
 // Where the data operand came from that a step read, a dash where it read none.
-pub fn read_name(line: Line, read: OriginRead) -> Line {
+pub fn read_name(line: Line, length: usize, bank: u8, read: OriginRead) -> Line {
     match read {
         OriginRead::Nothing => line.letter(b'-'),
-        OriginRead::From(origin) => origin_name(line, origin),
+        OriginRead::From(origin) => origin_name(line, length, bank, origin),
     }
 }
 
@@ -80,7 +81,7 @@ fn put_flags(pairs: FlagPairs, ok: bool) -> bool {
     put(flags_text(line, b", NMI", nmi), ok)
 }
 
-// The return addresses in use, the top first.
+// The return addresses in use, the top first. They have no page: the bank byte picks it when they are returned to.
 fn stack_text(line: Line, stack: &[u16; 6], levels: u8) -> Line {
     let mut text = line;
     let mut i = 6usize;
@@ -128,15 +129,21 @@ fn put_data(bytes: &[u8; 256], ok: bool) -> bool {
     is_written
 }
 
-// The machine in lines: control, flags, and the data bytes that are not 0.
-pub fn put_machine(m: Machine, ok: bool) -> bool {
+// The byte that picks the page.
+pub fn bank_of(m: Machine) -> u8 {
+    let bytes = m.bytes;
+    bytes[0xCA]
+}
+
+// The machine of an image of so many bytes in lines: control, flags, and the data bytes that are not 0.
+pub fn put_machine(length: usize, m: Machine, ok: bool) -> bool {
     let c = m.control;
     let mode = c.mode;
     let stack = m.stack;
     let pairs = m.flags;
     let bytes = m.bytes;
-    let line = Line::new().word(b"PC ").address(c.pc).word(b", mode ");
-    let line = mode_name(line, mode);
+    let line = paged_address(Line::new().word(b"PC "), length, bank_of(m), c.pc);
+    let line = mode_name(line.word(b", mode "), mode);
     let line = if c.asleep {
         line.word(b", asleep")
     } else {

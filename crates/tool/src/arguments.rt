@@ -1,6 +1,7 @@
 // The program's arguments, and what each command is handed.
 use crate::certify;
 use crate::check;
+use crate::files::file_space;
 use crate::help;
 use crate::list;
 use crate::play;
@@ -81,19 +82,21 @@ pub fn read_arguments(places: &mut [usize; PLACES]) -> Usage {
     }
 }
 
-// Runs the command, whose arguments stand in their places.
+// Runs the command, whose arguments stand in their places. There is room for one file, which is lent to whatever reads
+// one, so that the stack has it once.
 pub fn run(places: &[usize; PLACES]) -> u8 {
     let command = command();
     if places[HELP] != 0 {
         return help::put_help(command);
     }
+    let mut file = file_space();
     match command {
-        Command::Check => check::run(places),
-        Command::Certify => certify::run(places),
-        Command::List => list::run(places),
-        Command::Trace => trace::run(places),
-        Command::Size => size::run(places),
-        Command::Play => play::run(places),
+        Command::Check => check::run(places, &mut file),
+        Command::Certify => certify::run(places, &mut file),
+        Command::List => list::run(places, &mut file),
+        Command::Trace => trace::run(places, &mut file),
+        Command::Size => size::run(places, &mut file),
+        Command::Play => play::run(places, &mut file),
         Command::Help => help::put_help(command),
         Command::Version => help::put_version(),
         Command::Unknown => FAILED,

@@ -2,14 +2,15 @@
 use crate::arguments::wired_argument;
 use crate::files::write_file;
 use crate::help::put_usage;
+use crate::image::image_start;
 use crate::image::load_image;
+use crate::image::marks_start;
 use crate::image::subject_of;
-use isa::rom::HALF_SPACE;
 use maker::Made;
 use maker::make::make;
 use options::command_line::bad_value;
 use options::image::ImageRead;
-use options::image::Rom;
+use options::image::SPACE;
 use options::wired::Wired;
 use options::words::OUTPUT;
 use options::words::PLACES;
@@ -35,28 +36,22 @@ fn answer(output: usize, image: &[u8], marks: &mut [u8], subject: Subject) -> u8
     }
 }
 
-fn certify_image(places: &[usize; PLACES], wired: u8) -> u8 {
-    let mut space = [0u8; 4096];
+fn certify_image(places: &[usize; PLACES], file: &mut [u8], wired: u8) -> u8 {
+    let mut space = [0u8; SPACE];
     let mut marks = [0u8; 4096];
-    let ImageRead::Whole { rom, by } = load_image(places, &mut space) else {
+    let ImageRead::Whole { rom, by } = load_image(places, file, &mut space) else {
         return FAILED;
     };
     let subject = subject_of(places, rom, by, wired, true);
     let output = places[OUTPUT];
-    match rom {
-        Rom::Small => answer(
-            output,
-            &space[HALF_SPACE..],
-            &mut marks[HALF_SPACE..],
-            subject,
-        ),
-        Rom::Large => answer(output, &space, &mut marks, subject),
-    }
+    let first = image_start(rom);
+    let first_mark = marks_start(rom);
+    answer(output, &space[first..], &mut marks[first_mark..], subject)
 }
 
-pub fn run(places: &[usize; PLACES]) -> u8 {
+pub fn run(places: &[usize; PLACES], file: &mut [u8]) -> u8 {
     match wired_argument(places[WIRED]) {
-        Wired::Byte(wired) => certify_image(places, wired),
+        Wired::Byte(wired) => certify_image(places, file, wired),
         Wired::Wrong => put_usage(bad_value(places, WIRED)),
     }
 }

@@ -5,7 +5,7 @@ ghost use lib.ListN.{length};
 ghost use Rattle.io.specs.Counts.{Counts};
 
 // One byte more than the longest record, and one more again, so that a buffer that is full means a file that is longer.
-pub const FILE_SPACE: usize = 1048582;
+const FILE_SPACE: usize = 1048582;
 
 // Room for a file. The `ensures` gives the length, which lending the array as a slice needs.
 pub fn file_space() -> [u8; FILE_SPACE]

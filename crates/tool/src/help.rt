@@ -43,7 +43,7 @@ fn put_check(ok: bool) -> bool {
     );
     let ok = put_text(b"                   can move; never assumed\n", ok);
     put_text(
-        b"  --marks FILE     a certificate, Intel HEX or raw: one mark for each ROM byte\n",
+        b"  --marks FILE     a certificate, Intel HEX or raw: a mark for each ROM address\n",
         ok,
     )
 }
@@ -69,7 +69,7 @@ fn put_list(ok: bool) -> bool {
         ok,
     );
     let ok = put_text(
-        b"Lists what is marked: address, bytes, instruction, mark, kind, need.\n",
+        b"Lists what is marked: address, bytes, instruction, mark, kind, need; what lies\nbelow 800h page by page, as 2:3F0, where there are several.\n",
         ok,
     );
     put_text(
@@ -102,7 +102,7 @@ fn put_size(ok: bool) -> bool {
         ok,
     );
     put_text(
-        b"(0 to 255), and the steps. Without --marks the certificate is made.\n",
+        b"(0 to 255), and the steps. Without --marks the certificate is made. Images of 2K\nand 4K only.\n",
         ok,
     )
 }
@@ -155,7 +155,7 @@ fn put_commands(output: i32, ok: bool) -> bool {
 // What all commands have in common.
 fn put_common(ok: bool) -> bool {
     let ok = put_text(
-        b"IMAGE is Intel HEX (it begins with a colon) or raw bytes, 2048 or 4096.\n",
+        b"IMAGE is Intel HEX (it begins with a colon), 2K or 4K; or raw bytes, 2K, 4K, or\n6K to 20K: pages of 2K, then the fixed half.\n",
         ok,
     );
     let ok = put_text(

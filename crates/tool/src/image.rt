@@ -1,18 +1,20 @@
 // The image that the arguments ask for, read from its file.
 use crate::arguments::byte_argument;
-use crate::files::FILE_SPACE;
-use crate::files::file_space;
 use crate::files::put_file_error;
 use crate::files::read_file;
 use crate::help::put_usage;
+use certificate::check::marks_in;
 use hex::Fault;
+use isa::rom::PROGRAM_SPACE;
 use libc::STDERR_FILENO;
 use options::command_line::bad_value;
 use options::image::Asked;
 use options::image::ChosenBy;
 use options::image::ImageRead;
 use options::image::Rom;
+use options::image::SPACE;
 use options::image::asked_of;
+use options::image::bytes_of;
 use options::image::image_of;
 use options::numbers::Parsed;
 use options::words::FILL;
@@ -23,6 +25,7 @@ use options::words::RAW;
 use options::words::ROM;
 use reports::answers::Subject;
 use reports::output::put_error;
+ghost use Prim.Native.Nat.{_≤_};
 
 fn asked_argument(argument: usize) -> Asked {
     if argument == 0 {
@@ -74,7 +77,7 @@ fn put_image_error(argument: usize, read: ImageRead) {
         ImageRead::NoSize => {
             put_file_error(argument);
             put_error(
-                b"neither Intel HEX, which begins with a colon, nor a raw image of 2048 or 4096 bytes\n",
+                b"neither Intel HEX, which begins with a colon, nor a raw image of 1 to 10 halves of 2048 bytes\n",
             );
         }
         ImageRead::OtherSize => {
@@ -88,10 +91,15 @@ fn put_image_error(argument: usize, read: ImageRead) {
     }
 }
 
-fn read_image(places: &[usize; PLACES], asked: Asked, fill: u8, space: &mut [u8]) -> ImageRead {
-    let mut file = file_space();
-    let length = read_file(places[IMAGE], &mut file);
-    if length == FILE_SPACE {
+fn read_image(
+    places: &[usize; PLACES],
+    asked: Asked,
+    fill: u8,
+    file: &mut [u8],
+    space: &mut [u8],
+) -> ImageRead {
+    let length = read_file(places[IMAGE], file);
+    if length == file.len() {
         return ImageRead::NoSize;
     }
     let read = image_of(&file[..length], asked, fill, places[RAW] != 0, space);
@@ -100,19 +108,41 @@ fn read_image(places: &[usize; PLACES], asked: Asked, fill: u8, space: &mut [u8]
 }
 
 // Reads the image that the arguments ask for. Where there is none, why has been said on standard error.
-pub fn load_image(places: &[usize; PLACES], space: &mut [u8]) -> ImageRead {
+pub fn load_image(places: &[usize; PLACES], file: &mut [u8], space: &mut [u8]) -> ImageRead {
     let asked = asked_argument(places[ROM]);
     if let Asked::Wrong = asked {
         put_usage(bad_value(places, ROM));
         return ImageRead::NoSize;
     }
     match fill_argument(places[FILL]) {
-        Parsed::Number(fill) => read_image(places, asked, (fill % 256) as u8, space),
+        Parsed::Number(fill) => read_image(places, asked, (fill % 256) as u8, file, space),
         Parsed::Wrong => {
             put_usage(bad_value(places, FILL));
             ImageRead::NoSize
         }
     }
+}
+
+// Where an image begins in its space.
+pub fn image_start(rom: Rom) -> usize
+    ensures { λ r. ⌜ r ≤ 20480 ⌝ }
+{
+    let bytes = bytes_of(rom);
+    if SPACE < bytes {
+        return 0;
+    }
+    SPACE - bytes
+}
+
+// Where the marks of an image begin in theirs, which has one for each address.
+pub fn marks_start(rom: Rom) -> usize
+    ensures { λ r. ⌜ r ≤ 4096 ⌝ }
+{
+    let marks = marks_in(bytes_of(rom));
+    if PROGRAM_SPACE < marks {
+        return 0;
+    }
+    PROGRAM_SPACE - marks
 }
 
 // What an answer on an image is about. The fill was looked at when the image was read.

@@ -1,6 +1,4 @@
 // The certificate that a command works with: from a file, or made.
-use crate::files::FILE_SPACE;
-use crate::files::file_space;
 use crate::files::read_file;
 use crate::image::put_fault;
 use hex::HexAnswer;
@@ -39,19 +37,24 @@ fn marks_of(file: &[u8], argument: usize, marks: &mut [u8]) -> Marks {
     }
 }
 
-fn read_marks(argument: usize, marks: &mut [u8]) -> Marks {
-    let mut file = file_space();
-    let length = read_file(argument, &mut file);
-    if length == FILE_SPACE {
+fn read_marks(argument: usize, file: &mut [u8], marks: &mut [u8]) -> Marks {
+    let length = read_file(argument, file);
+    if length == file.len() {
         return Marks::Failed;
     }
     marks_of(&file[..length], argument, marks)
 }
 
 // The marks that the arguments give, or else those that the maker makes.
-pub fn load_marks(places: &[usize; PLACES], image: &[u8], wired: u8, marks: &mut [u8]) -> Marks {
+pub fn load_marks(
+    places: &[usize; PLACES],
+    file: &mut [u8],
+    image: &[u8],
+    wired: u8,
+    marks: &mut [u8],
+) -> Marks {
     if places[MARKS] != 0 {
-        return read_marks(places[MARKS], marks);
+        return read_marks(places[MARKS], file, marks);
     }
     match make(image, wired, marks) {
         Made::Written(_) => Marks::Ready,

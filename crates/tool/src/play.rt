@@ -1,16 +1,14 @@
 // `st62 play`: a session's record, played on a fresh machine.
-use crate::files::FILE_SPACE;
-use crate::files::file_space;
 use crate::files::read_file;
+use crate::image::image_start;
 use crate::image::load_image;
 use crate::image::subject_of;
 use isa::Refusal;
-use isa::rom::HALF_SPACE;
 use listing::Line;
 use machine::Ending;
 use machine::Machine;
 use options::image::ImageRead;
-use options::image::Rom;
+use options::image::SPACE;
 use options::words::PLACES;
 use options::words::RECORD;
 use playback::PlayAnswer;
@@ -23,6 +21,7 @@ use reports::answers::Subject;
 use reports::answers::put_end;
 use reports::answers::refusal_line;
 use reports::explain::put_reason;
+use reports::machine_lines::bank_of;
 use reports::machine_lines::counted;
 use reports::machine_lines::put_machine;
 use reports::output::finish;
@@ -56,9 +55,10 @@ fn put_ended(
         .decimal(report.entries)
         .word(b" ended the playing");
     let named = put(line, begun);
-    let told = put_reason(image, b"", 0, refusal, named);
+    let told = put_reason(image, bank_of(m), b"", 0, refusal, named);
     let played = put(played_line(report), told);
-    finish(REFUSED, put_end(image, subject, put_machine(m, played)))
+    let shown = put_machine(image.len(), m, played);
+    finish(REFUSED, put_end(image, subject, shown))
 }
 
 // The whole record was played: the last machine.
@@ -67,7 +67,8 @@ fn put_whole(image: &[u8], m: Machine, report: PlayReport, subject: Subject) -> 
     if subject.quiet {
         return finish(DONE, begun);
     }
-    finish(DONE, put_end(image, subject, put_machine(m, begun)))
+    let shown = put_machine(image.len(), m, begun);
+    finish(DONE, put_end(image, subject, shown))
 }
 
 fn put_report(image: &[u8], m: Machine, report: PlayReport, subject: Subject) -> u8 {
@@ -84,7 +85,7 @@ fn put_refused(image: &[u8], refusal: Refusal, subject: Subject) -> u8 {
     if subject.quiet {
         return finish(REFUSED, begun);
     }
-    let told = put_reason(image, b"", 0, refusal, begun);
+    let told = put_reason(image, 0, b"", 0, refusal, begun);
     finish(REFUSED, put_end(image, subject, told))
 }
 
@@ -98,24 +99,21 @@ fn answer(image: &[u8], session: &[u8], subject: Subject) -> u8 {
     }
 }
 
-fn play_record(record: usize, image: &[u8], subject: Subject) -> u8 {
-    let mut file = file_space();
-    let length = read_file(record, &mut file);
-    if length == FILE_SPACE {
+fn play_record(record: usize, file: &mut [u8], image: &[u8], subject: Subject) -> u8 {
+    let length = read_file(record, file);
+    if length == file.len() {
         return FAILED;
     }
     answer(image, &file[..length], subject)
 }
 
-pub fn run(places: &[usize; PLACES]) -> u8 {
-    let mut space = [0u8; 4096];
-    let ImageRead::Whole { rom, by } = load_image(places, &mut space) else {
+pub fn run(places: &[usize; PLACES], file: &mut [u8]) -> u8 {
+    let mut space = [0u8; SPACE];
+    let ImageRead::Whole { rom, by } = load_image(places, file, &mut space) else {
         return FAILED;
     };
     let subject = subject_of(places, rom, by, 0, false);
     let record = places[RECORD];
-    match rom {
-        Rom::Small => play_record(record, &space[HALF_SPACE..], subject),
-        Rom::Large => play_record(record, &space, subject),
-    }
+    let first = image_start(rom);
+    play_record(record, file, &space[first..], subject)
 }

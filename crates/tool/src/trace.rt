@@ -3,6 +3,7 @@ use crate::arguments::number_argument;
 use crate::arguments::read_argument;
 use crate::arguments::request_argument;
 use crate::help::put_usage;
+use crate::image::image_start;
 use crate::image::load_image;
 use crate::image::subject_of;
 use control::Requested;
@@ -10,9 +11,10 @@ use control::requests::requested;
 use isa::Decoded;
 use isa::Source;
 use isa::decode::decode;
-use isa::rom::HALF_SPACE;
 use listing::Line;
 use listing::instruction::instruction;
+use listing::pages::choices_in;
+use listing::pages::paged_address;
 use machine::Machine;
 use machine::StepAnswer;
 use machine::StepReport;
@@ -24,7 +26,7 @@ use options::Command;
 use options::command_line::Usage;
 use options::command_line::bad_value;
 use options::image::ImageRead;
-use options::image::Rom;
+use options::image::SPACE;
 use options::numbers::Parsed;
 use options::wired::Request;
 use options::words::AWAITED;
@@ -39,15 +41,17 @@ use reports::answers::put_end;
 use reports::answers::refusal_line;
 use reports::changes::changes;
 use reports::explain::put_reason;
+use reports::machine_lines::bank_of;
 use reports::machine_lines::counted;
 use reports::machine_lines::read_name;
 use reports::output::finish;
 use reports::output::put;
+ghost use Prim.Native.Nat.{_≤_};
 
 // A request byte for each step of the longest trace.
 const MOST_STEPS: usize = 65536;
 
-// The columns of a line.
+// The columns of a line, without those that an address with its page takes.
 const PC: usize = 7;
 
 const WHAT: usize = 12;
@@ -55,6 +59,13 @@ const WHAT: usize = 12;
 const READ: usize = 30;
 
 const CHANGED: usize = 40;
+
+// How many columns more an address has where there are several pages.
+fn page_columns(length: usize) -> usize
+    ensures { λ r. ⌜ r ≤ 2 ⌝ }
+{
+    if 1 < choices_in(length) { 2 } else { 0 }
+}
 
 fn taken_name(line: Line, source: Source) -> Line {
     match source {
@@ -77,7 +88,7 @@ fn what(line: Line, image: &[u8], m: Machine, request: u8) -> Line {
     if c.asleep {
         return line.word(b"sleeps");
     }
-    match decode(image, c.pc) {
+    match decode(image, bank_of(m), c.pc) {
         Decoded::Valid {
             instruction: decoded,
             length: _,
@@ -90,27 +101,41 @@ fn what(line: Line, image: &[u8], m: Machine, request: u8) -> Line {
 // The step's number, the address, and what it does.
 fn begin_line(image: &[u8], m: Machine, request: u8, number: u16) -> Line {
     let c = m.control;
+    let wide = page_columns(image.len());
     let line = Line::new().decimal(number as u32).spaces_to(PC);
-    what(line.address(c.pc).spaces_to(WHAT), image, m, request)
+    let line = paged_address(line, image.len(), bank_of(m), c.pc);
+    what(line.spaces_to(WHAT + wide), image, m, request)
 }
 
 // A step's line: its number, the address, what it does, where its data operand came from, levels, cycles, and what changed, which may be
 // nothing or much.
-fn step_line(begun: Line, before: Machine, after: Machine, report: StepReport, cycles: u8) -> Line {
+fn step_line(
+    begun: Line,
+    length: usize,
+    before: Machine,
+    after: Machine,
+    report: StepReport,
+    cycles: u8,
+) -> Line {
     let read = report.read;
     let c = after.control;
-    let told = read_name(begun.spaces_to(READ), read).spaces_to(CHANGED);
+    let wide = page_columns(length);
+    let told = read_name(begun.spaces_to(READ + wide), length, bank_of(before), read);
+    let told = told.spaces_to(CHANGED + wide);
     let line = told.word(b"levels ").decimal(c.levels as u32).word(b", ");
     changes(counted(line, cycles as u32, b"cycle"), before, after)
 }
 
 // Writes the line of a step that completed, which another function has begun.
-fn put_step(begun: Line, before: Machine, stepped: Stepped, ok: bool) -> bool {
+fn put_step(begun: Line, length: usize, before: Machine, stepped: Stepped, ok: bool) -> bool {
     let after = stepped.machine;
     let report = stepped.report;
     let answer = report.answer;
     match answer {
-        StepAnswer::Done(cycles) => put(step_line(begun, before, after, report, cycles), ok),
+        StepAnswer::Done(cycles) => put(
+            step_line(begun, length, before, after, report, cycles),
+            ok,
+        ),
         StepAnswer::Refused(_) => ok,
     }
 }
@@ -125,8 +150,9 @@ fn is_stopped(stepped: Stepped) -> bool {
     }
 }
 
-// Why a step was refused or stopped, after the job program's line of it.
+// Why a step was refused or stopped, after the job program's line of it. A stop leaves the machine as it was.
 fn put_stop(image: &[u8], subject: Subject, stepped: Stepped, ok: bool) -> u8 {
+    let m = stepped.machine;
     let report = stepped.report;
     let answer = report.answer;
     match answer {
@@ -136,7 +162,7 @@ fn put_stop(image: &[u8], subject: Subject, stepped: Stepped, ok: bool) -> u8 {
             if subject.quiet {
                 return finish(REFUSED, begun);
             }
-            let told = put_reason(image, b"", 0, refusal, begun);
+            let told = put_reason(image, bank_of(m), b"", 0, refusal, begun);
             finish(REFUSED, put_end(image, subject, told))
         }
     }
@@ -154,7 +180,7 @@ fn put_steps(image: &[u8], requests: &[u8; MOST_STEPS], steps: u16, subject: Sub
         if is_stopped(stepped) {
             return put_stop(image, subject, stepped, is_written);
         }
-        is_written = put_step(begun, m, stepped, is_written);
+        is_written = put_step(begun, image.len(), m, stepped, is_written);
         m = stepped.machine;
         i += 1;
     }
@@ -200,19 +226,22 @@ fn read_requests(steps: u16, requests: &mut [u8; MOST_STEPS]) -> usize {
     0
 }
 
-fn trace_image(places: &[usize; PLACES], requests: &[u8; MOST_STEPS], steps: u16) -> u8 {
-    let mut space = [0u8; 4096];
-    let ImageRead::Whole { rom, by } = load_image(places, &mut space) else {
+fn trace_image(
+    places: &[usize; PLACES],
+    file: &mut [u8],
+    requests: &[u8; MOST_STEPS],
+    steps: u16,
+) -> u8 {
+    let mut space = [0u8; SPACE];
+    let ImageRead::Whole { rom, by } = load_image(places, file, &mut space) else {
         return FAILED;
     };
     let subject = subject_of(places, rom, by, 0, false);
-    match rom {
-        Rom::Small => put_steps(&space[HALF_SPACE..], requests, steps, subject),
-        Rom::Large => put_steps(&space, requests, steps, subject),
-    }
+    let first = image_start(rom);
+    put_steps(&space[first..], requests, steps, subject)
 }
 
-fn trace_with_requests(places: &[usize; PLACES], steps: u16) -> u8 {
+fn trace_with_requests(places: &[usize; PLACES], file: &mut [u8], steps: u16) -> u8 {
     let mut requests = [0u8; MOST_STEPS];
     let wrong = read_requests(steps, &mut requests);
     if wrong != 0 {
@@ -221,12 +250,12 @@ fn trace_with_requests(places: &[usize; PLACES], steps: u16) -> u8 {
             argument: wrong,
         });
     }
-    trace_image(places, &requests, steps)
+    trace_image(places, file, &requests, steps)
 }
 
-pub fn run(places: &[usize; PLACES]) -> u8 {
+pub fn run(places: &[usize; PLACES], file: &mut [u8]) -> u8 {
     match number_argument(places[STEPS]) {
-        Parsed::Number(steps) => trace_with_requests(places, steps),
+        Parsed::Number(steps) => trace_with_requests(places, file, steps),
         Parsed::Wrong => put_usage(bad_value(places, STEPS)),
     }
 }

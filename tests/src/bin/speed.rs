@@ -3,8 +3,8 @@
 
 use second::record::{RESET, STORE};
 use second::workload::{
-    worst, Checks, Decodes, Makes, Plays, Repeated, Runs, Side, Steps, Widths, Work, IMAGES,
-    LONGEST_STEPS, OPCODES, PLAY_STEPS, RUN, SIDES, WIDTH_STEPS,
+    worst, worst_paged, Checks, Decodes, Makes, MixedLoop, Place, Plays, Repeated, Runs, Side,
+    Steps, Widths, Work, IMAGES, LONGEST_STEPS, OPCODES, PLAY_STEPS, RUN, SIDES, WIDTH_STEPS,
 };
 
 /// Many short rounds: other work on the same cores then spoils only some.
@@ -124,6 +124,60 @@ fn runs() {
     print(&title, "steps", steps, &times);
 }
 
+/// Runs of the mixed loop in an image of nine pages, and in one of a single
+/// page, all in the same rounds.
+fn paged_runs() {
+    for (name, place) in [
+        ("in the fixed half", Place::Fixed),
+        ("in the page", Place::Page),
+        ("in the pages, changing them every four steps", Place::Changing),
+    ] {
+        let mut sizes = [9, 1].map(|pages| Runs(MixedLoop::paged(pages, place)));
+        let per_round = 3;
+        let times = race_sizes(&mut sizes, per_round);
+        assert!(sizes.iter().all(|runs| runs.0.agree()), "both machines went the same way");
+        let steps = (per_round * RUN as usize) as f64;
+        print_sizes(
+            &format!("runs of {RUN} steps of the mixed loop {name}"),
+            "steps",
+            steps,
+            &times,
+        );
+    }
+}
+
+/// Checks of nine pages marked throughout, and of 4K.
+fn paged_checks() {
+    let mut sizes = [Checks::throughout(PAGED), Checks::throughout(4096)];
+    let per_round = IMAGES / 2;
+    let times = race_sizes(&mut sizes, per_round);
+    let title = format!("checks marked throughout, {IMAGES} images in turn");
+    print_sizes(&title, "checks", per_round as f64, &times);
+}
+
+/// The sides that are measured with pages.
+const PAGED_SIDES: usize = 2;
+/// The bytes of an image with nine pages.
+const PAGED: usize = 20_480;
+
+/// Work of nine pages and of one, by the proved library and the second
+/// emulator, in turns.
+fn race_sizes(sizes: &mut [impl Work; 2], per_round: usize) -> Times {
+    race(PAGED_SIDES * sizes.len(), |contestant| {
+        let (size, side) = (contestant / PAGED_SIDES, contestant % PAGED_SIDES);
+        sizes[size].work(SIDES[side].0, per_round);
+    })
+}
+
+/// Rates with nine pages, and the time against that with one.
+fn print_sizes(title: &str, unit: &str, per_round: f64, times: &Times) {
+    let (nine, one) = times.split_at(PAGED_SIDES);
+    print(&format!("nine pages: {title}"), unit, per_round, nine);
+    for ((_, side), (nine, one)) in SIDES.iter().zip(nine.iter().zip(one)) {
+        print_ratio(&format!("time of {side}, nine pages / 4K:"), nine, one);
+    }
+}
+
 fn steps() {
     let mut steps = Steps::default();
     let per_round = 30_000;
@@ -225,8 +279,18 @@ fn print_spread(name: &str, unit: &str, per_second: f64, times: &[f64]) {
 /// Makes of 2K and of 4K images, all in the same rounds, and the proved
 /// library's checks of what was made.
 fn makes(name: &str, of: fn(usize) -> Makes, per_round: usize) {
+    makes_of(name, &[("2K", 2048), ("4K", 4096)], of, per_round);
+}
+
+/// The same with three, five and nine pages.
+fn paged_makes(name: &str, of: fn(usize) -> Makes, per_round: usize) {
+    let sizes = [("three pages", 8192), ("five pages", 12_288), ("nine pages", PAGED)];
+    makes_of(name, &sizes, of, per_round);
+}
+
+fn makes_of(name: &str, lengths: &[(&str, usize)], of: fn(usize) -> Makes, per_round: usize) {
     const EACH: usize = 3;
-    let mut sizes = [of(2048), of(4096)];
+    let mut sizes: Vec<Makes> = lengths.iter().map(|&(_, length)| of(length)).collect();
     let times = race(EACH * sizes.len(), |contestant| {
         let makes = &mut sizes[contestant / EACH];
         match contestant % EACH {
@@ -235,7 +299,7 @@ fn makes(name: &str, of: fn(usize) -> Makes, per_round: usize) {
             _ => makes.proved_checks(per_round),
         }
     });
-    for (size, times) in ["2K", "4K"].into_iter().zip(times.chunks(EACH)) {
+    for ((size, _), times) in lengths.iter().zip(times.chunks(EACH)) {
         let title = format!("makes of {size} {name}, {IMAGES} images in turn");
         print(&title, "makes", per_round as f64, &times[..2]);
         print_ratio("time of proved make / check of what was made:", &times[0], &times[2]);
@@ -243,10 +307,10 @@ fn makes(name: &str, of: fn(usize) -> Makes, per_round: usize) {
 }
 
 /// Makes of the images that take longest.
-fn worst_makes() {
-    println!("makes of the worst 4K images, proved: milliseconds, and time of proved / second");
-    for (name, mut makes) in worst() {
-        let times = race_rounds(LONG_ROUNDS, 2, |side| makes.work(SIDES[side].0, 1));
+fn worst_makes(size: &str, worst: Vec<(String, Makes)>, rounds: usize) {
+    println!("makes of the worst {size} images, proved: milliseconds, and time of proved / second");
+    for (name, mut makes) in worst {
+        let times = race_rounds(rounds, 2, |side| makes.work(SIDES[side].0, 1));
         let Spread { median, most, .. } =
             spread(times[0].iter().map(|seconds| 1000.0 * seconds).collect());
         let ratio = ratio(&times[0], &times[1]).median;
@@ -268,7 +332,12 @@ fn main() {
     makes("reached throughout", Makes::throughout, IMAGES);
     makes("in generated programs", Makes::programs, 2 * IMAGES);
     makes("with six marks", Makes::sparse, 2 * IMAGES);
-    worst_makes();
+    worst_makes("4K", worst(), LONG_ROUNDS);
     plays();
     longest_plays();
+    paged_runs();
+    paged_checks();
+    paged_makes("in generated programs", Makes::programs, IMAGES / 2);
+    paged_makes("reached throughout", Makes::throughout, IMAGES / 4);
+    worst_makes("nine-page", worst_paged(), FEW_ROUNDS);
 }

@@ -9,7 +9,7 @@ mod fields;
 mod state;
 
 use crate::check::check as check_certificate;
-use crate::chip::{self, DataByte, Origin, Traced, SIZES};
+use crate::chip::{self, DataByte, Origin, Space, Traced, SIZES};
 use crate::gauge::{gauge, Gauged};
 use crate::maker::make as make_certificate;
 use crate::player::{play as play_record, Played};
@@ -52,10 +52,12 @@ fn byte(number: u32, refusal: Refusal) -> Result<u8, Refusal> {
     u8::try_from(number).map_err(|_| refusal)
 }
 
-pub fn decode(image: &[u8], address: u32, out: &mut [u8]) -> u64 {
+pub fn decode(image: &[u8], address: u32, bank: u32, out: &mut [u8]) -> u64 {
     answer((|| {
-        let instruction = chip::decode(image, address)?;
-        let opcode = chip::Rom::new(image)?.byte(address as u16).expect("decoded");
+        let bank = byte(bank, Refusal::Operand)?;
+        let instruction = chip::decode(image, address, bank)?;
+        let rom = chip::Rom::new(image)?.with_bank(bank);
+        let opcode = rom.byte(address as u16).expect("decoded");
         let fields = fields(instruction, opcode);
         out.get_mut(..FIELDS).ok_or(Refusal::Buffer)?.copy_from_slice(&fields);
         Ok(SIZES[opcode as usize].length as u32)

@@ -14,7 +14,7 @@ fn the_map_counts() {
     assert_eq!([2, 4, 5].map(|n| count(&|s| s.cycles == n)), [132, 96, 16]);
     let undefined = [0x05, 0x25, 0x45, 0x65, 0x85, 0xA5, 0xC5, 0xE5, 0x77, 0x97, 0xF7, 0x8D];
     for opcode in 0..=255u8 {
-        let decoded = decode(&image(0x100, &[opcode, 0x12, 0x34]), 0x100);
+        let decoded = decode(&image(0x100, &[opcode, 0x12, 0x34]), 0x100, 0);
         assert_eq!(decoded.is_err(), undefined.contains(&opcode), "{opcode:02X}");
         assert_eq!(SIZES[opcode as usize].length == 0, undefined.contains(&opcode));
     }
@@ -31,7 +31,7 @@ fn decode_write_and_execute_agree() {
             let Size { length, cycles } = SIZES[opcode as usize];
             let mut m = machine(0x100, &[]);
             (m.levels, m.stack[0]) = (1, 0x222);
-            match decode(&rom, 0x100) {
+            match decode(&rom, 0x100, 0) {
                 Err(refusal) => {
                     assert_eq!(refusal, Undefined(0x100));
                     let before = m.clone();
@@ -79,18 +79,18 @@ fn writer_refusals() {
     let mut out = [0; 3];
     assert_eq!(write(Jrz(-16), &mut out), Ok(1));
     assert_eq!(out[0], 0x84);
-    assert_eq!(decode(&image(0, &[0x84]), 0), Ok(Jrz(-16)));
+    assert_eq!(decode(&image(0, &[0x84]), 0, 0), Ok(Jrz(-16)));
 }
 
 #[test]
 fn decode_refusals() {
     let two = vec![0x09; 2048];
-    assert_eq!(decode(&[0; 100], 0x2000), Err(ImageLength));
-    assert_eq!(decode(&two, 0x1000), Err(AddressRange));
-    assert_eq!(decode(&two, 0x7FF), Err(OutsideRom(0x7FF)));
-    assert_eq!(decode(&two, 0xFFF), Err(OutsideRom(0xFFF)));
-    assert_eq!(decode(&two, 0xFFE), Ok(Jp(0x090)));
+    assert_eq!(decode(&[0; 100], 0x2000, 0), Err(ImageLength));
+    assert_eq!(decode(&two, 0x1000, 0), Err(AddressRange));
+    assert_eq!(decode(&two, 0x7FF, 0), Err(OutsideRom(0x7FF)));
+    assert_eq!(decode(&two, 0xFFF, 0), Err(OutsideRom(0xFFF)));
+    assert_eq!(decode(&two, 0xFFE, 0), Ok(Jp(0x090)));
     let mut four = vec![0; 4096];
     (four[0xFFF], four[0], four[1]) = (0x0D, 0x12, 0x34);
-    assert_eq!(decode(&four, 0xFFF), Ok(Ldi { address: 0x12, value: 0x34 }));
+    assert_eq!(decode(&four, 0xFFF, 0), Ok(Ldi { address: 0x12, value: 0x34 }));
 }

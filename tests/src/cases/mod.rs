@@ -11,6 +11,7 @@ mod map;
 mod modes;
 mod origin;
 mod packing;
+mod paged;
 mod player;
 mod write_only;
 

@@ -30,7 +30,7 @@ fn packed_fields_round_trip() {
     for opcode in 0..=255u8 {
         let rom = image(0x100, &[opcode, 0x12, 0x34]);
         let mut fields = [0xEE; 11];
-        let answer = boundary::decode(&rom, 0x100, &mut fields);
+        let answer = boundary::decode(&rom, 0x100, 0, &mut fields);
         let length = SIZES[opcode as usize].length;
         if length == 0 {
             assert_eq!(answer, 5 | 0x100 << 8);

@@ -1,23 +1,27 @@
 //! The decoder.
 
 use super::rom::Fetched;
-use super::{Instruction, Operand, Rom, SPACE};
+use super::{Instruction, Operand, Rom, Space, SPACE};
 use crate::Refusal;
 use Instruction::*;
 use Operand::*;
 
-/// Decodes the instruction at an address of an image.
-pub fn decode(image: &[u8], address: u32) -> Result<Instruction, Refusal> {
+/// Decodes the instruction at an address of an image, with the page in place
+/// that a bank byte picks.
+pub fn decode(image: &[u8], address: u32, bank: u8) -> Result<Instruction, Refusal> {
     let rom = Rom::new(image)?;
     if address >= SPACE as u32 {
         return Err(Refusal::AddressRange);
     }
-    decode_at(&rom, address as u16)
+    match rom {
+        Rom::Flat(flat) => decode_at(&flat, address as u16),
+        Rom::Paged(paged) => decode_at(&paged.with_bank(bank), address as u16),
+    }
 }
 
 /// Decodes at an address of twelve bits.
 #[inline(always)]
-pub fn decode_at(rom: &Rom, address: u16) -> Result<Instruction, Refusal> {
+pub fn decode_at(rom: &impl Space, address: u16) -> Result<Instruction, Refusal> {
     let code = Fetched::at(rom, address)?;
     Ok(match code.opcode & 0x0F {
         0x0 | 0x8 => Jrnz(code.short_displacement()),
@@ -36,7 +40,7 @@ pub fn decode_at(rom: &Rom, address: u16) -> Result<Instruction, Refusal> {
 }
 
 #[inline(always)]
-fn bit_jump(code: &Fetched) -> Result<Instruction, Refusal> {
+fn bit_jump(code: &Fetched<impl Space>) -> Result<Instruction, Refusal> {
     let bit = code.bit_number();
     let address = code.second()?;
     let displacement = code.third()? as i8;
@@ -48,14 +52,14 @@ fn bit_jump(code: &Fetched) -> Result<Instruction, Refusal> {
 }
 
 #[inline(always)]
-fn bit_change(code: &Fetched) -> Result<Instruction, Refusal> {
+fn bit_change(code: &Fetched<impl Space>) -> Result<Instruction, Refusal> {
     let bit = code.bit_number();
     let address = code.second()?;
     Ok(if code.odd_row() { Set { bit, address } } else { Res { bit, address } })
 }
 
 #[inline(always)]
-fn column_5(code: &Fetched) -> Result<Instruction, Refusal> {
+fn column_5(code: &Fetched<impl Space>) -> Result<Instruction, Refusal> {
     Ok(match code.opcode {
         0x15 | 0x55 | 0x95 | 0xD5 => Inc(Short(code.register())),
         0x35 | 0x75 | 0xB5 | 0xF5 => LdA(Short(code.register())),
@@ -64,7 +68,7 @@ fn column_5(code: &Fetched) -> Result<Instruction, Refusal> {
 }
 
 #[inline(always)]
-fn column_7(code: &Fetched) -> Result<Instruction, Refusal> {
+fn column_7(code: &Fetched<impl Space>) -> Result<Instruction, Refusal> {
     Ok(match code.opcode {
         0x07 => LdA(ByX),
         0x17 => LdiA(code.second()?),
@@ -84,7 +88,7 @@ fn column_7(code: &Fetched) -> Result<Instruction, Refusal> {
 }
 
 #[inline(always)]
-fn column_d(code: &Fetched) -> Result<Instruction, Refusal> {
+fn column_d(code: &Fetched<impl Space>) -> Result<Instruction, Refusal> {
     Ok(match code.opcode {
         0x1D | 0x5D | 0x9D | 0xDD => Dec(Short(code.register())),
         0x3D | 0x7D | 0xBD | 0xFD => LdTo(Short(code.register())),
@@ -100,7 +104,7 @@ fn column_d(code: &Fetched) -> Result<Instruction, Refusal> {
 }
 
 #[inline(always)]
-fn column_f(code: &Fetched) -> Result<Instruction, Refusal> {
+fn column_f(code: &Fetched<impl Space>) -> Result<Instruction, Refusal> {
     Ok(match code.opcode {
         0x0F => LdA(ByY),
         0x1F => LdA(Direct(code.second()?)),

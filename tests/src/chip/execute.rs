@@ -1,14 +1,14 @@
 //! The effect of each instruction.
 
 use super::rom::Fetched;
-use super::{displaced, wrap, Flags, Machine, Mode, Rom, Size, Traced, A, SIZES, X, Y};
+use super::{displaced, wrap, Flags, Machine, Mode, Size, Space, Traced, A, SIZES, X, Y};
 use crate::Refusal;
 
 impl Machine {
     /// Executes the instruction at PC. Everything that may stop comes before
     /// the first change.
     #[inline(always)]
-    pub(super) fn execute(&mut self, rom: &Rom) -> Result<Traced, Refusal> {
+    pub(super) fn execute(&mut self, rom: &impl Space) -> Result<Traced, Refusal> {
         let code = Fetched::at(rom, self.pc)?;
         let Size { length, cycles } = SIZES[code.opcode as usize];
         let next = wrap(self.pc + length as u16);
@@ -46,14 +46,19 @@ impl Machine {
     /// Reads the data operand, and notes where it came from. Pointers, and an
     /// accumulator that isn't the operand, are read in other ways.
     #[inline(always)]
-    fn operand(&self, code: &Fetched, address: u8) -> u8 {
+    fn operand(&self, code: &Fetched<impl Space>, address: u8) -> u8 {
         code.origin.set(Some(self.origin(code.rom, address)));
         self.read(code.rom, address)
     }
 
     /// JRR and JRS; gives the address to go on at.
     #[inline(always)]
-    fn bit_jump(&mut self, code: &Fetched, pair: usize, next: u16) -> Result<u16, Refusal> {
+    fn bit_jump(
+        &mut self,
+        code: &Fetched<impl Space>,
+        pair: usize,
+        next: u16,
+    ) -> Result<u16, Refusal> {
         let address = code.second()?;
         let displacement = code.third()? as i8;
         let set = self.operand(code, address) >> code.bit_number() & 1 != 0;
@@ -67,7 +72,7 @@ impl Machine {
 
     /// RES and SET.
     #[inline(always)]
-    fn bit_change(&mut self, code: &Fetched) -> Result<(), Refusal> {
+    fn bit_change(&mut self, code: &Fetched<impl Space>) -> Result<(), Refusal> {
         let address = code.second()?;
         let mask = 1 << code.bit_number();
         let byte = self.operand(code, address);
@@ -76,7 +81,7 @@ impl Machine {
     }
 
     #[inline(always)]
-    fn column_5(&mut self, code: &Fetched, pair: usize) -> Result<(), Refusal> {
+    fn column_5(&mut self, code: &Fetched<impl Space>, pair: usize) -> Result<(), Refusal> {
         let register = X + code.register();
         match code.opcode {
             0x15 | 0x55 | 0x95 | 0xD5 => self.change(code, pair, register, 1),
@@ -87,7 +92,7 @@ impl Machine {
     }
 
     #[inline(always)]
-    fn column_7(&mut self, code: &Fetched, pair: usize) -> Result<(), Refusal> {
+    fn column_7(&mut self, code: &Fetched<impl Space>, pair: usize) -> Result<(), Refusal> {
         let by_x = self.data[X as usize];
         match code.opcode {
             0x07 => self.move_to(pair, A, self.operand(code, by_x)),
@@ -110,7 +115,12 @@ impl Machine {
 
     /// Gives the address to go on at.
     #[inline(always)]
-    fn column_d(&mut self, code: &Fetched, pair: usize, next: u16) -> Result<u16, Refusal> {
+    fn column_d(
+        &mut self,
+        code: &Fetched<impl Space>,
+        pair: usize,
+        next: u16,
+    ) -> Result<u16, Refusal> {
         let register = X + code.register();
         match code.opcode {
             0x1D | 0x5D | 0x9D | 0xDD => self.change(code, pair, register, -1),
@@ -130,7 +140,7 @@ impl Machine {
     }
 
     #[inline(always)]
-    fn column_f(&mut self, code: &Fetched, pair: usize) -> Result<(), Refusal> {
+    fn column_f(&mut self, code: &Fetched<impl Space>, pair: usize) -> Result<(), Refusal> {
         let by_y = self.data[Y as usize];
         match code.opcode {
             0x0F => self.move_to(pair, A, self.operand(code, by_y)),
@@ -180,7 +190,7 @@ impl Machine {
 
     /// INC and DEC.
     #[inline(always)]
-    fn change(&mut self, code: &Fetched, pair: usize, address: u8, by: i8) {
+    fn change(&mut self, code: &Fetched<impl Space>, pair: usize, address: u8, by: i8) {
         let byte = self.operand(code, address).wrapping_add_signed(by);
         self.move_to(pair, address, byte);
     }

@@ -1,6 +1,6 @@
 //! The machine's state: data space, modes, flags and stack.
 
-use super::{Rom, IOR, RESET_VECTOR, SPACE, STACK_LEVELS, WINDOW};
+use super::{Space, BANK, IOR, RESET_VECTOR, SPACE, STACK_LEVELS, WINDOW};
 use crate::Refusal;
 
 #[derive(Clone, Copy, PartialEq, Eq, Debug)]
@@ -89,8 +89,9 @@ impl Machine {
         self.asleep = false;
         self.mode = Mode::Reset;
         self.flags = [Flags::default(); 3];
-        self.data[IOR as usize] = 0;
-        self.data[WINDOW as usize] = 0;
+        for register in [IOR, WINDOW, BANK] {
+            self.data[register as usize] = 0;
+        }
     }
 
     /// The host's store into the data space.
@@ -131,7 +132,7 @@ impl Machine {
     /// The byte that a program reads at a data address, and that the host's
     /// reading gives: the one place that knows what can't be read.
     #[inline(always)]
-    pub(super) fn read(&self, rom: &Rom, address: u8) -> u8 {
+    pub(super) fn read(&self, rom: &impl Space, address: u8) -> u8 {
         match self.shown(address) {
             Some(rom_address) => rom.byte(rom_address).unwrap_or(0),
             None => {

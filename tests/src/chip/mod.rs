@@ -13,7 +13,7 @@ pub use decode::{decode, decode_at};
 pub use instruction::{Instruction, Operand, Size, SIZES};
 pub use machine::{Flags, Machine, Mode};
 pub use origin::{DataByte, Origin};
-pub use rom::Rom;
+pub use rom::{Rom, Space, FIXED, HALF, MOST_HALVES};
 pub use step::{Report, Traced, MOST_STEPS};
 pub use write::write;
 
@@ -30,6 +30,8 @@ pub const Y: u8 = 0x81;
 pub const IOR: u8 = 0xC8;
 /// The data ROM window register; programs read 0 there too.
 pub const WINDOW: u8 = 0xC9;
+/// The bank register, which picks the page; programs read it as any byte.
+pub const BANK: u8 = 0xCA;
 pub const A: u8 = 0xFF;
 
 pub const STACK_LEVELS: usize = 6;

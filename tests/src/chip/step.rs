@@ -1,6 +1,7 @@
 //! Steps and runs: requests, sleep, and counting.
 
-use super::{Machine, Mode, Origin, Rom, IOR, NO_SOURCE, VECTORS};
+use super::rom::Paged;
+use super::{Machine, Mode, Origin, Rom, Space, BANK, IOR, NO_SOURCE, VECTORS};
 use crate::Refusal;
 
 pub const MOST_STEPS: u32 = 65_535;
@@ -29,17 +30,36 @@ impl Machine {
 
     /// The same, and tells the origin of what it read.
     pub fn traced_step(&mut self, image: &[u8], request: u8) -> Result<Traced, Refusal> {
-        let rom = Rom::new(image)?;
+        match Rom::new(image)? {
+            Rom::Flat(flat) => self.step_in(flat, request),
+            Rom::Paged(paged) => self.step_paged(paged, request),
+        }
+    }
+
+    /// Apart, so that it doesn't slow the others down.
+    #[inline(never)]
+    fn step_paged(&mut self, paged: Paged, request: u8) -> Result<Traced, Refusal> {
+        self.step_in(paged, request)
+    }
+
+    #[inline(always)]
+    fn step_in(&mut self, mut rom: impl Space, request: u8) -> Result<Traced, Refusal> {
         self.well_formed()?;
         if request & NO_SOURCE != 0 {
             return Err(Refusal::Request);
         }
-        self.advance(&rom, request)
+        self.advance(&mut rom, request)
     }
 
     /// `n` steps, with the list's bytes as requests and none past its end.
     pub fn run(&mut self, image: &[u8], requests: &[u8], n: u32) -> Result<Report, Refusal> {
-        let rom = Rom::new(image)?;
+        match Rom::new(image)? {
+            Rom::Flat(flat) => self.run_in(flat, requests, n),
+            Rom::Paged(paged) => self.run_in(paged, requests, n),
+        }
+    }
+
+    fn run_in(&mut self, mut rom: impl Space, requests: &[u8], n: u32) -> Result<Report, Refusal> {
         self.well_formed()?;
         if n > MOST_STEPS {
             return Err(Refusal::TooManySteps);
@@ -50,7 +70,7 @@ impl Machine {
         }
         let mut report = Report { steps: 0, cycles: 0, stop: None };
         for &request in requests {
-            match self.advance(&rom, request) {
+            match self.advance(&mut rom, request) {
                 Ok(traced) => report.cycles += traced.cycles,
                 Err(stop) => {
                     report.stop = Some(stop);
@@ -60,7 +80,7 @@ impl Machine {
             report.steps += 1;
         }
         while report.steps < n {
-            match self.advance(&rom, 0) {
+            match self.advance(&mut rom, 0) {
                 Ok(traced) => report.cycles += traced.cycles,
                 Err(stop) => {
                     report.stop = Some(stop);
@@ -75,10 +95,16 @@ impl Machine {
     /// Steps without requests until the machine sleeps, but no more than
     /// `most`; gives how many it took, or nothing if it is still awake.
     pub fn run_to_sleep(&mut self, image: &[u8], most: u32) -> Result<Option<u32>, Refusal> {
-        let rom = Rom::new(image)?;
+        match Rom::new(image)? {
+            Rom::Flat(flat) => self.run_to_sleep_in(flat, most),
+            Rom::Paged(paged) => self.run_to_sleep_in(paged, most),
+        }
+    }
+
+    fn run_to_sleep_in(&mut self, mut rom: impl Space, most: u32) -> Result<Option<u32>, Refusal> {
         self.well_formed()?;
         for steps in 1..=most {
-            self.advance(&rom, 0)?;
+            self.advance(&mut rom, 0)?;
             if self.asleep {
                 return Ok(Some(steps));
             }
@@ -87,9 +113,10 @@ impl Machine {
     }
 
     /// A step of a well-formed machine with a good request byte. A stop
-    /// leaves the machine as it was.
+    /// leaves the machine as it was. The page is the one that the bank byte
+    /// picks now, for all that the step fetches and reads.
     #[inline(always)]
-    fn advance(&mut self, rom: &Rom, request: u8) -> Result<Traced, Refusal> {
+    fn advance(&mut self, rom: &mut impl Space, request: u8) -> Result<Traced, Refusal> {
         if request != 0 {
             if let Some(source) = self.taken(request) {
                 return self.interrupt(source);
@@ -98,6 +125,7 @@ impl Machine {
         if self.asleep {
             return Ok(Traced { cycles: 0, origin: None });
         }
+        rom.turn_to(self.data[BANK as usize]);
         self.execute(rom)
     }
 

@@ -1,7 +1,7 @@
 //! Programs with every byte marked, and with few marks.
 
-use super::{Program, Rng};
-use crate::chip::{write, Instruction, RESET_VECTOR, VECTORS};
+use super::{marks, Program, Rng};
+use crate::chip::{write, Instruction, HALF, RESET_VECTOR, VECTORS};
 
 // Bytes that are good both as one-byte instructions and as operands, and
 // jump at most a few places on.
@@ -11,21 +11,35 @@ const ONE: [u8; 24] = [
 ];
 const TWO: [u8; 12] = [0x17, 0x37, 0x57, 0xB7, 0xD7, 0x1F, 0x3F, 0x5F, 0x9F, 0xBF, 0x2B, 0x3B];
 const THREE: [u8; 4] = [0x0D, 0x23, 0x33, 0xF3];
+const CALL: u8 = 0xF1;
 
 /// A program with every byte marked, operand bytes too: each is itself an
 /// instruction that may be executed. All is start-up, but for a RET at FFFh.
+/// Pages differ throughout.
 pub fn dense(rng: &mut Rng, length: usize) -> Program {
     let mut image = vec![0x04; length];
     let calls = fill(rng, &mut image);
     let need = if calls { 1 + rng.below(6) as u8 } else { rng.below(7) as u8 };
-    let mut certificate = vec![0x10 | need; length];
+    let mut certificate = vec![0x10 | need; marks(length)];
+    into_fixed_half(rng, &mut image);
     // Nothing may run or jump off the end: NOPs, then JP CD0h at FFEh, with
     // the RET as its operand.
     image[length - 40..].fill(0x04);
     image[length - 2] = 0x09;
     image[length - 1] = 0xCD;
-    certificate[length - 1] = 0x40;
+    *certificate.last_mut().expect("it has marks") = 0x40;
     Program { image, certificate, wired: 0 }
+}
+
+/// What stands at the end of a page goes on in the fixed half: no CALL, whose
+/// target would stand there.
+fn into_fixed_half(rng: &mut Rng, image: &mut [u8]) {
+    let last_page = image.len().saturating_sub(2 * HALF);
+    for page in image[..last_page].chunks_exact_mut(HALF) {
+        if page[HALF - 1] == CALL {
+            page[HALF - 1] = rng.pick(&TWO);
+        }
+    }
 }
 
 /// Fills an image but for its end; gives whether a CALL is in it.
@@ -49,7 +63,7 @@ fn fill(rng: &mut Rng, image: &mut [u8]) -> bool {
             }
             _ => {
                 // CALL FFFh; its second byte is DEC of the byte after it.
-                image[index] = 0xF1;
+                image[index] = CALL;
                 image[index + 1] = 0xFF;
                 calls = true;
                 index += 1;

@@ -6,11 +6,13 @@ mod graph;
 mod machine;
 mod marked;
 mod maze;
+mod paged;
 mod program;
 mod record;
 mod rng;
 mod routine;
 mod sizing;
+mod tangle;
 mod timed;
 
 pub use chains::{
@@ -20,11 +22,15 @@ pub use graph::call_graph;
 pub use machine::{ill_formed, machine, request, requests, spoil};
 pub use marked::{dense, p11, round_the_end, sparse, written};
 pub use maze::maze;
+pub use paged::{misplaced, paged_graph, paged_program, place};
 pub use program::{program, write_only_program};
 pub use record::{damage_record, entries, long_length, mix, Mix};
 pub use rng::{Rng, EDGES};
 pub use sizing::sizing;
+pub use tangle::{tangle, Tangle};
 pub use timed::{soonest, timed};
+
+use crate::chip::{HALF, MOST_HALVES, SPACE};
 
 /// An image with a certificate and the sources that are wired.
 #[derive(Clone)]
@@ -34,6 +40,7 @@ pub struct Program {
     pub wired: u8,
 }
 
+/// Of an image without a page, or with one.
 pub fn image_length(rng: &mut Rng) -> usize {
     if rng.chance(50) {
         2048
@@ -42,10 +49,35 @@ pub fn image_length(rng: &mut Rng) -> usize {
     }
 }
 
+/// Of an image with two pages or more.
+pub fn paged_length(rng: &mut Rng) -> usize {
+    HALF * (3 + rng.below(MOST_HALVES - 2))
+}
+
+/// Of any image.
+pub fn any_length(rng: &mut Rng) -> usize {
+    if rng.chance(60) {
+        image_length(rng)
+    } else {
+        paged_length(rng)
+    }
+}
+
+/// How many marks go with an image of a length.
+pub fn marks(length: usize) -> usize {
+    length.min(SPACE as usize)
+}
+
 pub fn random_image(rng: &mut Rng) -> Vec<u8> {
-    let mut image = vec![0; image_length(rng)];
-    rng.fill(&mut image);
-    image
+    let length = any_length(rng);
+    filled(rng, length)
+}
+
+/// Random bytes.
+pub fn filled(rng: &mut Rng, length: usize) -> Vec<u8> {
+    let mut bytes = vec![0; length];
+    rng.fill(&mut bytes);
+    bytes
 }
 
 /// A 2K image of 00h with bytes at some addresses.
@@ -57,12 +89,33 @@ pub fn coded(code: &[(usize, &[u8])]) -> Vec<u8> {
     image
 }
 
+impl Program {
+    /// The index of its image's byte for a mark's, with a page in place: any
+    /// number, if it has none.
+    pub fn index(&self, page: usize, mark: usize) -> usize {
+        let length = self.image.len();
+        place(length, page, mark + SPACE as usize - marks(length))
+    }
+
+    /// How many pages it has; one, if it has none.
+    pub fn pages(&self) -> usize {
+        (self.image.len() / HALF - 1).max(1)
+    }
+
+    /// The indices of its marks.
+    pub fn marked(&self) -> Vec<usize> {
+        let marks = self.certificate.iter().enumerate();
+        marks.filter(|(_, &mark)| mark != 0).map(|(index, _)| index).collect()
+    }
+}
+
 /// Changes one thing of a program: a mark, an image byte or the wired byte.
 pub fn damage(rng: &mut Rng, program: &mut Program) {
-    let length = program.image.len();
-    let marked: Vec<usize> = (0..length).filter(|&index| program.certificate[index] != 0).collect();
+    let length = program.certificate.len();
+    let marked = program.marked();
     let index =
         if marked.is_empty() || rng.chance(15) { rng.below(length) } else { rng.pick(&marked) };
+    let place = program.index(rng.below(program.pages()), index);
     match rng.below(12) {
         0 | 1 => program.certificate[index] = 0,
         2 | 3 => program.certificate[index] ^= 1 << rng.below(8),
@@ -76,8 +129,8 @@ pub fn damage(rng: &mut Rng, program: &mut Program) {
             *mark = *mark & 0x0F | (rng.below(6) as u8) << 4;
         }
         7 => program.certificate[index] = rng.byte(),
-        8 => program.image[index] = rng.byte(),
-        9 => program.image[index] = rng.pick(&[0xCD, 0x4D, 0x05, 0x09, 0x01, 0x77]),
+        8 => program.image[place] = rng.byte(),
+        9 => program.image[place] = rng.pick(&[0xCD, 0x4D, 0x05, 0x09, 0x01, 0x77]),
         10 => program.wired = rng.byte() & 0x1F,
         _ => program.wired ^= 1 << rng.below(8),
     }

@@ -3,7 +3,9 @@
 
 use super::routine::{Builder, End, Routine};
 use super::{Program, Rng};
-use crate::chip::{decode_at, Instruction, Rom, IOR, RESET_VECTOR, SIZES, VECTORS, WINDOW, X, Y};
+use crate::chip::{
+    decode_at, Instruction, Rom, Space, IOR, RESET_VECTOR, SIZES, VECTORS, WINDOW, X, Y,
+};
 use Instruction::*;
 
 /// Subroutines by the levels that they need.
@@ -30,23 +32,32 @@ pub fn write_only_program(rng: &mut Rng) -> Program {
 fn program_using(rng: &mut Rng, cells: &'static [u8]) -> Program {
     let mut b = Builder::new(rng);
     b.cells = cells;
-    let wired = if b.rng.chance(15) { 0 } else { b.rng.byte() & 0x1F };
-    b.program.wired = wired;
-    let needs = needs(b.rng, wired);
-    let subroutines = subroutines(&mut b, needs.main.max(needs.sources).max(needs.nmi));
-    start_and_main(&mut b, needs.main, &subroutines);
-    services(&mut b, &needs, &subroutines);
+    build(&mut b);
     finished(b)
 }
 
+/// Puts in all parts of a program; gives where its start-up begins.
+pub(super) fn build(b: &mut Builder) -> u16 {
+    let wired = if b.rng.chance(15) { 0 } else { b.rng.byte() & 0x1F };
+    b.program.wired = wired;
+    let needs = needs(b.rng, wired);
+    let subroutines = subroutines(b, needs.main.max(needs.sources).max(needs.nmi));
+    let start = start_and_main(b, needs.main, &subroutines);
+    services(b, &needs, &subroutines);
+    start
+}
+
 /// The program, in half of the cases with the least needs.
-pub(super) fn finished(b: Builder) -> Program {
-    let tight = b.rng.chance(50);
-    let mut program = b.program;
-    if tight {
-        tighten(&mut program);
+pub(super) fn finished(mut b: Builder) -> Program {
+    tighten_some(&mut b);
+    b.program
+}
+
+/// Lowers the needs of a program, in half of the cases.
+pub(super) fn tighten_some(b: &mut Builder) {
+    if b.rng.chance(50) {
+        tighten(&mut b.program);
     }
-    program
 }
 
 /// Shares six levels out, now and then one too many.
@@ -79,8 +90,9 @@ pub(super) fn subroutines(b: &mut Builder, deepest: u8) -> Subroutines {
     subroutines
 }
 
-/// Start-up, then the main loop at the address after its RETI.
-fn start_and_main(b: &mut Builder, need: u8, subroutines: &Subroutines) {
+/// Start-up, then the main loop at the address after its RETI. Gives where
+/// start-up begins.
+fn start_and_main(b: &mut Builder, need: u8, subroutines: &Subroutines) -> u16 {
     let enable = Ldi { address: IOR, value: 0x10 };
     let calls = &if b.rng.chance(50) { b.calls(need, subroutines) } else { vec![] };
     let end = End::ReturnFromInterrupt;
@@ -92,6 +104,7 @@ fn start_and_main(b: &mut Builder, need: u8, subroutines: &Subroutines) {
     b.routine(&Routine { kind: 2, need, calls, first, end: End::Loop });
     b.put(RESET_VECTOR as usize, Jp(start));
     b.mark(RESET_VECTOR as usize, 1, need);
+    start
 }
 
 /// A service for each wired source; sources may share one.

@@ -86,13 +86,13 @@ fn request(rng: &mut Rng, mix: &Mix) -> u8 {
 }
 
 /// Of a store: in the ROM window if it is to be refused. 0C8h comes often, so
-/// that sources are enabled.
+/// that sources are enabled, and 0CAh, so that pages change.
 fn address(rng: &mut Rng, mix: &Mix) -> u8 {
     if refused(rng, mix) {
         return 0x40 + rng.below(0x40) as u8;
     }
     if rng.chance(20) {
-        return rng.pick(&[0xC8, 0xC8, 0xC8, 0xC9, 0x3F, 0x80, 0x81, 0xFF]);
+        return rng.pick(&[0xC8, 0xC8, 0xC8, 0xC9, 0xCA, 0xCA, 0x3F, 0x80, 0x81, 0xFF]);
     }
     match rng.byte() {
         window @ 0x40..=0x7F => window ^ 0xC0,

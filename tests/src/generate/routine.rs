@@ -39,9 +39,14 @@ pub(super) struct Builder<'r> {
 const CODE_END: usize = 0xFF0;
 
 impl<'r> Builder<'r> {
-    /// An image of either length with nothing wired and nothing marked.
+    /// An image without a page or with one, nothing wired and nothing marked.
     pub fn new(rng: &'r mut Rng) -> Self {
         let length = image_length(rng);
+        Builder::of_length(rng, length)
+    }
+
+    /// The same of a length.
+    pub fn of_length(rng: &'r mut Rng, length: usize) -> Self {
         let base = 0x1000 - length;
         let mut image = vec![0; length];
         if rng.chance(50) {
@@ -67,7 +72,7 @@ impl<'r> Builder<'r> {
         wanted.then(|| self.rng.pick(self.cells))
     }
 
-    fn data_address(&mut self) -> u8 {
+    pub fn data_address(&mut self) -> u8 {
         if let Some(cell) = self.cell() {
             return cell;
         }

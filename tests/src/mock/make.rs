@@ -1,17 +1,22 @@
 //! A certificate maker of another build than the second emulator's: it keeps
 //! a list of the addresses that are still to be looked at.
 
+use super::bank::{each_seen, halves};
 use super::{fault, faulty};
 use crate::check::{MOST_LEVELS, MOST_NEED, SERVICE, START_UP};
-use crate::chip::{decode_at, Instruction, Rom, NO_SOURCE, RESET_VECTOR, SPACE, VECTORS};
+use crate::chip::{decode_at, Instruction, Rom, Space, NO_SOURCE, RESET_VECTOR, SPACE, VECTORS};
 use crate::maker::{places, Place};
+use std::ops::Range;
 
 /// What the list holds with the fault that it is too short.
 const SHORT_LIST: usize = 64;
 
 pub fn make(image: &[u8], wired: u32, out: &mut [u8]) -> u64 {
-    let Ok(rom) = Rom::new(image) else { return 1 };
-    let other_length = out.len() != image.len();
+    if halves(image).is_none() {
+        return 1;
+    }
+    let wanted = if faulty("paged-25-image") { image.len() } else { image.len().min(4096) };
+    let other_length = out.len() != wanted;
     if faulty("make-order") && other_length {
         return 25;
     }
@@ -21,7 +26,9 @@ pub fn make(image: &[u8], wired: u32, out: &mut [u8]) -> u64 {
     if other_length {
         return 25;
     }
-    let mut maker = Maker::new(rom);
+    let seen = each_seen(image);
+    let roms = seen.iter().map(|seen| Rom::new(seen).expect("2K or 4K")).collect();
+    let mut maker = Maker::new(roms);
     let levels = maker.make(wired);
     if levels.is_some() || faulty("make-writes") {
         maker.write(out);
@@ -30,7 +37,8 @@ pub fn make(image: &[u8], wired: u32, out: &mut [u8]) -> u64 {
 }
 
 struct Maker<'a> {
-    rom: Rom<'a>,
+    /// What is seen with each page.
+    roms: Vec<Rom<'a>>,
     /// By address, and for all 4096.
     marks: Vec<u8>,
     /// For each address those that may continue there, and the levels that
@@ -41,9 +49,9 @@ struct Maker<'a> {
 }
 
 impl<'a> Maker<'a> {
-    fn new(rom: Rom<'a>) -> Self {
+    fn new(roms: Vec<Rom<'a>>) -> Self {
         let (marks, before) = (vec![0; SPACE as usize], vec![Vec::new(); SPACE as usize]);
-        Maker { rom, marks, before, list: Vec::new(), raised: 0 }
+        Maker { roms, marks, before, list: Vec::new(), raised: 0 }
     }
 
     /// The levels, if there is a certificate.
@@ -75,13 +83,35 @@ impl<'a> Maker<'a> {
 
     fn reach_all(&mut self) -> Option<()> {
         while let Some(address) = self.list.pop() {
-            let instruction = decode_at(&self.rom, address).ok()?;
-            let kind = self.marks[address as usize] >> 4;
-            let [first, second] = followed(instruction, address, kind)?;
-            self.follow(address, first)?;
-            self.follow(address, second)?;
+            for page in self.pages(address) {
+                self.reach_from(page, address)?;
+            }
         }
         Some(())
+    }
+
+    /// The pages with which an address is looked at.
+    fn pages(&self, address: u16) -> Range<usize> {
+        match fault() {
+            Some("paged-make-0") => 0..1,
+            Some("paged-make-end") if address >= 0x800 => 0..1,
+            Some("paged-make-last") => 0..(self.roms.len() - 1).max(1),
+            _ => 0..self.roms.len(),
+        }
+    }
+
+    fn reach_from(&mut self, page: usize, address: u16) -> Option<()> {
+        let instruction = decode_at(&self.roms[page], address).ok()?;
+        let kind = self.marks[address as usize] >> 4;
+        let [mut first, mut second] = followed(instruction, address, kind)?;
+        if page > 0 && faulty("paged-make-two") {
+            (decode_at(&self.roms[0], address) == Ok(instruction)).then_some(())?;
+        }
+        if page > 0 && faulty("paged-make-need") {
+            [first, second] = [first, second].map(|place| place.filter(|place| place.pushed == 0));
+        }
+        self.follow(address, first)?;
+        self.follow(address, second)
     }
 
     fn follow(&mut self, from: u16, place: Option<Place>) -> Option<()> {
@@ -111,7 +141,7 @@ impl<'a> Maker<'a> {
             self.list.push(address);
         }
         let most = if faulty("make-six") { MOST_NEED - 1 } else { MOST_NEED };
-        let tired = faulty("make-rounds") && self.raised > SPACE - self.rom.base();
+        let tired = faulty("make-rounds") && self.raised > SPACE - self.roms[0].base();
         (least <= most && !tired).then_some(())
     }
 
@@ -124,7 +154,7 @@ impl<'a> Maker<'a> {
     }
 
     fn write(&self, out: &mut [u8]) {
-        let marks = &self.marks[self.rom.base() as usize..];
+        let marks = &self.marks[self.roms[0].base() as usize..];
         for (place, &mark) in out.iter_mut().zip(marks) {
             if mark != 0 || !faulty("make-keeps") {
                 *place = mark;

@@ -1,11 +1,18 @@
 //! Data bytes read and their origins told in another way than the second
 //! emulator's: by opcode, from a packed machine.
 
+use super::bank::{bank, seen, told_by_index};
 use super::{fault, faulty};
 use crate::boundary::{self, unpack, STATE};
 
-/// The reading, with the fault.
+/// The reading, of what is seen.
 pub fn read(image: &[u8], state: &[u8], address: u32) -> u64 {
+    let bank = if faulty("bank-read-0") { 0 } else { bank(state) };
+    told_by_index(image, bank, read_seen(&seen(image, bank), state, address))
+}
+
+/// The same with the fault.
+fn read_seen(image: &[u8], state: &[u8], address: u32) -> u64 {
     let address = if faulty("read-beyond") { address & 0xFF } else { address };
     let answer = boundary::read(image, state, address);
     let packed = state.len() == STATE;

@@ -1,6 +1,7 @@
 //! A player of another build than the second emulator's: it goes through a
 //! record by index, with a packed machine.
 
+use super::bank::{bank, halves, seen};
 use super::{fault, faulty};
 use crate::boundary::{self, unpack, REPORT, STATE};
 
@@ -82,7 +83,7 @@ fn bad_record(image: &[u8], record: &[u8]) -> Option<u64> {
     let header = Header::of(record);
     let (body, count) = (header.body(record), header.count(record));
     let applies = |reason: &u64| match reason {
-        1 => !matches!(image.len(), 2048 | 4096),
+        1 => halves(image).is_none_or(|halves| faulty("play-unpaged") && halves > 2),
         &SHORT => record.len() < 3,
         27 => record.first().is_some_and(|&version| bad_version(version, header.long)),
         28 => bad_count(&header, count, body.len()),
@@ -286,9 +287,10 @@ impl Session {
     /// The answer of an entry.
     fn entry(&mut self, image: &[u8], entry: &[u8]) -> u64 {
         let machine = &mut self.machine[..];
+        let bank = if faulty("play-bank-0") { 0 } else { bank(machine) };
         match *entry {
-            [_, _] if faulty("play-no-request") => boundary::step(image, machine, 0),
-            [_, request] => boundary::step(image, machine, request as u32),
+            [_, _] if faulty("play-no-request") => boundary::step(&seen(image, bank), machine, 0),
+            [_, request] => boundary::step(&seen(image, bank), machine, request as u32),
             [_, address, value] => boundary::store(machine, address as u32, value as u32),
             _ => {
                 if faulty("play-reset-data") {

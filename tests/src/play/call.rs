@@ -11,7 +11,7 @@ type Bytes<'a> = Cow<'a, [u8]>;
 /// them it is seen that they, or their ends, stay.
 #[derive(Clone)]
 pub enum Call<'a> {
-    Decode { image: Bytes<'a>, address: u32, out: usize },
+    Decode { image: Bytes<'a>, address: u32, bank: u32, out: usize },
     Write { fields: Bytes<'a>, out: usize },
     Reset { state: Bytes<'a> },
     Store { state: Bytes<'a>, address: u32, value: u32 },
@@ -70,7 +70,9 @@ impl Call<'_> {
     pub fn play(&self, library: &Library) -> Outcome {
         let (mut state, mut out) = self.lent();
         let answer = match self {
-            Call::Decode { image, address, .. } => (library.decode)(image, *address, out.buffer()),
+            Call::Decode { image, address, bank, .. } => {
+                (library.decode)(image, *address, *bank, out.buffer())
+            }
             Call::Write { fields, .. } => (library.write)(fields, out.buffer()),
             Call::Reset { .. } => (library.reset)(state.buffer()),
             Call::Store { address, value, .. } => (library.store)(state.buffer(), *address, *value),
@@ -92,6 +94,21 @@ impl Call<'_> {
             }
         };
         Outcome { answer, state, out }
+    }
+
+    /// The image that it is given, if any.
+    pub fn image(&self) -> Option<&[u8]> {
+        match self {
+            Call::Decode { image, .. }
+            | Call::Step { image, .. }
+            | Call::Run { image, .. }
+            | Call::Check { image, .. }
+            | Call::Width { image, .. }
+            | Call::Make { image, .. }
+            | Call::Read { image, .. }
+            | Call::Play { image, .. } => Some(image),
+            Call::Write { .. } | Call::Reset { .. } | Call::Store { .. } | Call::Job { .. } => None,
+        }
     }
 
     /// Whether a state that was lent only to be read is what it was.
@@ -124,8 +141,8 @@ impl Call<'_> {
     pub fn into_owned(self) -> Call<'static> {
         let own = |bytes: Bytes| Cow::Owned(bytes.into_owned());
         match self {
-            Call::Decode { image, address, out } => {
-                Call::Decode { image: own(image), address, out }
+            Call::Decode { image, address, bank, out } => {
+                Call::Decode { image: own(image), address, bank, out }
             }
             Call::Write { fields, out } => Call::Write { fields: own(fields), out },
             Call::Reset { state } => Call::Reset { state: own(state) },
@@ -185,7 +202,8 @@ impl Call<'_> {
     /// The numbers of the call, to be made smaller.
     pub(super) fn numbers(&mut self) -> Vec<&mut u32> {
         match self {
-            Call::Decode { address, .. } | Call::Read { address, .. } => vec![address],
+            Call::Decode { address, bank, .. } => vec![address, bank],
+            Call::Read { address, .. } => vec![address],
             Call::Store { address, value, .. } => vec![address, value],
             Call::Step { request, .. } => vec![request],
             Call::Run { n, .. } => vec![n],

@@ -1,6 +1,7 @@
 //! A call as text, for a difference to be printed.
 
 use super::Call;
+use crate::chip::{Rom, Space, FIXED, HALF};
 use crate::library::KINDS;
 use crate::record::{pieces, read};
 use std::fmt::{self, Write};
@@ -26,7 +27,19 @@ fn show(f: &mut fmt::Formatter, name: &str, bytes: &[u8], base: usize) -> fmt::R
 
 fn show_state(f: &mut fmt::Formatter, state: &[u8], image: &[u8]) -> fmt::Result {
     show(f, "state", state, 0)?;
-    show(f, "image", image, base(image))
+    show_image(f, image)
+}
+
+/// By its program addresses, each page by itself.
+fn show_image(f: &mut fmt::Formatter, image: &[u8]) -> fmt::Result {
+    if Rom::new(image).map_or(0, |rom| rom.pages()) < 2 {
+        return show(f, "image", image, base(image));
+    }
+    let (pages, fixed) = image.split_at(image.len() - HALF);
+    for (number, page) in pages.chunks_exact(HALF).enumerate() {
+        show(f, &format!("page {number}"), page, 0)?;
+    }
+    show(f, "fixed half", fixed, FIXED as usize)
 }
 
 /// A certificate, or the buffer for one.
@@ -37,7 +50,7 @@ fn show_certificate(
     image: &[u8],
 ) -> fmt::Result {
     show(f, name, certificate, base(certificate))?;
-    show(f, "image", image, base(image))
+    show_image(f, image)
 }
 
 /// How many entries of a record are printed at each of its ends, at most.
@@ -69,7 +82,9 @@ impl Call<'_> {
     /// The numbers that it is given.
     fn heading(&self) -> String {
         match self {
-            Call::Decode { address, out, .. } => format!(" at {address:X}h, out of {out} bytes"),
+            Call::Decode { address, bank, out, .. } => {
+                format!(" at {address:X}h, bank {bank:X}h, out of {out} bytes")
+            }
             Call::Write { fields, out } => format!(" fields {fields:02X?}, out of {out} bytes"),
             Call::Reset { .. } | Call::Play { .. } => String::new(),
             Call::Store { address, value, .. } => format!(" {value:X}h at {address:X}h"),
@@ -89,7 +104,7 @@ impl fmt::Display for Call<'_> {
     fn fmt(&self, f: &mut fmt::Formatter) -> fmt::Result {
         write!(f, "{}{}", KINDS[self.kind()], self.heading())?;
         match self {
-            Call::Decode { image, .. } => show(f, "image", image, base(image)),
+            Call::Decode { image, .. } => show_image(f, image),
             Call::Write { .. } => Ok(()),
             Call::Reset { state } | Call::Store { state, .. } => show(f, "state", state, 0),
             Call::Step { image, state, .. } | Call::Read { image, state, .. } => {

@@ -2,10 +2,10 @@
 //! take a maker longest.
 
 use super::{Side, Work, IMAGES};
-use crate::chip::Instruction;
+use crate::chip::{Instruction, HALF, MOST_HALVES};
 use crate::generate::{
-    chains, dense, long_recursion, maze, program, repeated_calls, repeated_recursion, sparse,
-    straight, Chains, Order, Program, Rng, ORDERS,
+    chains, dense, long_recursion, marks, maze, paged_program, program, repeated_calls,
+    repeated_recursion, sparse, straight, tangle, Chains, Order, Program, Rng, Tangle, ORDERS,
 };
 use crate::maker::make;
 use crate::{boundary, proved};
@@ -85,7 +85,7 @@ impl Makes {
     fn makes(&mut self, times: usize, make: impl Fn(&[u8], u8, &mut [u8]) -> u64) {
         for Wanted { program, answer } in self.wanted.iter().cycle().take(times) {
             let Program { image, wired, .. } = black_box(program);
-            let out = &mut self.out[..image.len()];
+            let out = &mut self.out[..marks(image.len())];
             assert_eq!(make(image, *wired, out), *answer);
             black_box(out);
         }
@@ -108,20 +108,24 @@ impl Work for Makes {
 /// A program marked throughout, with a way from CD0h, where its start-up
 /// jumps to, to its first byte.
 fn reached(rng: &mut Rng, length: usize) -> Program {
-    let base = 0x1000 - length;
+    let base = 0x1000 - marks(length);
     let mut program = dense(rng, length);
     // At CD0h a JRZ over the JP. The byte before may be the end of a CALL,
     // and must then stay FFh.
     let way = [0xFF, 0x14, 0x09, (base >> 4) as u8];
-    program.image[0xCCF - base..][..way.len()].copy_from_slice(&way);
+    program.image[length - 0x1000 + 0xCCF..][..way.len()].copy_from_slice(&way);
     program
 }
 
 /// A generated program of a length that has a certificate.
 fn generated(rng: &mut Rng, length: usize) -> Program {
-    let mut programs = std::iter::repeat_with(|| program(rng));
-    let has_certificate =
-        |program: &Program| make(&program.image, program.wired, &mut vec![0; length]).is_ok();
+    let mut programs = std::iter::repeat_with(|| match length {
+        2048 | 4096 => program(rng),
+        _ => paged_program(rng, length),
+    });
+    let has_certificate = |program: &Program| {
+        make(&program.image, program.wired, &mut vec![0; marks(length)]).is_ok()
+    };
     programs
         .find(|program| program.image.len() == length && has_certificate(program))
         .expect("there is no end of them")
@@ -146,6 +150,32 @@ pub fn worst() -> Vec<(String, Makes)> {
     ];
     let others = others.map(|(name, program)| (name.to_string(), Makes::one(program)));
     worst_chains().into_iter().chain(others).collect()
+}
+
+/// The images of nine pages that take longest: those above with the same page
+/// nine times, and ones with other ways on each page.
+pub fn worst_paged() -> Vec<(String, Makes)> {
+    let mut worst = worst();
+    for (_, makes) in &mut worst {
+        let program = makes.wanted.remove(0).program;
+        *makes = Makes::one(nine_times(program));
+    }
+    let mut rng = Rng::new(3);
+    for (name, how) in
+        [("branches", Tangle::Branches), ("jumps", Tangle::Jumps), ("calls", Tangle::Calls)]
+    {
+        for (end, recursive) in [("six deep", false), ("that call themselves", true)] {
+            let program = tangle(&mut rng, MOST_HALVES * HALF, how, recursive);
+            worst.push((format!("{name} other on each page, {end}"), Makes::one(program)));
+        }
+    }
+    worst
+}
+
+/// A 4K program with its page nine times.
+fn nine_times(program: Program) -> Program {
+    let (page, fixed) = program.image.split_at(HALF);
+    Program { image: [&page.repeat(MOST_HALVES - 1), fixed].concat(), ..program }
 }
 
 fn worst_chains() -> Vec<(String, Makes)> {

@@ -1,16 +1,20 @@
 //! What is measured: `speed` takes its time and `count` its instructions.
 
+mod loops;
 mod makes;
 mod plays;
 mod widths;
 
 use crate::check::check;
-use crate::chip::{decode, write, Instruction, Machine, Operand, SIZES};
+use crate::chip::{decode, Machine, SIZES};
 use crate::generate::{dense, sparse, Program, Rng};
 use crate::{boundary, proved};
 use std::hint::black_box;
 
-pub use makes::{worst, Makes};
+use loops::mixed_loop;
+
+pub use loops::Place;
+pub use makes::{worst, worst_paged, Makes};
 pub use plays::{Plays, Repeated, LONGEST_STEPS, STEPS as PLAY_STEPS};
 pub use widths::{Widths, STEPS as WIDTH_STEPS};
 
@@ -44,54 +48,29 @@ pub struct MixedLoop {
 
 impl Default for MixedLoop {
     fn default() -> Self {
-        let second = Machine::default();
-        let mut fresh = vec![0; boundary::STATE];
-        boundary::pack(&second, &mut fresh);
-        MixedLoop { image: mixed_loop(), proved: fresh.clone(), second, packed: fresh }
+        MixedLoop::new(mixed_loop(0, Place::Fixed))
     }
 }
 
 impl MixedLoop {
+    fn new(image: Vec<u8>) -> Self {
+        let second = Machine::default();
+        let mut fresh = vec![0; boundary::STATE];
+        boundary::pack(&second, &mut fresh);
+        MixedLoop { image, proved: fresh.clone(), second, packed: fresh }
+    }
+
+    /// The loop at a place in an image with pages.
+    pub fn paged(pages: usize, place: Place) -> Self {
+        MixedLoop::new(mixed_loop(pages, place))
+    }
+
     /// Whether the proved library's machine is where the second emulator's is.
     pub fn agree(&self) -> bool {
-        self.proved == self.packed
+        let mut second = vec![0; boundary::STATE];
+        boundary::pack(&self.second, &mut second);
+        self.proved == second
     }
-}
-
-/// At 880h RETI, then some eighteen instructions.
-fn mixed_loop() -> Vec<u8> {
-    use Instruction::*;
-    use Operand::*;
-    let (start, subroutine) = (0x881u16, 0x8C0u16);
-    let body = [
-        Ldi { address: 0x10, value: 0x05 },
-        LdA(Direct(0x10)),
-        Add(Direct(0x11)),
-        Addi(0x37),
-        Inc(Direct(0x12)),
-        Set { bit: 3, address: 0x13 },
-        Res { bit: 3, address: 0x13 },
-        Jrs { bit: 2, address: 0x12, displacement: 2 }, // over COM, half the time
-        Com,
-        Call(subroutine),
-        LdTo(Direct(0x11)),
-        Cp(Direct(0x14)),
-        Jrnz(1), // over the next instruction
-        Inc(Short(2)),
-        Jrz(0),
-        Jp(start),
-    ];
-    let mut image = vec![0; 2048];
-    let mut put = |mut address: usize, instructions: &[Instruction]| {
-        for &instruction in instructions {
-            address += write(instruction, &mut image[address - 0x800..]).expect("it is good");
-        }
-    };
-    put(0xFFE, &[Jp(0x880)]);
-    put(0x880, &[Reti]);
-    put(start as usize, &body);
-    put(subroutine as usize, &[Rlc, Inc(Short(0)), Ret]);
-    image
 }
 
 /// Runs of the mixed loop.
@@ -235,7 +214,7 @@ impl Work for Decodes {
                 Side::Second => {
                     let addresses = (0..OPCODES as u32).map(|opcode| 4 * opcode);
                     addresses
-                        .filter(|&address| black_box(decode(black_box(image), address)).is_ok())
+                        .filter(|&address| black_box(decode(black_box(image), address, 0)).is_ok())
                         .count()
                 }
                 Side::Packed => decodes(image, boundary::decode),
@@ -246,11 +225,11 @@ impl Work for Decodes {
 }
 
 /// How many opcodes are decoded through a side of the boundary.
-fn decodes(image: &[u8], decode: impl Fn(&[u8], u32, &mut [u8]) -> u64) -> usize {
+fn decodes(image: &[u8], decode: impl Fn(&[u8], u32, u32, &mut [u8]) -> u64) -> usize {
     let mut count = 0;
     for opcode in 0..OPCODES as u32 {
         let mut fields = [0; boundary::FIELDS];
-        let answer = decode(black_box(image), 4 * opcode, &mut fields);
+        let answer = decode(black_box(image), 4 * opcode, 0, &mut fields);
         count += (boundary::number(answer) == 0) as usize;
         black_box(fields);
     }

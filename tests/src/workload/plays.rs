@@ -1,6 +1,6 @@
 //! Playings of records of one kind of entry, as many as fit into a version.
 
-use super::{mixed_loop, Side, Work, RUN};
+use super::{mixed_loop, Place, Side, Work, RUN};
 use crate::chip::Machine;
 use crate::player::play;
 use crate::record::{record, MOST_1, MOST_2, STEP};
@@ -41,7 +41,7 @@ impl Plays {
     }
 
     fn of(steps: usize) -> Self {
-        let mut image = mixed_loop();
+        let mut image = mixed_loop(0, Place::Fixed);
         image[SERVICE.0] = SERVICE.1;
         let asked = |step: usize| if step.is_multiple_of(ASKED_EVERY) { NMI } else { 0 };
         let requests: Vec<u8> = (1..=steps).map(asked).collect();
@@ -121,7 +121,11 @@ impl Repeated {
         let times = MOST_2 / entry.len();
         let mut report = [0; boundary::REPORT];
         boundary::write_report(&mut report, times as u32, 0).expect("it is long enough");
-        Repeated { image: mixed_loop(), record: record(&entry.repeat(times)), report }
+        Repeated {
+            image: mixed_loop(0, Place::Fixed),
+            record: record(&entry.repeat(times)),
+            report,
+        }
     }
 
     pub fn proved(&self) {

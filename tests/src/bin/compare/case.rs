@@ -3,40 +3,55 @@
 use crate::harness::Harness;
 use crate::opcode_map::{BY_X, BY_Y};
 use second::boundary::REPORT;
-use second::chip::{A, X, Y};
-use second::generate::{machine, Rng};
+use second::chip::{A, BANK, HALF, X, Y};
+use second::generate::{filled, machine, marks, place, Rng};
 use second::play::Call;
 use std::borrow::Cow::Borrowed;
 
 pub struct Case {
     pub image: Vec<u8>,
     pub state: Vec<u8>,
-    pc: usize,
+    /// Where code is written; the machine stands there at first.
+    pub pc: usize,
 }
 
 impl Case {
     /// A random image, and an awake machine without a reason to stop.
     pub fn new(rng: &mut Rng, length: usize, pc: usize) -> Self {
-        let mut image = vec![0; length];
-        rng.fill(&mut image);
+        let image = filled(rng, length);
         let mut state = machine(rng);
-        state[256..258].copy_from_slice(&(pc as u16).to_le_bytes());
         state[258] = 1 + rng.below(5) as u8;
         state[260] = 0;
         // Good return addresses, for any number of levels.
         for address in state[268..].chunks_exact_mut(2) {
             address.copy_from_slice(&(rng.below(0x1000) as u16).to_le_bytes());
         }
-        Case { image, state, pc }
+        let mut case = Case { image, state, pc };
+        case.stand_at(pc);
+        case
     }
 
-    /// Writes code at PC, as far as the image has its place.
+    /// Puts the machine at an address.
+    pub fn stand_at(&mut self, pc: usize) {
+        self.pc = pc;
+        self.state[256..258].copy_from_slice(&(pc as u16).to_le_bytes());
+    }
+
+    /// Writes code at PC, in the page that the bank byte picks, as far as the
+    /// image has its place.
     pub fn write(&mut self, code: &[u8]) {
-        let base = 0x1000 - self.image.len();
+        self.write_in(self.state[BANK as usize] as usize, code);
+    }
+
+    /// The same in the page of another bank byte.
+    pub fn write_in(&mut self, bank: usize, code: &[u8]) {
+        let length = self.image.len();
+        let pages = (length / HALF - 1).max(1);
+        let base = 0x1000 - marks(length);
         for (offset, &byte) in code.iter().enumerate() {
-            let index = ((self.pc + offset) & 0xFFF).wrapping_sub(base);
-            if let Some(place) = self.image.get_mut(index) {
-                *place = byte;
+            let address = (self.pc + offset) & 0xFFF;
+            if address >= base {
+                self.image[place(length, bank % pages, address)] = byte;
             }
         }
     }

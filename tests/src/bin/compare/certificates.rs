@@ -2,7 +2,7 @@
 
 use crate::harness::Harness;
 use second::chip::SIZES;
-use second::generate::{damage, dense, image_length, program, random_image, Program, Rng};
+use second::generate::{damage, dense, image_length, marks, program, random_image, Program, Rng};
 use second::play::Call;
 use std::borrow::Cow::Borrowed;
 
@@ -51,14 +51,14 @@ pub fn checked_program(rng: &mut Rng, valid: &Program, marked: &Program) -> Prog
         }
         14 => same_marks(rng),
         15 => {
-            let certificate = random_marks(rng, valid.image.len());
+            let certificate = random_marks(rng, valid.certificate.len());
             Program { certificate, ..valid.clone() }
         }
         16 => other_needs(rng, valid),
         17 => Program { wired: rng.byte() & 0x3F, ..valid.clone() },
         _ => {
             let image = random_image(rng);
-            let certificate = random_marks(rng, image.len());
+            let certificate = random_marks(rng, marks(image.len()));
             Program { image, certificate, wired: rng.byte() & 0x1F }
         }
     }
@@ -74,7 +74,7 @@ fn same_marks(rng: &mut Rng) -> Program {
         }
     }
     let kind = (1 + rng.below(4) as u8) << 4;
-    let certificate = vec![kind | rng.below(7) as u8; image.len()];
+    let certificate = vec![kind | rng.below(7) as u8; marks(image.len())];
     Program { image, certificate, wired: rng.byte() & 0x1F }
 }
 
@@ -106,14 +106,14 @@ fn random_marks(rng: &mut Rng, length: usize) -> Vec<u8> {
 /// Few marks, all at the end of ROM, where instructions run off it.
 fn last_addresses(rng: &mut Rng) -> Program {
     let mut image = random_image(rng);
-    let length = image.len();
-    let mut certificate = vec![0; length];
+    let mut certificate = vec![0; marks(image.len())];
     let kind = (1 + rng.below(4) as u8) << 4;
-    let from = length - 1 - rng.below(3);
-    for index in from..length {
-        image[index] = rng.pick(&[0x04, 0x15, 0x17, 0x1F, 0x0D, 0x23, 0x01, 0x09, 0x05, 0xCD]);
-        if index == from || rng.chance(60) {
-            certificate[index] = kind | rng.below(7) as u8;
+    let few = 1 + rng.below(3);
+    let last_bytes = image.iter_mut().rev().take(few);
+    for ((byte, mark), left) in last_bytes.zip(certificate.iter_mut().rev()).zip((0..few).rev()) {
+        *byte = rng.pick(&[0x04, 0x15, 0x17, 0x1F, 0x0D, 0x23, 0x01, 0x09, 0x05, 0xCD]);
+        if left == 0 || rng.chance(60) {
+            *mark = kind | rng.below(7) as u8;
         }
     }
     Program { image, certificate, wired: rng.byte() & 0x1F }

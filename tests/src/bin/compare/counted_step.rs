@@ -1,7 +1,7 @@
 //! A step as it is counted, alone or in a run: what it met, and what it did.
 
 use second::boundary;
-use second::chip::{Machine, Origin, Rom, Traced, SPACE};
+use second::chip::{Machine, Origin, Rom, Space, Traced, BANK, SPACE};
 
 pub struct BeforeStep {
     /// At PC, if that is in ROM.
@@ -13,7 +13,9 @@ pub struct BeforeStep {
 }
 
 impl BeforeStep {
+    /// Of an image with any page in place.
     pub fn new(rom: &Rom, machine: Machine, request: u8) -> Self {
+        let rom = rom.with_bank(machine.data[BANK as usize]);
         let (opcode, second) = (rom.byte(machine.pc), rom.byte((machine.pc + 1) % SPACE));
         BeforeStep { opcode, second, machine, request }
     }
@@ -22,23 +24,34 @@ impl BeforeStep {
 /// What a step did that was neither refused nor stopped.
 pub struct AfterStep {
     pub cycles: u32,
-    /// Of the byte that it read; 0 if that wasn't in ROM.
+    /// Whether the byte that it read was in ROM, and where.
+    pub shown: bool,
     pub rom_address: u16,
     pub in_run: bool,
+    /// The machine's after it.
+    pub pc: u16,
+    pub bank: u8,
 }
 
 impl AfterStep {
-    /// A single step, by its answer.
-    pub fn single(answer: u64) -> Self {
-        let (cycles, rom_address) = (boundary::cycles(answer), boundary::rom_address(answer));
-        AfterStep { cycles, rom_address, in_run: false }
+    /// A single step, by its answer and the state after it.
+    pub fn single(answer: u64, state: &[u8]) -> Self {
+        AfterStep {
+            cycles: boundary::cycles(answer),
+            shown: boundary::origin(answer) == 3,
+            rom_address: boundary::rom_address(answer),
+            in_run: false,
+            pc: u16::from_le_bytes([state[256], state[257]]),
+            bank: state[BANK as usize],
+        }
     }
 
-    pub fn in_run(Traced { cycles, origin }: Traced) -> Self {
-        let rom_address = match origin {
-            Some(Origin::Rom(address)) => address,
-            _ => 0,
+    pub fn in_run(Traced { cycles, origin }: Traced, machine: &Machine) -> Self {
+        let (shown, rom_address) = match origin {
+            Some(Origin::Rom(address)) => (true, address),
+            _ => (false, 0),
         };
-        AfterStep { cycles, rom_address, in_run: true }
+        let (pc, bank) = (machine.pc, machine.data[BANK as usize]);
+        AfterStep { cycles, shown, rom_address, in_run: true, pc, bank }
     }
 }

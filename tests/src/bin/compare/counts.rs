@@ -1,14 +1,16 @@
 //! Counts what was compared, and prints it.
 
+use crate::bank_counts::BankCounts;
 use crate::counted_step::{AfterStep, BeforeStep};
 use crate::make_counts::MakeCounts;
 use crate::opcode_map::operations;
 use crate::origin_counts::OriginCounts;
+use crate::page_counts::PageCounts;
 use crate::play_counts::PlayCounts;
 use crate::width_counts::WidthCounts;
 use crate::write_only_counts::WriteOnlyCounts;
 use second::boundary::{self, FORMS, FORM_NAMES};
-use second::chip::Rom;
+use second::chip::{Rom, HALF};
 use second::library::KINDS;
 use second::play::{report, Call, Outcome};
 
@@ -36,8 +38,13 @@ pub struct Counts {
     pub plays: PlayCounts,
     origins: OriginCounts,
     write_only: WriteOnlyCounts,
+    banks: BankCounts,
+    pages: PageCounts,
     pub unused_differ: u64,
     pub demand3_calls: u64,
+    /// Calls and playings of images with two pages or more of which demand 3
+    /// was seen to hold.
+    demand3_paged: u64,
     form_of: [Option<u8>; 256],
 }
 
@@ -60,10 +67,18 @@ impl Counts {
             plays: PlayCounts::new(),
             origins: OriginCounts::new(),
             write_only: WriteOnlyCounts::new(),
+            banks: BankCounts::new(),
+            pages: PageCounts::new(),
             unused_differ: 0,
             demand3_calls: 0,
+            demand3_paged: 0,
             form_of: operations().map(|operation| operation.map(|[form, _]| form)),
         }
+    }
+
+    /// Counts a call or a playing that demand 3 speaks of, if it has pages.
+    pub fn add_demand3(&mut self, image: &[u8]) {
+        self.demand3_paged += (image.len() > 2 * HALF) as u64;
     }
 
     /// Counts a call by the second emulator's outcome.
@@ -72,6 +87,8 @@ impl Counts {
         self.calls[call.kind()] += 1;
         self.numbers[call.kind()][number as usize] += 1;
         let value = boundary::value(outcome.answer);
+        self.banks.add(call, outcome);
+        self.pages.add(call, outcome);
         match call {
             Call::Run { image, state, requests, n, .. } if matches!(number, 0 | 4..=7) => {
                 self.trace(image, state, requests, *n, outcome);
@@ -81,7 +98,7 @@ impl Counts {
             }
             Call::Make { image, wired, .. } => self.makes.add(image, *wired, outcome.answer),
             Call::Step { image, state, request } => {
-                self.add_step(image, state, *request, outcome.answer);
+                self.add_step(image, state, *request, outcome);
             }
             Call::Read { image, state, address } => {
                 self.origins.add_read(image, outcome.answer);
@@ -97,7 +114,8 @@ impl Counts {
         }
     }
 
-    fn add_step(&mut self, image: &[u8], state: &[u8], request: u32, answer: u64) {
+    fn add_step(&mut self, image: &[u8], state: &[u8], request: u32, outcome: &Outcome) {
+        let answer = outcome.answer;
         self.origins.add_step(image, state, answer);
         if boundary::number(answer) != 0 {
             return;
@@ -105,11 +123,12 @@ impl Counts {
         let rom = Rom::new(image).expect("the step was not refused");
         let machine = boundary::unpack(state).expect("the step was not refused");
         let before = BeforeStep::new(&rom, machine, request as u8);
-        self.add_done(&before, &AfterStep::single(answer));
+        let after = AfterStep::single(answer, outcome.state.bytes());
+        self.add_done(&rom, image, &before, &after);
     }
 
     /// Counts a step, alone or in a run.
-    fn add_done(&mut self, before: &BeforeStep, after: &AfterStep) {
+    fn add_done(&mut self, rom: &Rom, image: &[u8], before: &BeforeStep, after: &AfterStep) {
         match after.cycles {
             0 => self.idle += 1,
             1 => self.taken += 1,
@@ -121,6 +140,7 @@ impl Counts {
             }
         }
         self.write_only.add_step(before, after);
+        self.banks.add_step(rom, image, before, after);
     }
 
     /// Plays a run as single steps of the second emulator: the run must be
@@ -135,7 +155,7 @@ impl Counts {
             match machine.traced_step(image, request) {
                 Ok(traced) => {
                     cycles += traced.cycles;
-                    self.add_done(&before, &AfterStep::in_run(traced));
+                    self.add_done(&rom, image, &before, &AfterStep::in_run(traced, &machine));
                 }
                 Err(refusal) => {
                     stop = refusal.number();
@@ -173,8 +193,11 @@ impl Counts {
         self.makes.print();
         self.origins.print();
         self.write_only.print();
+        self.banks.print();
+        self.pages.print();
         self.plays.print();
         println!("calls that demand 3 speaks of, all as it says: {}", self.demand3_calls);
+        println!("calls and playings with two pages or more among them: {}", self.demand3_paged);
         println!("calls that differ only in return addresses not in use: {}", self.unused_differ);
         self.print_not_met();
     }
@@ -194,10 +217,15 @@ impl Counts {
         if !missing.is_empty() {
             println!("NOT MET: numbers {missing:?}");
         }
+        if self.demand3_paged == 0 {
+            println!("NOT MET: demand 3 with two pages or more");
+        }
         self.widths.print_not_met();
         self.makes.print_not_met();
         self.origins.print_not_met();
         self.write_only.print_not_met();
+        self.banks.print_not_met();
+        self.pages.print_not_met();
         self.plays.print_not_met();
     }
 }

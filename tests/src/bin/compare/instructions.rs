@@ -1,56 +1,57 @@
 //! Opcodes, decoding and writing.
 
+use crate::case::Case;
 use crate::harness::Harness;
 use second::boundary::{self, FIELDS, FORMS, WRITTEN_FIELDS};
-use second::chip::{Rom, SIZES};
-use second::generate::{machine, random_image, request, EDGES};
+use second::chip::{Rom, Space, BANK, HALF, SIZES};
+use second::generate::{machine, marks, paged_length, random_image, request, EDGES};
 use second::play::Call;
 use std::borrow::Cow::{Borrowed, Owned};
 
 /// All opcodes with edge operands: decode, write back, and step on machines
 /// with edge data.
 pub fn opcodes(h: &mut Harness, machines: usize) {
-    for length in [2048, 4096] {
-        let low = 0x1000 - length;
+    for halves in [1, 2, 0] {
         for opcode in 0..=255u8 {
-            let mut image = vec![0; length];
-            h.rng.fill(&mut image);
+            let length = if halves == 0 { paged_length(&mut h.rng) } else { HALF * halves };
+            let bank = h.rng.byte();
+            let mut case = Case::new(&mut h.rng, length, 0);
+            case.state[BANK as usize] = bank;
+            let low = 0x1000 - marks(length);
             for second in EDGES {
                 for third in EDGES {
-                    let places = [low, low + 0x123, 0xABC, 0xFF0, 0xFFD, 0xFFE, 0xFFF];
-                    let address = h.rng.pick(&places);
-                    for (offset, byte) in [opcode, second, third].into_iter().enumerate() {
-                        let place = (address + offset) & 0xFFF;
-                        if place >= low {
-                            image[place - low] = byte;
-                        }
-                    }
-                    opcode_at(h, &image, address as u32, machines);
+                    let places =
+                        [low, low + 0x123, 0x7FE, 0x7FF, 0xABC, 0xFF0, 0xFFD, 0xFFE, 0xFFF];
+                    case.pc = h.rng.pick(&places).max(low);
+                    case.write(&[opcode, second, third]);
+                    opcode_at(h, &case.image, case.pc as u16, bank, machines);
                 }
             }
         }
     }
 }
 
-fn opcode_at(h: &mut Harness, image: &[u8], address: u32, machines: usize) {
+fn opcode_at(h: &mut Harness, image: &[u8], pc: u16, bank: u8, machines: usize) {
     let image = Borrowed(image);
+    let (address, bank) = (pc as u32, bank as u32);
     let out = if h.rng.chance(90) { FIELDS } else { h.rng.pick(&[0, 1, 9, 11, 20]) };
-    h.compare(Call::Decode { image: image.clone(), address, out });
-    let decoded = h.compare(Call::Decode { image: image.clone(), address, out: FIELDS });
+    h.compare(Call::Decode { image: image.clone(), address, bank, out });
+    let decoded = h.compare(Call::Decode { image: image.clone(), address, bank, out: FIELDS });
     if boundary::number(decoded.answer) == 0 {
         let length = boundary::value(decoded.answer) as usize;
-        write_back(h, &image, address as u16, decoded.out.bytes(), length);
+        let rom = Rom::new(&image).expect("decoded").with_bank(bank as u8);
+        write_back(h, &rom, pc, decoded.out.bytes(), length);
     }
     for _ in 0..machines {
-        let state = edge_machine(h, address as u16);
+        let mut state = edge_machine(h, pc);
+        state[BANK as usize] = bank as u8;
         let request = if h.rng.chance(90) { 0 } else { request(&mut h.rng) as u32 };
         h.compare(Call::Step { image: image.clone(), state: Owned(state), request });
     }
 }
 
 /// Writes what was decoded at an address: the same bytes come back.
-fn write_back(h: &mut Harness, image: &[u8], address: u16, fields: &[u8], length: usize) {
-    let rom = Rom::new(image).expect("decoded");
+fn write_back(h: &mut Harness, rom: &Rom, address: u16, fields: &[u8], length: usize) {
     for out in 0..=4 {
         let given = if out % 2 == 0 { fields } else { &fields[..WRITTEN_FIELDS] };
         let written = h.compare(Call::Write { fields: Borrowed(given), out });
@@ -90,11 +91,11 @@ pub fn exhaustive(h: &mut Harness) {
         let third_matters = SIZES[opcode as usize].length == 3;
         for second in 0..=255u8 {
             image[..3].copy_from_slice(&[opcode, second, h.rng.byte()]);
-            opcode_at(h, &image, 0, 1);
+            opcode_at(h, &image, 0, 0, 1);
         }
         for third in (0..=255u8).filter(|_| third_matters) {
             image[..3].copy_from_slice(&[opcode, h.rng.byte(), third]);
-            opcode_at(h, &image, 0, 1);
+            opcode_at(h, &image, 0, 0, 1);
         }
     }
     let mut state = machine(&mut h.rng);
@@ -168,11 +169,14 @@ pub fn decodes(h: &mut Harness, images: usize) {
     for _ in 0..images {
         let image = random_image(&mut h.rng);
         for address in 0..0x1000 {
-            h.compare(Call::Decode { image: Borrowed(&image), address, out: FIELDS });
+            let bank = h.rng.byte() as u32;
+            h.compare(Call::Decode { image: Borrowed(&image), address, bank, out: FIELDS });
         }
         for address in [0x1000, 0x1001, 0x1FFF, 0xFFFF, 0x1_0000, 0x1_0FFE, u32::MAX] {
             for out in [0, FIELDS] {
-                h.compare(Call::Decode { image: Borrowed(&image), address, out });
+                for bank in [0, 1, 255, 256, 0x101, 0x8000_0000, u32::MAX] {
+                    h.compare(Call::Decode { image: Borrowed(&image), address, bank, out });
+                }
             }
         }
     }

@@ -47,8 +47,9 @@ fn short_jobs(h: &mut Harness) {
     }
 }
 
-fn job_of(program: &Program) -> Vec<u8> {
-    let count = 1 + 2 * program.image.len() as u16;
+/// Also of a program with pages, which is none.
+pub fn job_of(program: &Program) -> Vec<u8> {
+    let count = (1 + program.image.len() + program.certificate.len()) as u16;
     let mut job = vec![1];
     job.extend(count.to_be_bytes());
     job.push(program.wired);
@@ -69,7 +70,7 @@ fn damage(rng: &mut Rng, job: &mut Vec<u8>) {
         6 => job.truncate(rng.below(10)),
         _ => {
             // Another length, with the count that goes with it.
-            let length = rng.pick(&[4, 4096, 4099, 6000, 8195, 8197, 12000]);
+            let length = rng.pick(&[4, 4096, 4099, 6000, 8195, 8197, 10_244, 12_000, 24_580]);
             job.resize(length, 0);
             let count = (length - 3) as u16;
             job[1..3].copy_from_slice(&count.to_be_bytes());

@@ -1,5 +1,7 @@
 //! Compares the second emulator with the proved library.
 
+mod bank_counts;
+mod banks;
 mod case;
 mod certificates;
 mod counted_step;
@@ -14,6 +16,8 @@ mod makes;
 mod opcode_map;
 mod origin_counts;
 mod origins;
+mod page_counts;
+mod pages;
 mod play_counts;
 mod playing;
 mod programs;
@@ -110,6 +114,8 @@ fn run_parts(h: &mut Harness, options: &Options) -> usize {
     part("makes", &mut |h| makes::makes(h, scale(1000)));
     part("origins", &mut |h| origins::origins(h, scale(20_000)));
     part("write-only", &mut write_only::write_only);
+    part("banks", &mut |h| banks::banks(h, scale(2)));
+    part("pages", &mut |h| pages::pages(h, scale(40)));
     part("playing", &mut |h| playing::playing(h, scale(800)));
     parts
 }

@@ -7,9 +7,9 @@ use second::check::check;
 use second::chip::Instruction::{Jp, Jrz};
 use second::chip::{write, VECTORS};
 use second::generate::{
-    call_graph, chains, dense, image_length, long_recursion, maze, p11, program, random_image,
-    repeated_calls, repeated_recursion, round_the_end, sizing, soonest, sparse, straight, Chains,
-    Order, Program, Rng, ORDERS,
+    call_graph, chains, dense, image_length, long_recursion, marks, maze, p11, program,
+    random_image, repeated_calls, repeated_recursion, round_the_end, sizing, soonest, sparse,
+    straight, Chains, Order, Program, Rng, ORDERS,
 };
 use second::maker::{reason, Reason};
 use second::play::Call;
@@ -43,7 +43,7 @@ pub fn makes(h: &mut Harness, programs: usize) {
 /// A certificate on both sides, in a buffer that held something else. One
 /// that is made must pass both checks with the levels told, and a refusal
 /// must leave the buffer. Gives the certificate.
-fn make_into(h: &mut Harness, image: &[u8], wired: u32, length: usize) -> Option<Vec<u8>> {
+pub fn make_into(h: &mut Harness, image: &[u8], wired: u32, length: usize) -> Option<Vec<u8>> {
     let mut before = vec![0; length];
     h.rng.fill(&mut before);
     let outcome = h.compare(Call::Make { image: Borrowed(image), wired, out: Borrowed(&before) });
@@ -57,9 +57,9 @@ fn make_into(h: &mut Harness, image: &[u8], wired: u32, length: usize) -> Option
     Some(out.to_vec())
 }
 
-/// The same in a buffer of the image's length.
-fn make(h: &mut Harness, image: &[u8], wired: u32) -> Option<Vec<u8>> {
-    make_into(h, image, wired, image.len())
+/// The same in a buffer of as many bytes as there are marks.
+pub fn make(h: &mut Harness, image: &[u8], wired: u32) -> Option<Vec<u8>> {
+    make_into(h, image, wired, marks(image.len()))
 }
 
 /// What both checks answer.
@@ -83,7 +83,7 @@ fn any_program(rng: &mut Rng) -> Program {
 }
 
 /// A program with its own sources, and with others.
-fn accepted(h: &mut Harness, program: &Program, index: usize) {
+pub fn accepted(h: &mut Harness, program: &Program, index: usize) {
     let Program { image, certificate, wired } = program;
     let made = make(h, image, *wired as u32);
     let own = check(image, certificate, *wired);
@@ -165,7 +165,7 @@ fn lengths(h: &mut Harness) {
         some.resize(image, 0x6D);
         let none = vec![0x05; image];
         for out in LENGTHS {
-            for wired in [0, 0x1F].into_iter().chain(BAD_WIRED) {
+            for wired in [0, 0x1F, 0x20, 0xFF, 256, u32::MAX] {
                 make_into(h, &some, wired, out);
                 make_into(h, &none, wired, out);
             }
@@ -217,7 +217,7 @@ fn turned_down(h: &mut Harness, count: usize) {
         if h.rng.chance(5) {
             image.resize(h.rng.pick(&LENGTHS), 0);
         }
-        let length = if h.rng.chance(95) { image.len() } else { h.rng.pick(&LENGTHS) };
+        let length = if h.rng.chance(95) { marks(image.len()) } else { h.rng.pick(&LENGTHS) };
         let wired = match h.rng.below(10) {
             0 => h.rng.pick(&BAD_WIRED),
             1 | 2 => h.rng.byte() as u32 & 0x1F,
@@ -237,11 +237,9 @@ fn bad_image(rng: &mut Rng, program: &Program) -> Vec<u8> {
 }
 
 /// An image with up to three bytes changed, mostly where it has code.
-fn changed(rng: &mut Rng, program: &Program) -> Vec<u8> {
+pub fn changed(rng: &mut Rng, program: &Program) -> Vec<u8> {
     let mut image = program.image.clone();
-    let code = |(_, (&byte, &mark)): &(usize, (&u8, &u8))| byte != 0 || mark != 0;
-    let bytes = program.image.iter().zip(&program.certificate).enumerate();
-    let code: Vec<usize> = bytes.filter(code).map(|(index, _)| index).collect();
+    let code: Vec<usize> = (0..image.len()).filter(|&index| image[index] != 0).collect();
     for _ in 0..1 + rng.below(3) {
         let byte = &mut image[rng.pick(&code)];
         *byte = match rng.below(3) {

@@ -25,7 +25,7 @@ pub fn operations() -> [Option<Operation>; 256] {
     from_fn(|opcode| {
         image[0] = opcode as u8;
         let mut fields = [0; FIELDS];
-        let answer = boundary::decode(&image, 0, &mut fields);
+        let answer = boundary::decode(&image, 0, 0, &mut fields);
         (boundary::number(answer) == 0).then_some([fields[0], fields[1]])
     })
 }

@@ -3,7 +3,7 @@
 use crate::counts::listed;
 use crate::opcode_map::{different_operations, operand_address, reads, KINDS, SHORT};
 use second::boundary::{self, FIELDS, FORMS, FORM_NAMES, ORIGIN_NAMES};
-use second::chip::SPACE;
+use second::chip::{BANK, HALF, SPACE};
 
 /// What `read` answers: done, or one of its refusals.
 const ANSWERS: [usize; 4] = [0, 1, 2, 8];
@@ -18,7 +18,7 @@ pub struct OriginCounts {
     reads: ByOrigin,
     /// By number.
     answers: [u64; 256],
-    /// ROM addresses that were told, in 2K and 4K images.
+    /// ROM addresses that were told, in 2K, 4K and longer images.
     by_steps: Addresses,
     by_reads: Addresses,
 }
@@ -49,7 +49,7 @@ impl OriginCounts {
         }
         let pc = u16::from_le_bytes([state[256], state[257]]);
         let mut fields = [0; FIELDS];
-        boundary::decode(image, pc as u32, &mut fields);
+        boundary::decode(image, pc as u32, state[BANK as usize] as u32, &mut fields);
         let [form, kind, field, ..] = fields;
         let address = reads(FORM_NAMES[form as usize]).then(|| operand_address(kind, field, state));
         let read = address.map_or(0, |address| boundary::read(image, state, address as u32));
@@ -91,7 +91,9 @@ impl OriginCounts {
         println!(", by requests taken and idle steps: {}", self.not_executed);
         println!("reads by origin:{}; by number{}", named(&self.reads), listed(&self.answers));
         let (by_steps, by_reads) = (self.by_steps.count(), self.by_reads.count());
-        println!("ROM addresses told in 2K and 4K: by steps {by_steps:?}, by reads {by_reads:?}");
+        println!(
+            "ROM addresses told in 2K, 4K and more: by steps {by_steps:?}, by reads {by_reads:?}"
+        );
     }
 
     pub fn print_not_met(&self) {
@@ -101,7 +103,7 @@ impl OriginCounts {
         let answer = |number: &&usize| self.answers[**number] == 0;
         missing.extend(ANSWERS.iter().filter(answer).map(|number| format!("read's {number}")));
         for (what, told) in [("steps", &self.by_steps), ("reads", &self.by_reads)] {
-            if told.count() != [2048, 4096] {
+            if told.count() != [2048, 4096, 4096] {
                 missing.push(format!("all ROM addresses by {what}"));
             }
         }
@@ -139,22 +141,22 @@ fn named(counts: &ByOrigin) -> String {
     counted.map(|(name, count)| format!(" {name} {count}")).collect()
 }
 
-/// ROM addresses of 2K and of 4K images.
-struct Addresses([Vec<bool>; 2]);
+/// ROM addresses of 2K, of 4K and of longer images.
+struct Addresses([Vec<bool>; 3]);
 
 impl Addresses {
     fn none() -> Self {
-        Addresses([(); 2].map(|_| vec![false; SPACE as usize]))
+        Addresses([(); 3].map(|_| vec![false; SPACE as usize]))
     }
 
     fn add(&mut self, image: &[u8], answer: u64) {
         if ORIGIN_NAMES[boundary::origin(answer)] == "ROM" {
-            let of_length = &mut self.0[(image.len() == 4096) as usize];
+            let of_length = &mut self.0[(image.len() / HALF - 1).min(2)];
             of_length[boundary::rom_address(answer) as usize] = true;
         }
     }
 
-    fn count(&self) -> [usize; 2] {
-        [0, 1].map(|length| self.0[length].iter().filter(|&&told| told).count())
+    fn count(&self) -> [usize; 3] {
+        [0, 1, 2].map(|length| self.0[length].iter().filter(|&&told| told).count())
     }
 }

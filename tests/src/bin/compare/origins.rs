@@ -5,7 +5,7 @@ use crate::case::Case;
 use crate::harness::Harness;
 use crate::opcode_map::{BY_X, BY_Y, DIRECT};
 use crate::refusals::LENGTHS;
-use second::generate::{machine, spoil};
+use second::generate::{machine, marks, paged_length, spoil};
 use second::play::Call;
 use std::borrow::Cow::{Borrowed, Owned};
 
@@ -23,7 +23,7 @@ const READING: [u8; 25] = [
 ];
 
 pub fn origins(h: &mut Harness, reads: usize) {
-    for length in [2048, 4096] {
+    for length in [2048, 4096, paged_length(&mut h.rng)] {
         every_operand(h, length);
         every_situation(h, length);
         every_page(h, length);
@@ -37,7 +37,7 @@ pub fn origins(h: &mut Harness, reads: usize) {
 /// pages where that lies in the window.
 fn every_operand(h: &mut Harness, length: usize) {
     for opcode in 0..=255u8 {
-        let low = 0x1000 - length;
+        let low = 0x1000 - marks(length);
         let pc = h.rng.pick(&[low, low + 0x1FF, 0xABC, 0xFF0, 0xFFD]);
         let mut case = Case::new(&mut h.rng, length, pc);
         for address in 0..=255u8 {
@@ -159,7 +159,8 @@ fn random_reads(h: &mut Harness, count: usize) {
     let mut image = Vec::new();
     for index in 0..count {
         if index.is_multiple_of(64) {
-            let length = if h.rng.chance(90) { [2048, 4096][index / 64 % 2] } else { 0 };
+            let paged = paged_length(&mut h.rng);
+            let length = if h.rng.chance(90) { [2048, 4096, paged][index / 64 % 3] } else { 0 };
             image.resize(length, 0);
             h.rng.fill(&mut image);
         }

@@ -219,13 +219,13 @@ fn version(record: &[u8]) -> usize {
     (record.first() == Some(&VERSION_2)) as usize
 }
 
-fn named(names: &[&str], counts: &[u64]) -> String {
+pub fn named(names: &[&str], counts: &[u64]) -> String {
     let counted = names.iter().zip(counts).map(|(name, count)| format!("{name} {count}"));
     counted.collect::<Vec<String>>().join(", ")
 }
 
 /// What was never met, each with a title.
-fn not_met(title: &str, names: &[&str], counts: &[u64]) -> Vec<String> {
+pub fn not_met(title: &str, names: &[&str], counts: &[u64]) -> Vec<String> {
     let missing = names.iter().zip(counts).filter(|(_, &count)| count == 0);
     missing.map(|(name, _)| format!("{title} {name}").trim().to_string()).collect()
 }

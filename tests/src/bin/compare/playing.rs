@@ -6,8 +6,9 @@ use crate::refusals::LENGTHS;
 use second::boundary::{self, REPORT, STATE};
 use second::check::check;
 use second::generate::{
-    call_graph, damage, damage_record, entries, long_length, machine, mix, program, random_image,
-    sizing, write_only_program, Mix, Program, Rng,
+    call_graph, damage, damage_record, entries, long_length, machine, marks, mix, paged_graph,
+    paged_length, paged_program, program, random_image, sizing, write_only_program, Mix, Program,
+    Rng,
 };
 use second::play::{report, Call, OneByOne, Outcome};
 use second::record::{pieces, read, record, Entry, LEAST_2, MOST_1, MOST_2, STEP, STORE};
@@ -79,7 +80,8 @@ fn any_bytes(rng: &mut Rng, length: usize) -> Vec<u8> {
 /// Most are accepted. Call graphs go too deep now and then, and changed bytes
 /// and random images stop for every reason.
 fn any_program(rng: &mut Rng) -> Program {
-    match rng.below(14) {
+    let length = paged_length(rng);
+    match rng.below(20) {
         0 => sizing(rng),
         1 | 2 => write_only_program(rng),
         3 | 4 => call_graph(rng),
@@ -90,7 +92,14 @@ fn any_program(rng: &mut Rng) -> Program {
         }
         7 => {
             let image = random_image(rng);
-            Program { certificate: vec![0; image.len()], image, wired: 0 }
+            Program { certificate: vec![0; marks(image.len())], image, wired: 0 }
+        }
+        8..=10 => paged_program(rng, length),
+        11 => paged_graph(rng, length),
+        12 | 13 => {
+            let mut program = paged_program(rng, length);
+            (0..4).for_each(|_| damage(rng, &mut program));
+            program
         }
         _ => program(rng),
     }
@@ -129,6 +138,7 @@ fn play_and_hold(h: &mut Harness, image: &[u8], body: &[u8], levels: Option<u8>)
     let entries = entries.expect("a good record");
     if let Some(levels) = levels {
         demand3(h, &record, &outcome, &entries, levels);
+        h.counts.add_demand3(image);
     }
 }
 

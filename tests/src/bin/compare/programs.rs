@@ -2,7 +2,10 @@
 
 use crate::harness::{state_after, Harness};
 use second::boundary::{self, REPORT};
-use second::generate::{ill_formed, machine, program, requests, write_only_program, Program};
+use second::generate::{
+    ill_formed, machine, paged_length, paged_program, program, requests, write_only_program,
+    Program, Rng,
+};
 use second::library::KINDS;
 use second::play::{Call, Outcome};
 use std::borrow::Cow::{Borrowed, Owned};
@@ -12,9 +15,20 @@ use std::process::exit;
 pub fn programs(h: &mut Harness, steps: u64) {
     let wanted = h.counts.steps_in_runs + steps;
     while h.counts.steps_in_runs < wanted {
-        let generator = if h.rng.chance(20) { write_only_program } else { program };
-        let program = generator(&mut h.rng);
+        let program = any_program(&mut h.rng);
         play(h, &program);
+    }
+}
+
+/// One in four has pages.
+fn any_program(rng: &mut Rng) -> Program {
+    match rng.below(20) {
+        0..=4 => {
+            let length = paged_length(rng);
+            paged_program(rng, length)
+        }
+        5..=8 => write_only_program(rng),
+        _ => program(rng),
     }
 }
 
@@ -42,6 +56,7 @@ fn play(h: &mut Harness, program: &Program) {
         let outcome = h.compare(call);
         if held {
             demand3(h, kind, &outcome, boundary::value(checked.answer));
+            h.counts.add_demand3(&program.image);
         }
         state = state_after(&outcome);
     }
@@ -54,7 +69,11 @@ fn next_call<'a>(h: &mut Harness, image: &'a [u8], state: &'a [u8], mask: u8) ->
         0 => Call::Reset { state },
         1 | 2 => Call::Store {
             state,
-            address: if h.rng.chance(20) { 0xC8 } else { h.rng.byte() as u32 },
+            address: match h.rng.below(10) {
+                0 | 1 => 0xC8,
+                2 | 3 => 0xCA,
+                _ => h.rng.byte() as u32,
+            },
             value: h.rng.byte() as u32,
         },
         3..=9 => {

@@ -267,12 +267,14 @@ fn buffers(h: &mut Harness) {
 
 /// Images of all lengths.
 fn images(h: &mut Harness) {
+    let records = each_fault();
     for length in LENGTHS {
         let image = vec![0x04; length];
-        for record in each_fault() {
-            play(h, &image, &record);
+        for record in &records {
             let (state, report) = (h.rng.pick(&STATES), h.rng.pick(&REPORTS));
-            play_into(h, &image, &record, state, report);
+            play_into(h, &image, record, state, report);
         }
+        let record = &records[h.rng.below(records.len())];
+        play(h, &image, record);
     }
 }

@@ -1,17 +1,26 @@
 //! Calls with several faults at once, to see which is given.
 
 use crate::harness::Harness;
-use second::generate::{machine, program, requests, spoil, Program, Rng};
+use second::generate::{
+    machine, paged_length, paged_program, program, requests, spoil, Program, Rng,
+};
 use second::play::Call;
 use std::borrow::Cow::Owned;
 
-/// Lengths about those that an image may have.
-pub const LENGTHS: [usize; 8] = [0, 1, 2047, 2049, 4095, 4097, 2048, 4096];
+/// Lengths about those that an image may have: those of 1, 2, 3, 9 and 10
+/// halves, those beside them, and longer ones.
+pub const LENGTHS: [usize; 20] = [
+    0, 1, 2047, 2048, 2049, 4095, 4096, 4097, 5120, 6143, 6144, 6145, 18_432, 20_479, 20_480,
+    20_481, 22_528, 24_576, 45_056, 65_536,
+];
 
 pub fn refusals(h: &mut Harness, count: usize) {
     let mut valid = program(&mut h.rng);
     for index in 0..count {
-        if index % 32 == 0 {
+        if index % 64 == 0 {
+            let length = paged_length(&mut h.rng);
+            valid = paged_program(&mut h.rng, length);
+        } else if index % 32 == 0 {
             valid = program(&mut h.rng);
         }
         let call = bad_call(&mut h.rng, &valid);
@@ -73,7 +82,8 @@ fn bad_decode(rng: &mut Rng, image: Vec<u8>, out: usize) -> Call<'static> {
     } else {
         rng.pick(&[0xFFD, 0xFFE, 0xFFF, 0x1000, 0x7FF, u32::MAX])
     };
-    Call::Decode { image: Owned(image), address, out }
+    let bank = number(rng, 0);
+    Call::Decode { image: Owned(image), address, bank, out }
 }
 
 fn bad_write(rng: &mut Rng) -> Call<'static> {

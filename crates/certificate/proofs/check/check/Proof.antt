@@ -4,7 +4,7 @@ use mathlib.Core.Path.{sym, _∙_}
 use lib.ListN.{length}
 use borrow.Author.Tests.{eq-eqb, ne-eqb, not-true, not-false}
 use Rattle.certificate.specs.Check.{checkOf}
-use Rattle.certificate.proofs.Facts.{image-length, at-most-4096}
+use Rattle.certificate.proofs.Facts.{at-most-4096}
 use borrow.Author.Needs.{needs}
 use Rattle.certificate.proofs.check.check.Statement.{statement}
 use Rattle.certificate.proofs.check.check.Tie as tie
@@ -16,12 +16,17 @@ returns : tie.Need-returns
 unfolding checkOf
 returns c = rw (← c .before .is-image-length .ensures, not-true (c .before .is-image-length .result) (c .if1 .taken))
 
+marks-in-requires : tie.Need-marks-in-requires
+marks-in-requires c κs = search needs
+
 returns-2 : tie.Need-returns-2
 unfolding checkOf
 returns-2 c =
+    let asked = c .before .before .before in
     rw (
-      ← c .before .before .is-image-length .ensures,
-      not-false (c .before .before .is-image-length .result) (c .before .if1 .left),
+      ← asked .is-image-length .ensures,
+      not-false (asked .is-image-length .result) (c .before .before .if1 .left),
+      ← c .before .marks-in .ensures,
       ne-eqb _ _ (c .if2 .taken),
     )
 
@@ -31,9 +36,11 @@ names-only-sources-requires c κs = search needs
 returns-3 : tie.Need-returns-3
 unfolding checkOf
 returns-3 c =
+    let asked = c .before .before .before .before .before in
     rw (
-      ← c .before .before .before .before .is-image-length .ensures,
-      not-false (c .before .before .before .before .is-image-length .result) (c .before .before .before .if1 .left),
+      ← asked .is-image-length .ensures,
+      not-false (asked .is-image-length .result) (c .before .before .before .before .if1 .left),
+      ← c .before .before .before .marks-in .ensures,
       eq-eqb _ _ (c .before .before .if2 .left),
       ← c .before .names-only-sources .ensures,
       not-true (c .before .names-only-sources .result) (c .if3 .taken),
@@ -41,18 +48,22 @@ returns-3 c =
 
 check-rules-requires : tie.Need-check-rules-requires
 check-rules-requires c κs =
-    let image = c .before .before .before .before .before .before .before .args .image .now in
-    let asked = c .before .before .before .before .is-image-length in
-    let is-image = sym (asked .ensures) ∙ not-false (asked .result) (c .before .before .before .if1 .left) in
-    (is-image, omega (arith, at-most-4096 (image-length (length image) is-image), c .before .before .if2 .left))
+    let asked = c .before .before .before .before .before in
+    let image = asked .before .before .before .args .image .now in
+    let is-image =
+    sym (asked .is-image-length .ensures) ∙ not-false (asked .is-image-length .result) (c .before .before .before .before .if1 .left) in (
+      is-image,
+      omega (arith, at-most-4096 (length image), c .before .before .before .marks-in .ensures, c .before .before .if2 .left),
+    )
 
 returns-4 : tie.Need-returns-4
 unfolding checkOf
 returns-4 c =
+    let asked = c .before .before .before .before .before .before in
     rw (
-      ← c .before .before .before .before .before .is-image-length .ensures,
-      not-false (c .before .before .before .before .before .is-image-length .result)
-          (c .before .before .before .before .if1 .left),
+      ← asked .is-image-length .ensures,
+      not-false (asked .is-image-length .result) (c .before .before .before .before .before .if1 .left),
+      ← c .before .before .before .before .marks-in .ensures,
       eq-eqb _ _ (c .before .before .before .if2 .left),
       ← c .before .before .names-only-sources .ensures,
       not-false (c .before .before .names-only-sources .result) (c .before .if3 .left),
@@ -65,6 +76,7 @@ check-spec =
     (tie.spec
     is-image-length-requires
     returns
+    marks-in-requires
     returns-2
     names-only-sources-requires
     returns-3

@@ -2,48 +2,53 @@
 use mathlib.Core.Path.{_≡_, ap, _∙_}
 use native.Mathlib.Omega.{arith}
 use borrow.Author.Tests.{lt-ltb, le-ltb}
+use mathlib.Core.List.{_++_}
 use Rattle.isa.proofs.AtAddress.{in-range}
+use Rattle.isa.proofs.Halves.{halves-space}
 use Rattle.isa.specs.FlowAt.{continuationOf, continuationFrom}
-use Rattle.certificate.specs.Check.{decodedFound, markFound}
-use Rattle.certificate.proofs.Facts.{continuationFound, by-continuation, marked, positive}
+use Rattle.certificate.specs.Check.{decodedFound}
+use Rattle.certificate.specs.Passes.{pageFound}
+use Rattle.certificate.proofs.Facts.{continuationFound, by-continuation, marked-page, positive}
 use borrow.Author.Needs.{needs}
 use Rattle.certificate.proofs.check.check_mark.Statement.{statement}
 use Rattle.certificate.proofs.check.check_mark.Tie as tie
 
 -- the start, from where the mark has a kind
 abbrev start : tie.Else2 → tie.Start
-start c = c .before .before .before .before .before
+start c = c .before .before .before .before .before .before
 
 -- a mark with a kind: what is found is by where the instruction continues
 by-flow : (c : tie.After-flow-at)
-    → markFound (start (c .before) .args .image .now) (start (c .before) .args .certificate .now)
+    → pageFound (start (c .before) .args .page .now ++ start (c .before) .args .fixed .now)
+    (start (c .before) .args .certificate .now)
     (start (c .before) .args .address) (start (c .before) .args .mark)
     ≡ continuationFound (start (c .before) .args .certificate .now) (start (c .before) .args .address)
     (start (c .before) .args .mark) (continuationOf (c .flow-at .result))
 by-flow c =
     let kind = c .before .before .kind-of in
-    let map = start (c .before) .pre .0 in
+    let pre = start (c .before) .pre in
     rw (
-      marked _ _ _ _ (c .before .before .before .if1 .left),
+      marked-page _ _ _ _ (c .before .before .before .if1 .left),
       ← kind .ensures,
       lt-ltb 0 (kind .result) (positive (c .before .if2 .left)),
       by-continuation _ _ _ _,
-      ← (c .flow-at .ensures map
-          ∙ ap (continuationFrom _) (in-range _ _ (start (c .before) .pre .1) (start (c .before) .pre .2))),
+      ← (c .flow-at .ensures (pre .1) (pre .2) (pre .0)
+          ∙ ap (continuationFrom _) (in-range (start (c .before) .args .page .now ++ start (c .before) .args .fixed .now) _
+          (halves-space (start (c .before) .args .page .now) (start (c .before) .args .fixed .now) (pre .1)) (pre .2))),
     )
 
 returns : tie.Need-returns
-unfolding markFound decodedFound
+unfolding pageFound decodedFound
 returns c = rw (c .if1 .taken)
 
 kind-of-requires : tie.Need-kind-of-requires
 kind-of-requires c κs = search needs
 
 returns-2 : tie.Need-returns-2
-unfolding markFound decodedFound
+unfolding pageFound decodedFound
 returns-2 c =
     rw (
-      marked _ _ _ _ (c .before .before .if1 .left),
+      marked-page _ _ _ _ (c .before .before .if1 .left),
       ← c .before .kind-of .ensures,
       le-ltb 0 (c .before .kind-of .result) (omega (arith, c .if2 .taken)),
     )

@@ -1,50 +1,31 @@
--- `check::check_marks` meets its contract: what the whole certificate finds is what its marks from index i on find.
-use Prim.Native.Nat.{ℕ, suc, _+_, _-_, _≤_, _<_}
-use native.Mathlib.Nat.{add-zero}
-use native.Mathlib.Numerals.{add-one}
+-- `check::check_marks` meets its contract: the marks before index i pass.
+use Prim.Native.Nat.{ℕ, _+_, _-_, _≤_, _<_}
 use native.Mathlib.Omega.{arith}
-use mathlib.Core.Path.{_≡_, sym, _∙_}
-use mathlib.Core.List.{List}
+use mathlib.Core.Path.{_≡_, refl, ap, sym, _∙_}
+use mathlib.Core.List.{_++_}
+use borrow.Author.Count.{below-more}
 use borrow.Author.Needs.{needs}
-use lib.ListN.{length, getD, drop}
-use lib.Seq.{drop-cons, drop-length}
+use lib.ListN.{getD}
 use Rattle.certificate.specs.Marks.{lowest}
-use Rattle.certificate.specs.Findings.{Found, passes, andThen}
-use Rattle.certificate.specs.Check.{markFound, marksFound}
+use Rattle.certificate.specs.Findings.{passes, found}
+use Rattle.certificate.specs.Passes.{pageFound}
 use Rattle.certificate.proofs.check.check_marks.Statement.{statement}
 use Rattle.certificate.proofs.check.check_marks.Tie as tie
 
--- what the marks from index i on find
-abbrev From : (image certificate : List ℕ) → (i : ℕ) → Found
-From image certificate i = marksFound image certificate (lowest certificate + i) (drop i certificate)
-
--- the mark at i, then the others
-first : (image certificate : List ℕ) (i : ℕ) → i < length certificate
-    → From image certificate i
-    ≡ andThen (markFound image certificate (lowest certificate + i) (getD certificate i 0))
-    (From image certificate (i + 1))
-unfolding marksFound
-first image certificate i h =
-    let next : suc (lowest certificate + i) ≡ lowest certificate + (i + 1) = omega arith in
-    rw (drop-cons certificate i 0 h, next, add-one)
-
-none : (image certificate : List ℕ) (i : ℕ) → i ≡ length certificate → From image certificate i ≡ passes
-unfolding marksFound
-none image certificate i e = rw (e, drop-length certificate)
-
 abbrev Inv-loop : tie.InvT-loop
-Inv-loop table image certificate start i₀ i-end i =
-    (i ≤ length certificate)
-    × (marksFound image certificate (lowest certificate) certificate ≡ From image certificate i)
+Inv-loop table page fixed certificate end start i₀ i =
+    (i ≤ end)
+    × ((j : ℕ) → j < i
+    → pageFound (page ++ fixed) certificate (lowest certificate + j) (getD certificate j 0) ≡ passes)
 
 abbrev μ-loop : tie.MeasureT-loop
-μ-loop table image certificate start i₀ i-end i = length certificate - i
+μ-loop table page fixed certificate end start i₀ i = end - i
 
 sub-start : tie.Need-sub-start Inv-loop μ-loop
 sub-start c = search needs
 
 loop-holds : tie.Need-loop-holds Inv-loop μ-loop
-loop-holds c = (search needs, rw add-zero)
+loop-holds c = (search needs, λ j h. absurd (omega arith))
 
 add-check-mark : tie.Need-add-check-mark Inv-loop μ-loop
 add-check-mark c = search needs
@@ -56,19 +37,24 @@ shared-slice-read-check-mark : tie.Need-shared-slice-read-check-mark Inv-loop μ
 shared-slice-read-check-mark c = search needs
 
 check-mark-requires : tie.Need-check-mark-requires Inv-loop μ-loop
-check-mark-requires c κs = search needs
+check-mark-requires c κs =
+    let start = c .before .before .before .before .before .before in
+    (start .pre .0, start .pre .1, search needs)
 
 enum-told : tie.Need-enum-told Inv-loop μ-loop
 enum-told c = search needs
 
 returns : tie.Need-returns Inv-loop μ-loop
 returns c =
-    rw (
-      c .before .before .before .before .before .loop .inv .1,
-      first _ _ _ (c .before .before .before .before .loop-test .taken),
-      ← c .before .before .check-mark .ensures,
-      c .enum-told .given .1,
-    )
+    let loop = c .before .before .before .before .before .loop in
+    rw (c .enum-told .given .1)
+    (record {
+      before = loop .inv .1;
+      ends = (
+        c .before .before .before .before .loop-test .taken,
+        sym (c .before .before .check-mark .ensures) ∙ ap found (c .enum-told .given .1),
+      );
+    })
 
 enum-told-2 : tie.Need-enum-told-2 Inv-loop μ-loop
 enum-told-2 c = search needs
@@ -82,13 +68,14 @@ loop-less c = search needs
 loop-again : tie.Need-loop-again Inv-loop μ-loop
 loop-again c = (
   search needs,
-  c .before .before .before .before .before .loop .inv .1
-      ∙ first _ _ _ (c .before .before .before .before .loop-test .taken)
-      ∙ rw (← c .before .before .check-mark .ensures, c .enum-told2 .given .1),
+  below-more _ _ (c .before .before .before .before .before .loop .inv .1)
+      (sym (c .before .before .check-mark .ensures) ∙ ap found (c .enum-told2 .given .1)),
 )
 
 returns-2 : tie.Need-returns-2 Inv-loop μ-loop
-returns-2 c = sym (c .before .loop .inv .1 ∙ none _ _ _ (omega arith))
+returns-2 c =
+    let loop = c .before .loop in
+    record { before = λ j h. loop .inv .1 j (omega arith); ends = refl }
 
 pub check-marks-spec : {M : Type 1} → statement M
 check-marks-spec =

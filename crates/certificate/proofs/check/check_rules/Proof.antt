@@ -7,8 +7,8 @@ use Rattle.certificate.proofs.check.check_rules.Tie as tie
 timings-requires : tie.Need-timings-requires
 timings-requires c κs = search needs
 
-check-marks-requires : tie.Need-check-marks-requires
-check-marks-requires c κs = search needs
+check-pages-requires : tie.Need-check-pages-requires
+check-pages-requires c κs = search needs
 
 check-vectors-requires : tie.Need-check-vectors-requires
 check-vectors-requires c κs = search needs
@@ -22,7 +22,7 @@ enum-known-refusal c = search needs
 returns : tie.Need-returns
 returns c =
     rw (
-      ← c .before .before .before .before .before .check-marks .ensures,
+      ← c .before .before .before .before .before .check-pages .ensures,
       ← c .before .before .before .before .check-vectors .ensures,
       ← c .before .before .before .and-then .ensures,
       c .before .refusal .given .1,
@@ -37,7 +37,7 @@ levels-of-requires c κs = search needs
 returns-2 : tie.Need-returns-2
 returns-2 c =
     rw (
-      ← c .before .before .before .before .before .before .check-marks .ensures,
+      ← c .before .before .before .before .before .before .check-pages .ensures,
       ← c .before .before .before .before .before .check-vectors .ensures,
       ← c .before .before .before .before .and-then .ensures,
       c .before .before .enum-told .given .1,
@@ -48,7 +48,7 @@ returns-2 c =
 returns-3 : tie.Need-returns-3
 returns-3 c =
     rw (
-      ← c .before .before .before .before .before .before .check-marks .ensures,
+      ← c .before .before .before .before .before .before .check-pages .ensures,
       ← c .before .before .before .before .before .check-vectors .ensures,
       ← c .before .before .before .before .and-then .ensures,
       c .before .before .enum-told .given .1,
@@ -61,7 +61,7 @@ check-rules-spec =
     tie.close
     (tie.spec
     timings-requires
-    check-marks-requires
+    check-pages-requires
     check-vectors-requires
     and-then-requires
     enum-known-refusal

@@ -13,9 +13,9 @@ store-result-requires : tie.Need-store-result-requires
 store-result-requires c κs = search needs
 
 returns : tie.Need-returns
-returns c =
+returns c is =
     let k = c .before .before in
-    rw (c .store-result .ensures, k .decremented .ensures, k .before .read .ensures)
+    rw (c .store-result .ensures, k .decremented .ensures, k .before .read .ensures is)
 
 pub decrement-spec : {M : Type 1} → statement M
 decrement-spec = tie.close (tie.spec read-requires decremented-requires store-result-requires returns)

@@ -153,103 +153,103 @@ rotate-requires c κs = search needs
 
 returns : tie.Need-returns
 unfolding effectOf
-returns c = rw (c .test-bit .ensures, c .before .before .before .instruction .given .1)
+returns c is = rw (c .test-bit .ensures is, c .before .before .before .instruction .given .1)
 
 returns-2 : tie.Need-returns-2
 unfolding effectOf
-returns-2 c = rw (c .test-bit2 .ensures, c .before .before .before .instruction2 .given .1)
+returns-2 c is = rw (c .test-bit2 .ensures is, c .before .before .before .instruction2 .given .1)
 
 returns-3 : tie.Need-returns-3
 unfolding effectOf
-returns-3 c = rw (c .reset-bit .ensures, c .before .before .before .instruction3 .given .1)
+returns-3 c is = rw (c .reset-bit .ensures is, c .before .before .before .instruction3 .given .1)
 
 returns-4 : tie.Need-returns-4
 unfolding effectOf
-returns-4 c = rw (c .set-bit .ensures, c .before .before .before .instruction4 .given .1)
+returns-4 c is = rw (c .set-bit .ensures is, c .before .before .before .instruction4 .given .1)
 
 returns-5 : tie.Need-returns-5
 unfolding effectOf
-returns-5 c =
+returns-5 c is =
     let k = c .before .before in
-    rw (c .load .ensures, k .operand .ensures, k .before .before .before .instruction5 .given .1)
+    rw (c .load .ensures, k .operand .ensures is, k .before .before .before .instruction5 .given .1)
 
 returns-6 : tie.Need-returns-6
 unfolding effectOf
-returns-6 c =
+returns-6 c is =
     let k = c .before .before in
     rw (c .store-a .ensures, k .address .ensures, k .before .before .before .instruction6 .given .1)
 
 returns-7 : tie.Need-returns-7
 unfolding effectOf
-returns-7 c = rw (c .load2 .ensures, c .before .before .before .instruction7 .given .1)
+returns-7 c is = rw (c .load2 .ensures, c .before .before .before .instruction7 .given .1)
 
 returns-8 : tie.Need-returns-8
 unfolding effectOf
-returns-8 c = rw (c .store-immediate .ensures, c .before .before .before .instruction8 .given .1)
+returns-8 c is = rw (c .store-immediate .ensures, c .before .before .before .instruction8 .given .1)
 
 returns-9 : tie.Need-returns-9
 unfolding effectOf
-returns-9 c =
+returns-9 c is =
     let k = c .before .before in
-    rw (c .increment .ensures, k .address2 .ensures, k .before .before .before .instruction9 .given .1)
+    rw (c .increment .ensures is, k .address2 .ensures, k .before .before .before .instruction9 .given .1)
 
 returns-10 : tie.Need-returns-10
 unfolding effectOf
-returns-10 c =
+returns-10 c is =
     let k = c .before .before in
-    rw (c .decrement .ensures, k .address3 .ensures, k .before .before .before .instruction10 .given .1)
+    rw (c .decrement .ensures is, k .address3 .ensures, k .before .before .before .instruction10 .given .1)
 
 returns-11 : tie.Need-returns-11
 unfolding effectOf
-returns-11 c =
+returns-11 c is =
     let k = c .before .before in
-    rw (c .add .ensures, k .operand2 .ensures, k .before .before .before .instruction11 .given .1)
+    rw (c .add .ensures, k .operand2 .ensures is, k .before .before .before .instruction11 .given .1)
 
 returns-12 : tie.Need-returns-12
 unfolding effectOf
-returns-12 c = rw (c .add2 .ensures, c .before .before .before .instruction12 .given .1)
+returns-12 c is = rw (c .add2 .ensures, c .before .before .before .instruction12 .given .1)
 
 returns-13 : tie.Need-returns-13
 unfolding effectOf
-returns-13 c =
+returns-13 c is =
     let k = c .before .before in
-    rw (c .subtract .ensures, k .operand3 .ensures, k .before .before .before .instruction13 .given .1)
+    rw (c .subtract .ensures, k .operand3 .ensures is, k .before .before .before .instruction13 .given .1)
 
 returns-14 : tie.Need-returns-14
 unfolding effectOf
-returns-14 c = rw (c .subtract2 .ensures, c .before .before .before .instruction14 .given .1)
+returns-14 c is = rw (c .subtract2 .ensures, c .before .before .before .instruction14 .given .1)
 
 returns-15 : tie.Need-returns-15
 unfolding effectOf
-returns-15 c =
+returns-15 c is =
     let k = c .before .before in
-    rw (c .and .ensures, k .operand4 .ensures, k .before .before .before .instruction15 .given .1)
+    rw (c .and .ensures, k .operand4 .ensures is, k .before .before .before .instruction15 .given .1)
 
 returns-16 : tie.Need-returns-16
 unfolding effectOf
-returns-16 c = rw (c .and2 .ensures, c .before .before .before .instruction16 .given .1)
+returns-16 c is = rw (c .and2 .ensures, c .before .before .before .instruction16 .given .1)
 
 returns-17 : tie.Need-returns-17
 unfolding effectOf
-returns-17 c =
+returns-17 c is =
     let k = c .before .before in
-    rw (c .compare .ensures, k .operand5 .ensures, k .before .before .before .instruction17 .given .1)
+    rw (c .compare .ensures, k .operand5 .ensures is, k .before .before .before .instruction17 .given .1)
 
 returns-18 : tie.Need-returns-18
 unfolding effectOf
-returns-18 c = rw (c .compare2 .ensures, c .before .before .before .instruction18 .given .1)
+returns-18 c is = rw (c .compare2 .ensures, c .before .before .before .instruction18 .given .1)
 
 returns-19 : tie.Need-returns-19
 unfolding effectOf
-returns-19 c = rw (c .complement .ensures, c .before .before .enum-told .given .1)
+returns-19 c is = rw (c .complement .ensures, c .before .before .enum-told .given .1)
 
 returns-20 : tie.Need-returns-20
 unfolding effectOf
-returns-20 c = rw (c .rotate .ensures, c .before .before .enum-told2 .given .1)
+returns-20 c is = rw (c .rotate .ensures, c .before .before .enum-told2 .given .1)
 
 returns-21 : tie.Need-returns-21
 unfolding effectOf
-returns-21 c =
+returns-21 c is =
     let i = c .before .before .args .instruction in
     ⊎-elim (λ e. rw (lives-at Instruction.enum i 0 e .1))
     (⊎-elim (λ e. rw (lives-at Instruction.enum i 1 e .1))

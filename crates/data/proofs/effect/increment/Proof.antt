@@ -13,9 +13,9 @@ store-result-requires : tie.Need-store-result-requires
 store-result-requires c κs = search needs
 
 returns : tie.Need-returns
-returns c =
+returns c is =
     let k = c .before .before in
-    rw (c .store-result .ensures, k .incremented .ensures, k .before .read .ensures)
+    rw (c .store-result .ensures, k .incremented .ensures, k .before .read .ensures is)
 
 pub increment-spec : {M : Type 1} → statement M
 increment-spec = tie.close (tie.spec read-requires incremented-requires store-result-requires returns)

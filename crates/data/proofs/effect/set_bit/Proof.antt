@@ -13,7 +13,7 @@ store-requires : tie.Need-store-requires
 store-requires c κs = search needs
 
 returns : tie.Need-returns
-returns c = rw (c .store .ensures, c .before .before .with-bit .ensures, c .before .before .before .read .ensures)
+returns c is = rw (c .store .ensures, c .before .before .with-bit .ensures, c .before .before .before .read .ensures is)
 
 pub set-bit-spec : {M : Type 1} → statement M
 set-bit-spec = tie.close (tie.spec read-requires with-bit-requires store-requires returns)

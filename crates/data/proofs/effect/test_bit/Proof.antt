@@ -10,7 +10,7 @@ bit-requires : tie.Need-bit-requires
 bit-requires c κs = search needs
 
 returns : tie.Need-returns
-returns c = rw (c .bit .ensures, c .before .read .ensures)
+returns c is = rw (c .bit .ensures, c .before .read .ensures is)
 
 pub test-bit-spec : {M : Type 1} → statement M
 test-bit-spec = tie.close (tie.spec read-requires bit-requires returns)

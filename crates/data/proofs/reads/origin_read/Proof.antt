@@ -21,16 +21,16 @@ origin-requires c κs = search needs
 
 returns : tie.Need-returns
 unfolding originReadOf
-returns c = rw (← c .before .before .operand-read .ensures, c .enum-told .given .1)
+returns c is = rw (← c .before .before .operand-read .ensures, c .enum-told .given .1)
 
 returns-2 : tie.Need-returns-2
 unfolding originReadOf
-returns-2 c =
+returns-2 c is =
     let k = c .before .before .before in
     rw (
       ← k .before .before .operand-read .ensures,
       k .o .given .1,
-      c .origin .ensures,
+      c .origin .ensures is,
       c .before .address .ensures,
     )
 

@@ -1,7 +1,7 @@
 -- `space::held` meets its contract.
 use borrow.Author.Needs.{needs}
 use borrow.Author.Tests.{not-true, not-false}
-use Rattle.data.proofs.Window.{window-low}
+use Rattle.data.proofs.Window.{in-window}
 use Rattle.data.proofs.space.held.Statement.{statement}
 use Rattle.data.proofs.space.held.Tie as tie
 
@@ -12,25 +12,25 @@ element-copy-out-result : tie.Need-element-copy-out-result
 element-copy-out-result c = search needs
 
 returns : tie.Need-returns
-returns c =
+returns c is =
     let k = c .before .before in
     rw (← k .is-window .ensures, not-true (k .is-window .result) (c .before .if1 .taken))
 
-window-address-requires : tie.Need-window-address-requires
-window-address-requires c κs =
+window-byte-requires : tie.Need-window-byte-requires
+window-byte-requires c κs =
     let k = c .before in
-    window-low (k .before .before .args .address) (k .is-window .result) (k .is-window .ensures)
+    in-window (k .before .before .args .address) (k .is-window .result) (k .is-window .ensures)
     (not-false (k .is-window .result) (c .if1 .left))
 
 shown-requires : tie.Need-shown-requires
 shown-requires c κs = search needs
 
 returns-2 : tie.Need-returns-2
-returns-2 c =
+returns-2 c is =
     let k = c .before .before .before in
     rw (
       c .shown .ensures,
-      c .before .window-address .ensures,
+      c .before .window-byte .ensures is,
       ← k .is-window .ensures,
       not-false (k .is-window .result) (c .before .before .if1 .left),
     )
@@ -42,6 +42,6 @@ held-spec =
     is-window-requires
     element-copy-out-result
     returns
-    window-address-requires
+    window-byte-requires
     shown-requires
     returns-2)

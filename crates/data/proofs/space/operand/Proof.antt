@@ -12,7 +12,7 @@ read-requires c κs = search needs
 
 returns : tie.Need-returns
 unfolding operandOf
-returns c = rw (c .read .ensures, c .before .address .ensures)
+returns c is = rw (c .read .ensures is, c .before .address .ensures)
 
 pub operand-spec : {M : Type 1} → statement M
 operand-spec = tie.close (tie.spec address-requires read-requires returns)

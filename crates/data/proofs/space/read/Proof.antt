@@ -9,14 +9,14 @@ is-write-only-requires c κs = search needs
 
 returns : tie.Need-returns
 unfolding readOf
-returns c = rw (← c .before .is-write-only .ensures, c .if1 .taken)
+returns c is = rw (← c .before .is-write-only .ensures, c .if1 .taken)
 
 held-requires : tie.Need-held-requires
 held-requires c κs = search needs
 
 returns-2 : tie.Need-returns-2
 unfolding readOf
-returns-2 c = rw (c .held .ensures, ← c .before .before .is-write-only .ensures, c .before .if1 .left)
+returns-2 c is = rw (c .held .ensures is, ← c .before .before .is-write-only .ensures, c .before .if1 .left)
 
 pub read-spec : {M : Type 1} → statement M
 read-spec = tie.close (tie.spec is-write-only-requires returns held-requires returns-2)

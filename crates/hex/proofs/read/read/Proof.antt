@@ -4,28 +4,28 @@ use mathlib.Core.Path.{_≡_, sym, _∙_}
 use mathlib.Core.Bool.{true}
 use lib.ListN.{length}
 use borrow.Author.Tests.{not-true, not-false}
-use Rattle.isa.specs.Rom.{isImage}
+use Rattle.isa.specs.Rom.{isSpace}
 use Rattle.hex.specs.Place.{blank}
 use Rattle.hex.proofs.ReadLaws.{image-within, reads-nothing, reads-refused, reads-whole}
 use borrow.Author.Needs.{needs}
 use Rattle.hex.proofs.read.read.Statement.{statement}
 use Rattle.hex.proofs.read.read.Tie as tie
 
-is-image-length-requires : tie.Need-is-image-length-requires
-is-image-length-requires c κs = search needs
+is-space-length-requires : tie.Need-is-space-length-requires
+is-space-length-requires c κs = search needs
 
 returns : tie.Need-returns
 returns c =
-    let at-is-image-length = c .before in
-    let start = at-is-image-length .before .before .before in
+    let at-is-space-length = c .before in
+    let start = at-is-space-length .before .before .before in
     let args = start .args in
-    let asked = at-is-image-length .is-image-length in
+    let asked = at-is-space-length .is-space-length in
     reads-nothing (args .text .now) (args .fill) (args .image .now)
     (sym (asked .ensures) ∙ not-true (asked .result) (c .if1 .taken))
 
 sub-first : tie.Need-sub-first
 sub-first c =
-    let asked = c .before .is-image-length in
+    let asked = c .before .is-space-length in
     image-within _ (sym (asked .ensures) ∙ not-false (asked .result) (c .if1 .left))
 
 read-lines-requires : tie.Need-read-lines-requires
@@ -40,11 +40,11 @@ enum-told c = search needs
 fill-image-requires : tie.Need-fill-image-requires
 fill-image-requires c κs =
     let at-if1 = c .before .before .before .before .before .before in
-    let at-is-image-length = at-if1 .before in
-    let start = at-is-image-length .before .before .before in
-    let asked = at-is-image-length .is-image-length in
+    let at-is-space-length = at-if1 .before in
+    let start = at-is-space-length .before .before .before in
+    let asked = at-is-space-length .is-space-length in
     let size = length (start .args .image .now) in
-    let is : isImage size ≡ true = sym (asked .ensures) ∙ not-false (asked .result) (at-if1 .if1 .left) in
+    let is : isSpace size ≡ true = sym (asked .ensures) ∙ not-false (asked .result) (at-if1 .if1 .left) in
     omega (arith, image-within size is)
 
 lowest-of-requires : tie.Need-lowest-of-requires
@@ -56,10 +56,10 @@ returns-2 c =
     let at-reading = c .before in
     let at-read-lines = at-reading .before .before in
     let at-if1 = at-read-lines .before .before in
-    let at-is-image-length = at-if1 .before in
-    let start = at-is-image-length .before .before .before in
+    let at-is-space-length = at-if1 .before in
+    let start = at-is-space-length .before .before .before in
     let args = start .args in
-    let asked = at-is-image-length .is-image-length in
+    let asked = at-is-space-length .is-space-length in
     let called = at-read-lines .read-lines in
     let given = at-reading .reading .given in
     reads-refused (args .text .now) (args .fill) (args .image .now)
@@ -76,10 +76,10 @@ returns-3 c =
     let at-enum-told = at-fill-image .before .before .before in
     let at-read-lines = at-enum-told .before .before in
     let at-if1 = at-read-lines .before .before in
-    let at-is-image-length = at-if1 .before in
-    let start = at-is-image-length .before .before .before in
+    let at-is-space-length = at-if1 .before in
+    let start = at-is-space-length .before .before .before in
     let args = start .args in
-    let asked = at-is-image-length .is-image-length in
+    let asked = at-is-space-length .is-space-length in
     let called = at-read-lines .read-lines in
     reads-whole (args .text .now) (args .fill) (args .image .now)
     (sym (asked .ensures) ∙ not-false (asked .result) (at-if1 .if1 .left)) (called .result) _ (called .ensures)
@@ -89,7 +89,7 @@ pub read-spec : {M : Type 1} → statement M
 read-spec =
     tie.close
     (tie.spec
-    is-image-length-requires
+    is-space-length-requires
     returns
     sub-first
     read-lines-requires

@@ -1,56 +1,22 @@
 -- `flow_at::flow_at` meets its contract: decoding's refusals, then where the form continues.
-use borrow.Author.Needs.{needs}
-use Prim.Native.Nat.{ℕ}
 use mathlib.Core.Path.{_≡_, sym, _∙_}
-use Rattle.isa.specs.Rom.{romAt, operandAt}
-use Rattle.isa.specs.declared.rom.RomByte.{RomByte}
-use Rattle.isa.specs.declared.rom.RomByte.the-variants.{Byte}
-use Rattle.isa.proofs.EntryFlow.{undefined, continues}
 use Rattle.isa.specs.Table.{bytesOf, Timings}
 use Rattle.isa.specs.Map.{entryOf}
+use Rattle.isa.proofs.EntryFlow.{undefined, continues}
+use borrow.Author.Needs.{needs}
 use Rattle.isa.proofs.flow_at.flow_at.Statement.{statement}
 use Rattle.isa.proofs.flow_at.flow_at.Tie as tie
 
--- the start, from where the opcode is known; and where it is known, from where the operand bytes are
+-- the start, from where the bytes are known
 abbrev start : tie.After-opcode → tie.Start
-start c = c .before .before .before .before
+start c = c .before .before .before .before .before
 
-abbrev opcode-before : tie.After-first → tie.After-opcode
-opcode-before c = c .before .before .before .before .before
-
-abbrev first-before : tie.After-second → tie.After-first
-first-before c = c .before .before .before .before
-
--- the table is the map's
-abbrev Map : tie.After-opcode → Type 0
-Map c = Timings (start c .args .table .now)
-
--- the byte at an offset, by the opcode's length
-abbrev operand : tie.After-opcode → (offset : ℕ) → RomByte
-operand c offset =
-    operandAt (start c .args .image .now) (start c .args .address) offset (bytesOf (entryOf (c .opcode .given .0 .0)))
-
-opcode-is : (c : tie.After-opcode)
-    → romAt (start c .args .image .now) (start c .args .address) ≡ Byte (c .opcode .given .0 .0)
-opcode-is c = sym (c .before .before .rom-byte .ensures) ∙ c .opcode .given .1
-
-length-is : (c : tie.After-timing-of) → Map (c .before .before)
+length-is : (c : tie.After-timing-of) → Timings (start (c .before .before) .args .table .now)
     → c .timing-of .result .length ≡ bytesOf (entryOf (c .before .before .opcode .given .0 .0))
 length-is c map = c .timing-of .ensures .0 ∙ map .lengths _ (search needs)
 
-first-is : (c : tie.After-first) → Map (opcode-before c) → operand (opcode-before c) 1 ≡ Byte (c .first .given .0 .0)
-first-is c map =
-    rw (← length-is (c .before .before .before) map)
-    (sym (c .before .before .operand-byte .ensures) ∙ c .first .given .1)
-
-second-is : (c : tie.After-second) → Map (opcode-before (first-before c))
-    → operand (opcode-before (first-before c)) 2 ≡ Byte (c .second .given .0 .0)
-second-is c map =
-    rw (← length-is (first-before c .before .before .before) map)
-    (sym (c .before .before .operand-byte2 .ensures) ∙ c .second .given .1)
-
-rom-byte-requires : tie.Need-rom-byte-requires
-rom-byte-requires c κs = search needs
+code-at-requires : tie.Need-code-at-requires
+code-at-requires c κs = search needs
 
 enum-known-opcode : tie.Need-enum-known-opcode
 enum-known-opcode c = search needs
@@ -59,59 +25,19 @@ enum-told : tie.Need-enum-told
 enum-told c = search needs
 
 returns : tie.Need-returns
-returns c map = rw (← c .before .before .rom-byte .ensures, c .enum-told .given .1)
+returns c h low map = rw (← c .before .before .code-at .ensures h low map, c .enum-told .given .1)
 
 timing-of-requires : tie.Need-timing-of-requires
 timing-of-requires c κs = search needs
 
-operand-byte-requires : tie.Need-operand-byte-requires
-operand-byte-requires c κs = search needs
-
-enum-known-first : tie.Need-enum-known-first
-enum-known-first c = search needs
-
-enum-told-2 : tie.Need-enum-told-2
-enum-told-2 c = search needs
-
 returns-2 : tie.Need-returns-2
-returns-2 c map =
-    let timing = c .before .before .before in
+returns-2 c h low map =
+    let timing = c .before .before in
+    let bytes = timing .before .before in
     rw (
-      opcode-is (timing .before .before),
-      ← length-is timing map,
-      ← c .before .before .operand-byte .ensures,
-      c .enum-told2 .given .1,
-    )
-
-operand-byte-requires-2 : tie.Need-operand-byte-requires-2
-operand-byte-requires-2 c κs = search needs
-
-enum-known-second : tie.Need-enum-known-second
-enum-known-second c = search needs
-
-enum-told-3 : tie.Need-enum-told-3
-enum-told-3 c = search needs
-
-returns-3 : tie.Need-returns-3
-returns-3 c map =
-    let first = c .before .before .before .before in
-    rw (
-      opcode-is (opcode-before first),
-      first-is first map,
-      ← length-is (first .before .before .before) map,
-      ← c .before .before .operand-byte2 .ensures,
-      c .enum-told3 .given .1,
-    )
-
-returns-4 : tie.Need-returns-4
-returns-4 c map =
-    let second = c .before .before .before in
-    let first = first-before second in
-    rw (
-      opcode-is (opcode-before first),
-      first-is first map,
-      second-is second map,
-      undefined _ _ _ (sym (length-is (first .before .before .before) map) ∙ c .if1 .taken),
+      ← bytes .before .before .code-at .ensures h low map,
+      bytes .opcode .given .1,
+      undefined _ _ _ (sym (length-is timing map) ∙ c .if1 .taken),
     )
 
 flow-by-requires : tie.Need-flow-by-requires
@@ -120,18 +46,17 @@ flow-by-requires c κs = search needs
 forward-requires : tie.Need-forward-requires
 forward-requires c κs = search needs
 
-returns-5 : tie.Need-returns-5
-returns-5 c map =
-    let second = c .before .before .before .before .before in
-    let first = first-before second in
-    let length = length-is (first .before .before .before) map in
+returns-3 : tie.Need-returns-3
+returns-3 c h low map =
+    let timing = c .before .before .before .before in
+    let bytes = timing .before .before in
+    let length = length-is timing map in
     rw (
       c .before .flow-by .ensures,
       c .forward .ensures,
       length,
-      opcode-is (opcode-before first),
-      first-is first map,
-      second-is second map,
+      ← bytes .before .before .code-at .ensures h low map,
+      bytes .opcode .given .1,
     )
     (sym (continues _ _ _ _ (λ none. c .before .before .if1 .left (length ∙ none))))
 
@@ -139,20 +64,12 @@ pub flow-at-spec : {M : Type 1} → statement M
 flow-at-spec =
     tie.close
     (tie.spec
-    rom-byte-requires
+    code-at-requires
     enum-known-opcode
     enum-told
     returns
     timing-of-requires
-    operand-byte-requires
-    enum-known-first
-    enum-told-2
     returns-2
-    operand-byte-requires-2
-    enum-known-second
-    enum-told-3
-    returns-3
-    returns-4
     flow-by-requires
     forward-requires
-    returns-5)
+    returns-3)

@@ -13,11 +13,13 @@ rom-byte-requires c κs = search needs
 
 returns : tie.Need-returns
 unfolding operandAt
-returns c = rw (lt-ltb _ _ (c .before .before .if1 .taken), ← c .before .forward .ensures) (c .rom-byte .ensures)
+returns c h =
+    rw (lt-ltb _ _ (c .before .before .if1 .taken), ← c .before .forward .ensures)
+    (c .rom-byte .ensures h (search needs))
 
 returns-2 : tie.Need-returns-2
 unfolding operandAt
-returns-2 c = simp (le-ltb _ _ (c .if1 .left))
+returns-2 c h = simp (le-ltb _ _ (c .if1 .left))
 
 pub operand-byte-spec : {M : Type 1} → statement M
 operand-byte-spec = tie.close (tie.spec forward-requires rom-byte-requires returns returns-2)

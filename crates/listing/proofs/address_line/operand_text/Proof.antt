@@ -16,8 +16,8 @@ letter-requires c κs = search needs
 forward-requires : tie.Need-forward-requires
 forward-requires c κs = search needs
 
-rom-byte-requires : tie.Need-rom-byte-requires
-rom-byte-requires c κs = search needs
+rom-in-requires : tie.Need-rom-in-requires
+rom-in-requires c κs = search needs
 
 rom-text-requires : tie.Need-rom-text-requires
 rom-text-requires c κs = search needs
@@ -27,7 +27,7 @@ unfolding operandByteText
 returns-2 c =
     let at-letter = c .before .before .before in
     let more = lt-leb _ _ (at-letter .before .if1 .left) in
-    rw (more, ← c .before .before .forward .ensures, ← c .before .rom-byte .ensures)
+    rw (more, ← c .before .before .forward .ensures, ← c .before .rom-in .ensures)
     (both (at-letter .letter .ensures) (c .rom-text .ensures))
 
 pub operand-text-spec : {M : Type 1} → statement M
@@ -37,6 +37,6 @@ operand-text-spec =
     returns
     letter-requires
     forward-requires
-    rom-byte-requires
+    rom-in-requires
     rom-text-requires
     returns-2)

@@ -41,7 +41,7 @@ returns c =
     let start = at-decode .before .before .before in
     let bytes : Bytes (start .args .image .now) = λ j. at-decode .before .before .shared-slice-known .given j .fits in
     let decoded = rw (known .decoded .given .1) at (at-decode .decode .ensures) in
-    let fits = text-fits (start .args .image .now) bytes (start .args .address) _ _ _ (sym decoded) in
+    let fits = text-fits (start .args .image .now) bytes (start .args .bank) (start .args .address) _ _ _ (sym decoded) in
     rw (← decoded) (rw (whole made (omega arith)) at (at-write .write .ensures))
 
 returns-2 : tie.Need-returns-2

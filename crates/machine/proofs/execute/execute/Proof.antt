@@ -209,25 +209,29 @@ returns-7 : tie.Need-returns-7
 unfolding executeOf advanceOf flowOf effectOf
 returns-7 c =
     let k = c .before .before .before .before in
+    let known = k .before .before in
+    let start = known .before .before .before .before in
     rw (
       c .goes-on6 .ensures _ _,
       c .before .branch5 .ensures,
       c .before .before .long-target .ensures,
-      k .test-bit .ensures,
+      k .test-bit .ensures (start .pre),
     )
-    (rw (k .before .before .before .instruction7 .given .1) (search needs))
+    (rw (known .before .instruction7 .given .1) (search (needs, known .known-told7 .given)))
 
 returns-8 : tie.Need-returns-8
 unfolding executeOf advanceOf flowOf effectOf
 returns-8 c =
     let k = c .before .before .before in
+    let known = k .before .before in
+    let start = known .before .before .before .before in
     rw (
       c .goes-on7 .ensures _ _,
       c .before .branch6 .ensures,
       c .before .before .long-target2 .ensures,
-      k .test-bit2 .ensures,
+      k .test-bit2 .ensures (start .pre),
     )
-    (rw (k .before .before .before .instruction8 .given .1) (search needs))
+    (rw (known .before .instruction8 .given .1) (search (needs, known .known-told8 .given)))
 
 returns-9 : tie.Need-returns-9
 unfolding executeOf advanceOf flowOf effectOf

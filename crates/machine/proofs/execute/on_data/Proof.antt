@@ -13,7 +13,10 @@ goes-on-requires : tie.Need-goes-on-requires
 goes-on-requires c κs = search needs
 
 returns : tie.Need-returns
-returns c = λ stack. rw (c .goes-on .ensures _ stack, c .before .with-pc .ensures, c .before .before .effect .ensures)
+returns c = λ stack.
+    (let effect = c .before .before in
+    let start = effect .before .before .before in
+    rw (c .goes-on .ensures _ stack, c .before .with-pc .ensures, effect .effect .ensures (start .pre)))
 
 pub on-data-spec : {M : Type 1} → statement M
 on-data-spec = tie.close (tie.spec effect-requires with-pc-requires goes-on-requires returns)

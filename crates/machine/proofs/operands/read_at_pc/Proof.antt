@@ -11,6 +11,9 @@ returns c = rw (c .if1 .taken)
 timings-requires : tie.Need-timings-requires
 timings-requires c κs = search needs
 
+element-copy-out-decode-in-range : tie.Need-element-copy-out-decode-in-range
+element-copy-out-decode-in-range c = search needs
+
 decode-in-range-requires : tie.Need-decode-in-range-requires
 decode-in-range-requires c κs = search needs
 
@@ -27,17 +30,27 @@ returns-2 : tie.Need-returns-2
 unfolding readAtPc
 returns-2 c =
     let d = c .before .before in
-    let t = d .before .before in
-    rw (t .before .if1 .left, ← d .decode-in-range .ensures (t .timings .ensures), c .enum-told .given .1)
+    let t = d .before .before .before in
+    let pre = t .before .before .before .pre in
+    rw (
+      t .before .if1 .left,
+      ← d .decode-in-range .ensures (pre .0) (pre .1) (t .timings .ensures),
+      c .enum-told .given .1,
+    )
 
 returns-3 : tie.Need-returns-3
 unfolding readAtPc
 returns-3 c =
     let i = c .before .before in
     let d = i .before .before in
-    let t = d .before .before in
-    rw (t .before .if1 .left, ← d .decode-in-range .ensures (t .timings .ensures), i .instruction .given .1)
-    (c .origin-read .ensures)
+    let t = d .before .before .before in
+    let pre = t .before .before .before .pre in
+    rw (
+      t .before .if1 .left,
+      ← d .decode-in-range .ensures (pre .0) (pre .1) (t .timings .ensures),
+      i .instruction .given .1,
+    )
+    (c .origin-read .ensures (pre .0))
 
 pub read-at-pc-spec : {M : Type 1} → statement M
 read-at-pc-spec =
@@ -45,6 +58,7 @@ read-at-pc-spec =
     (tie.spec
     returns
     timings-requires
+    element-copy-out-decode-in-range
     decode-in-range-requires
     enum-told
     enum-known-instruction

@@ -1,6 +1,7 @@
 -- `reading::read` meets its contract.
 use borrow.Author.Needs.{needs}
 use borrow.Author.Tests.{not-true, not-false}
+use mathlib.Core.Path.{sym, _∙_}
 use Rattle.machine.specs.Reading.{readingOf}
 use Rattle.machine.proofs.reading.read.Statement.{statement}
 use Rattle.machine.proofs.reading.read.Tie as tie
@@ -44,13 +45,13 @@ returns-3 c =
     let w = left .before in
     let k = w .before .before .before .before in
     let i = k .before .is-image-length in
+    let is = sym (i .ensures) ∙ not-false (i .result) (k .if1 .left) in
     rw (
-      ← i .ensures,
-      not-false (i .result) (k .if1 .left),
+      is,
       ← w .is-well-formed .ensures,
       not-false (w .is-well-formed .result) (left .if2 .left),
-      read .read .ensures,
-      c .origin .ensures,
+      read .read .ensures is,
+      c .origin .ensures is,
     )
 
 pub read-spec : {M : Type 1} → statement M

@@ -10,6 +10,9 @@ array-write-bytes c = search needs
 array-write-bytes-2 : tie.Need-array-write-bytes-2
 array-write-bytes-2 c = search needs
 
+array-write-bytes-3 : tie.Need-array-write-bytes-3
+array-write-bytes-3 c = search needs
+
 reset-control-requires : tie.Need-reset-control-requires
 reset-control-requires c κs = search needs
 
@@ -26,6 +29,7 @@ reset-spec =
     (tie.spec
     array-write-bytes
     array-write-bytes-2
+    array-write-bytes-3
     reset-control-requires
     cleared-pairs-requires
     returns)

@@ -3,6 +3,7 @@ use borrow.Author.Needs.{needs}
 use mathlib.Core.Path.{sym, _∙_}
 use native.Mathlib.Omega.{arith}
 use borrow.Author.Tests.{not-true, not-false}
+use Rattle.control.proofs.StaysWellFormed.{formed-exactly}
 use Rattle.machine.specs.Step.{stepOf}
 use Rattle.machine.specs.Operands.{stepReadOf}
 use Rattle.machine.proofs.StepByStep.{fit-one, one-step, one-step-read}
@@ -80,7 +81,13 @@ step-answer-requires : tie.Need-step-answer-requires
 step-answer-requires c κs = c .before .before .on-copy .ensures .1
 
 step-report-requires : tie.Need-step-report-requires
-step-report-requires c κs = search needs
+step-report-requires c κs =
+    let w = c .before .before .before .before .before .before .before .before in
+    let left = c .before .before .before .before .before .before .before in
+    let i = c .before .before .before .before .before .before .before .before .before .before .before .before in (
+      sym (i .before .is-image-length .ensures) ∙ not-false _ (i .if1 .left),
+      formed-exactly .facts _ _ (sym (w .is-well-formed .ensures) ∙ not-false _ (left .if2 .left)) .pc,
+    )
 
 returns-4 : tie.Need-returns-4
 returns-4 c =

@@ -59,7 +59,7 @@ returns c =
     let start = at-test .before .before .before .before in
     let loop = at-test .before .loop in
     let step =
-    stepped _ _ _ _ _ _ _ (start .pre .2) (loop .inv .2) (start .pre .4) (at-test .loop-test .taken)
+    stepped (start .args .image .now) _ (machineOf (loop .c) (loop .stack) (loop .flags) (loop .bytes)) _ _ _ _ (start .pre .2) (loop .inv .2) (start .pre .4) (at-test .loop-test .taken)
     (at-advance .before .request-at .ensures) (at-advance .advance .ensures) in
     let cycles : c .progress .result .report .cycles ≡ loop .cycles =
     ap (λ (x : Run). x .report .cycles) (c .progress .ensures [] []) in (
@@ -85,11 +85,12 @@ loop-again c =
     let moved = at-advance .advance in
     let request = at-advance .before .request-at in
     let step =
-    stepped _ _ _ _ _ _ _ (start .pre .2) (loop .inv .2) (start .pre .4) (at-test .loop-test .taken)
+    stepped (start .args .image .now) _ (machineOf (loop .c) (loop .stack) (loop .flags) (loop .bytes)) _ _ _ _ (start .pre .2) (loop .inv .2) (start .pre .4) (at-test .loop-test .taken)
     (request .ensures) (moved .ensures) in (
       omega (arith, at-test .loop-test .taken),
       omega (arith, loop .inv .1),
-      formed-step _ (λ j. known .given j .fits) _ (loop .inv .2) _ (start .pre .2) _ (moved .ensures),
+      formed-step (start .args .image .now) (λ j. known .given j .fits)
+          (machineOf (loop .c) (loop .stack) (loop .flags) (loop .bytes)) (loop .inv .2) _ (start .pre .2) _ (moved .ensures),
       one-more _ _ _ _ _ _ _ _ (loop .inv .3) (rw (c .before .answer .given .1) at step),
     )
 

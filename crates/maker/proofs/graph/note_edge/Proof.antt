@@ -1,6 +1,5 @@
 -- `graph::note_edge` meets its contract.
 use native.Mathlib.Omega.{arith}
-use mathlib.Core.Path.{refl}
 use Rattle.maker.proofs.Edges.{recorded-one}
 use borrow.Author.Needs.{needs}
 use Rattle.maker.proofs.graph.note_edge.Statement.{statement}
@@ -11,33 +10,6 @@ returns c = search needs
 
 returns-2 : tie.Need-returns-2
 returns-2 c = search needs
-
-mul-edge : tie.Need-mul-edge
-mul-edge c = search needs
-
-add-edge : tie.Need-add-edge
-add-edge c = search needs
-
-mul-links : tie.Need-mul-links
-mul-links c = search needs
-
-cast-links : tie.Need-cast-links
-cast-links c = search needs
-
-add-links : tie.Need-add-links
-add-links c = search needs
-
-add-links-2 : tie.Need-add-links-2
-add-links-2 c = search needs
-
-cast-links-2 : tie.Need-cast-links-2
-cast-links-2 c = search needs
-
-mul-links-2 : tie.Need-mul-links-2
-mul-links-2 c = search needs
-
-element-write-links : tie.Need-element-write-links
-element-write-links c = search needs
 
 cast-at : tie.Need-cast-at
 cast-at c = search needs
@@ -51,8 +23,26 @@ mul-earlier c = search needs
 element-copy-out-earlier : tie.Need-element-copy-out-earlier
 element-copy-out-earlier c = search needs
 
-cast-notes : tie.Need-cast-notes
-cast-notes c = search needs
+mul-link : tie.Need-mul-link
+mul-link c = search needs
+
+cast-link : tie.Need-cast-link
+cast-link c = search needs
+
+add-link : tie.Need-add-link
+add-link c = search needs
+
+add-link-2 : tie.Need-add-link-2
+add-link-2 c = search needs
+
+entry-of-requires : tie.Need-entry-of-requires
+entry-of-requires c κs = search needs
+
+mul-edges : tie.Need-mul-edges
+mul-edges c = search needs
+
+slice-write-edges : tie.Need-slice-write-edges
+slice-write-edges c = search needs
 
 add-notes : tie.Need-add-notes
 add-notes c = search needs
@@ -63,23 +53,20 @@ mul-notes c = search needs
 element-write-notes : tie.Need-element-write-notes
 element-write-notes c = search needs
 
-add-notes-2 : tie.Need-add-notes-2
-add-notes-2 c = search needs
-
-mul-notes-2 : tie.Need-mul-notes-2
-mul-notes-2 c = search needs
-
-element-write-notes-2 : tie.Need-element-write-notes-2
-element-write-notes-2 c = search needs
-
 push-requires : tie.Need-push-requires
 push-requires c κs = search needs
 
+same-length : tie.Need-same-length
+same-length c = search needs
+
 returns-3 : tie.Need-returns-3
-returns-3 c = recorded-one _ _ _ _ _ _ _ (omega arith) refl refl
+returns-3 c = recorded-one _ _ _ _ _ _ (omega arith) (c .before .before .before .entry-of .ensures)
+
+same-length-2 : tie.Need-same-length-2
+same-length-2 c = search needs
 
 returns-4 : tie.Need-returns-4
-returns-4 c = recorded-one _ _ _ _ _ _ _ (omega arith) refl refl
+returns-4 c = recorded-one _ _ _ _ _ _ (omega arith) (c .before .entry-of .ensures)
 
 pub note-edge-spec : {M : Type 1} → statement M
 note-edge-spec =
@@ -87,26 +74,22 @@ note-edge-spec =
     (tie.spec
     returns
     returns-2
-    mul-edge
-    add-edge
-    mul-links
-    cast-links
-    add-links
-    add-links-2
-    cast-links-2
-    mul-links-2
-    element-write-links
     cast-at
     add-at
     mul-earlier
     element-copy-out-earlier
-    cast-notes
+    mul-link
+    cast-link
+    add-link
+    add-link-2
+    entry-of-requires
+    mul-edges
+    slice-write-edges
     add-notes
     mul-notes
     element-write-notes
-    add-notes-2
-    mul-notes-2
-    element-write-notes-2
     push-requires
+    same-length
     returns-3
+    same-length-2
     returns-4)

@@ -2,7 +2,7 @@
 use mathlib.Core.Path.{sym, _∙_}
 use borrow.Author.Tests.{not-true, not-false}
 use Rattle.certificate.specs.Marks.{markAt}
-use Rattle.maker.proofs.Following.{possible, successors-small, visits-none, visits-undecodable, visits-misplaced}
+use Rattle.maker.proofs.Following.{in-space, possible, successors-small, visits-none, visits-undecodable, visits-misplaced}
 use Rattle.maker.proofs.Following.{visits-ended, visits}
 use borrow.Author.Needs.{needs}
 use Rattle.maker.proofs.marking.visit.Statement.{statement}
@@ -24,7 +24,7 @@ returns : tie.Need-returns
 returns c =
     let at-mark-at = c .before .before .before in
     rw (c .ended .ensures .0, c .ended .ensures .1)
-    (visits-none _ _ _ _ (rw (at-mark-at .mark-at .ensures) at (c .before .before .kind-of .ensures))
+    (visits-none _ _ _ _ _ (rw (at-mark-at .mark-at .ensures) at (c .before .before .kind-of .ensures))
     (c .before .if1 .taken))
 
 decode-in-range-requires : tie.Need-decode-in-range-requires
@@ -50,9 +50,11 @@ returns-2 c =
     let at-mark-at = at-kind-of .before in
     let entry = at-mark-at .before .before .before .before in
     rw (c .ended2 .ensures .0, c .ended2 .ensures .1)
-    (visits-undecodable _ _ _ _ (rw (at-mark-at .mark-at .ensures) at (at-kind-of .kind-of .ensures))
+    (visits-undecodable _ _ _ _ _ (rw (at-mark-at .mark-at .ensures) at (at-kind-of .kind-of .ensures))
     (at-if1 .if1 .left)
-    (rw (c .before .enum-told .given .1) at (at-decode-in-range .decode-in-range .ensures (entry .pre))))
+    (rw (c .before .enum-told .given .1) at (at-decode-in-range .decode-in-range .ensures (entry .pre .1)
+    (in-space _ _ _ (rw (at-mark-at .mark-at .ensures) at (at-kind-of .kind-of .ensures)) (at-if1 .if1 .left))
+    (entry .pre .0))))
 
 flow-of-requires : tie.Need-flow-of-requires
 flow-of-requires c κs = search needs
@@ -76,9 +78,11 @@ returns-3 c =
     let at-mark-at = at-kind-of .before in
     let entry = at-mark-at .before .before .before .before in
     rw (c .ended3 .ensures .0, c .ended3 .ensures .1)
-    (visits-misplaced _ _ _ _ (rw (at-mark-at .mark-at .ensures) at (at-kind-of .kind-of .ensures))
+    (visits-misplaced _ _ _ _ _ (rw (at-mark-at .mark-at .ensures) at (at-kind-of .kind-of .ensures))
     (at-if1 .if1 .left)
-    (rw (at-instruction .instruction .given .1) at (at-decode-in-range .decode-in-range .ensures (entry .pre)))
+    (rw (at-instruction .instruction .given .1) at (at-decode-in-range .decode-in-range .ensures (entry .pre .1)
+    (in-space _ _ _ (rw (at-mark-at .mark-at .ensures) at (at-kind-of .kind-of .ensures)) (at-if1 .if1 .left))
+    (entry .pre .0)))
     (rw (← at-flow-of .flow-of .ensures)
     (sym (c .before .before .is-placed .ensures)
     ∙ not-true (c .before .before .is-placed .result) (c .before .if2 .taken))))
@@ -123,9 +127,11 @@ returns-4 c =
     let at-mark-at = at-kind-of .before in
     let entry = at-mark-at .before .before .before .before in
     rw (c .ended4 .ensures .0, c .ended4 .ensures .1)
-    (visits-ended _ _ _ _ (rw (at-mark-at .mark-at .ensures) at (at-kind-of .kind-of .ensures))
+    (visits-ended _ _ _ _ _ (rw (at-mark-at .mark-at .ensures) at (at-kind-of .kind-of .ensures))
     (at-if1 .if1 .left)
-    (rw (at-instruction .instruction .given .1) at (at-decode-in-range .decode-in-range .ensures (entry .pre)))
+    (rw (at-instruction .instruction .given .1) at (at-decode-in-range .decode-in-range .ensures (entry .pre .1)
+    (in-space _ _ _ (rw (at-mark-at .mark-at .ensures) at (at-kind-of .kind-of .ensures)) (at-if1 .if1 .left))
+    (entry .pre .0)))
     (rw (← at-flow-of .flow-of .ensures)
     (sym (at-is-placed .is-placed .ensures) ∙ not-false (at-is-placed .is-placed .result) (at-if2 .if2 .left)))
     (rw (
@@ -154,8 +160,10 @@ returns-5 c =
     let at-mark-at = at-kind-of .before in
     let entry = at-mark-at .before .before .before .before in
     rw (at-successors-of .successors-of .ensures, at-flow-of .flow-of .ensures, at-forward .forward .ensures)
-    (visits _ _ _ _ (rw (at-mark-at .mark-at .ensures) at (at-kind-of .kind-of .ensures)) (at-if1 .if1 .left)
-    (rw (at-instruction .instruction .given .1) at (at-decode-in-range .decode-in-range .ensures (entry .pre)))
+    (visits _ _ _ _ _ (rw (at-mark-at .mark-at .ensures) at (at-kind-of .kind-of .ensures)) (at-if1 .if1 .left)
+    (rw (at-instruction .instruction .given .1) at (at-decode-in-range .decode-in-range .ensures (entry .pre .1)
+    (in-space _ _ _ (rw (at-mark-at .mark-at .ensures) at (at-kind-of .kind-of .ensures)) (at-if1 .if1 .left))
+    (entry .pre .0)))
     (rw (← at-flow-of .flow-of .ensures)
     (sym (at-is-placed .is-placed .ensures) ∙ not-false (at-is-placed .is-placed .result) (at-if2 .if2 .left)))
     (rw (at-successors-of .successors-of .ensures, at-flow-of .flow-of .ensures, at-forward .forward .ensures)

@@ -8,15 +8,16 @@ use Rattle.maker.proofs.spread.explore.Statement.{statement}
 use Rattle.maker.proofs.spread.explore.Tie as tie
 
 abbrev Inv-loop : tie.InvT-loop
-Inv-loop table image marks₀ links₀ notes₀ progress₀ left₀ marks links notes progress left =
+Inv-loop table image spaces marks₀ edges₀ notes₀ progress₀ left₀ marks edges notes progress left =
     (length marks ≡ length marks₀)
-    × Explored image marks₀ marks links₀ links progress
+    × (length edges ≡ length edges₀)
+    × Explored image marks₀ marks edges₀ edges progress
 
 abbrev μ-loop : tie.MeasureT-loop
-μ-loop table image marks₀ links₀ notes₀ progress₀ left₀ marks links notes progress left = left
+μ-loop table image spaces marks₀ edges₀ notes₀ progress₀ left₀ marks edges notes progress left = left
 
 loop-holds : tie.Need-loop-holds Inv-loop μ-loop
-loop-holds c = (search needs, explored-none)
+loop-holds c = (search needs, search needs, explored-none)
 
 is-empty-requires : tie.Need-is-empty-requires Inv-loop μ-loop
 is-empty-requires c κs = search needs
@@ -24,8 +25,11 @@ is-empty-requires c κs = search needs
 same-length : tie.Need-same-length Inv-loop μ-loop
 same-length c = search needs
 
+same-length-2 : tie.Need-same-length-2 Inv-loop μ-loop
+same-length-2 c = search needs
+
 returns : tie.Need-returns Inv-loop μ-loop
-returns c = c .before .before .before .before .loop .inv .1
+returns c = c .before .before .before .before .loop .inv .2
 
 explore-one-requires : tie.Need-explore-one-requires Inv-loop μ-loop
 explore-one-requires c κs = search needs
@@ -41,17 +45,21 @@ loop-less c = search needs
 
 loop-again : tie.Need-loop-again Inv-loop μ-loop
 loop-again c =
-    let at-explore-one = c .before .before .before in
+    let at-explore-one = c .before .before .before .before .before in
     let at-loop = at-explore-one .before .before .before .before .before .before .before .before in (
       search needs,
-      rw (c .join .ensures) (explored-more (at-loop .loop .inv .1) (at-explore-one .explore-one .ensures)),
+      search needs,
+      rw (c .join .ensures) (explored-more (at-loop .loop .inv .2) (at-explore-one .explore-one .ensures)),
     )
 
-same-length-2 : tie.Need-same-length-2 Inv-loop μ-loop
-same-length-2 c = search needs
+same-length-3 : tie.Need-same-length-3 Inv-loop μ-loop
+same-length-3 c = search needs
+
+same-length-4 : tie.Need-same-length-4 Inv-loop μ-loop
+same-length-4 c = search needs
 
 returns-2 : tie.Need-returns-2 Inv-loop μ-loop
-returns-2 c = c .before .loop .inv .1
+returns-2 c = c .before .loop .inv .2
 
 pub explore-spec : {M : Type 1} → statement M
 explore-spec =
@@ -62,11 +70,13 @@ explore-spec =
     loop-holds
     is-empty-requires
     same-length
+    same-length-2
     returns
     explore-one-requires
     join-requires
     sub-left
     loop-less
     loop-again
-    same-length-2
+    same-length-3
+    same-length-4
     returns-2)

@@ -8,12 +8,12 @@ use Rattle.maker.proofs.spread.raise.Statement.{statement}
 use Rattle.maker.proofs.spread.raise.Tie as tie
 
 abbrev Inv-loop : tie.InvT-loop
-Inv-loop marks₀ links notes₀ progress₀ left₀ marks notes progress left =
+Inv-loop marks₀ edges notes₀ progress₀ left₀ marks notes progress left =
     (length marks ≡ length marks₀)
-    × Raised links marks₀ marks progress
+    × Raised edges marks₀ marks progress
 
 abbrev μ-loop : tie.MeasureT-loop
-μ-loop marks₀ links notes₀ progress₀ left₀ marks notes progress left = left
+μ-loop marks₀ edges notes₀ progress₀ left₀ marks notes progress left = left
 
 loop-holds : tie.Need-loop-holds Inv-loop μ-loop
 loop-holds c = (search needs, raised-none)

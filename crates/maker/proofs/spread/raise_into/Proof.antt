@@ -8,12 +8,12 @@ use Rattle.maker.proofs.spread.raise_into.Statement.{statement}
 use Rattle.maker.proofs.spread.raise_into.Tie as tie
 
 abbrev Inv-loop : tie.InvT-loop
-Inv-loop marks₀ links notes₀ to progress₀ noted₀ left₀ marks notes progress noted left =
+Inv-loop marks₀ edges notes₀ to progress₀ noted₀ left₀ marks notes progress noted left =
     (length marks ≡ length marks₀)
-    × Raised links marks₀ marks progress
+    × Raised edges marks₀ marks progress
 
 abbrev μ-loop : tie.MeasureT-loop
-μ-loop marks₀ links notes₀ to progress₀ noted₀ left₀ marks notes progress noted left = left
+μ-loop marks₀ edges notes₀ to progress₀ noted₀ left₀ marks notes progress noted left = left
 
 last-edge-requires : tie.Need-last-edge-requires Inv-loop μ-loop
 last-edge-requires c κs = search needs
@@ -47,10 +47,10 @@ loop-less c = search needs
 
 loop-again : tie.Need-loop-again Inv-loop μ-loop
 loop-again c =
-    let at-raise-one = c .before .before .before .before .before in
+    let at-raise-one = c .before .before .before .before in
     let at-loop = at-raise-one .before .before .before .before .before .before in (
       search needs,
-      rw (c .before .before .join .ensures)
+      rw (c .before .join .ensures)
           (raised-more (at-loop .loop .inv .1) (at-raise-one .raise-one .ensures)),
     )
 

@@ -7,17 +7,14 @@ use borrow.Author.Needs.{needs}
 use Rattle.maker.proofs.spread.raise_one.Statement.{statement}
 use Rattle.maker.proofs.spread.raise_one.Tie as tie
 
-cast-link : tie.Need-cast-link
-cast-link c = search needs
-
-mul-link : tie.Need-mul-link
-mul-link c = search needs
-
-element-copy-out-link : tie.Need-element-copy-out-link
-element-copy-out-link c = search needs
+link-at-requires : tie.Need-link-at-requires
+link-at-requires c κs = search needs
 
 returns : tie.Need-returns
 returns c = search needs
+
+from-of-requires : tie.Need-from-of-requires
+from-of-requires c κs = search needs
 
 sub-need-at : tie.Need-sub-need-at
 sub-need-at c = search needs
@@ -57,20 +54,22 @@ same-length-2 c = search needs
 
 returns-3 : tie.Need-returns-3
 returns-3 c =
-    let at-kind-at = c .before .before .before in
+    let at-demand = c .before .before in
+    let at-kind-at = at-demand .before in
     let at-need-at = at-kind-at .before .before .before .before .before .before .before in
-    let at-if1 = at-need-at .before .before in
-    raised-one _ _ refl (at-if1 .if1 .left)
-    (rw (at-kind-at .kind-at .ensures, at-need-at .need-at .ensures) at (c .before .before .demand .ensures))
+    let at-from-of = at-need-at .before .before in
+    let at-if1 = at-from-of .before in
+    raised-one _ _ (at-if1 .before .link-at .ensures) (at-if1 .if1 .left)
+    (rw (at-kind-at .kind-at .ensures, at-from-of .from-of .ensures, at-need-at .need-at .ensures) at
+    (at-demand .demand .ensures))
 
 pub raise-one-spec : {M : Type 1} → statement M
 raise-one-spec =
     tie.close
     (tie.spec
-    cast-link
-    mul-link
-    element-copy-out-link
+    link-at-requires
     returns
+    from-of-requires
     sub-need-at
     need-at-requires
     sub-need

@@ -1,37 +1,37 @@
 -- `spread::spread` meets its contract.
-use Rattle.maker.proofs.Edges.{spreads}
 use borrow.Author.Needs.{needs}
 use Rattle.maker.proofs.spread.spread.Statement.{statement}
 use Rattle.maker.proofs.spread.spread.Tie as tie
 
-find-vectors-requires : tie.Need-find-vectors-requires
-find-vectors-requires c κs = search needs
+spaces-in-requires : tie.Need-spaces-in-requires
+spaces-in-requires c κs = search needs
 
-explore-requires : tie.Need-explore-requires
-explore-requires c κs = search needs
+spread-unpaged-requires : tie.Need-spread-unpaged-requires
+spread-unpaged-requires c κs = search needs
 
-raise-requires : tie.Need-raise-requires
-raise-requires c κs = search needs
-
-join-requires : tie.Need-join-requires
-join-requires c κs = search needs
+spread-paged-requires : tie.Need-spread-paged-requires
+spread-paged-requires c κs = search needs
 
 same-length : tie.Need-same-length
 same-length c = search needs
 
 returns : tie.Need-returns
-returns c =
-    let at-raise = c .before .before .before in
-    let at-explore = at-raise .before .before .before .before .before .before in
-    rw (c .join .ensures) (spreads (at-explore .explore .ensures) (at-raise .raise .ensures))
+returns c = search needs
+
+same-length-2 : tie.Need-same-length-2
+same-length-2 c = search needs
+
+returns-2 : tie.Need-returns-2
+returns-2 c = search needs
 
 pub spread-spec : {M : Type 1} → statement M
 spread-spec =
     tie.close
     (tie.spec
-    find-vectors-requires
-    explore-requires
-    raise-requires
-    join-requires
+    spaces-in-requires
+    spread-unpaged-requires
+    spread-paged-requires
     same-length
-    returns)
+    returns
+    same-length-2
+    returns-2)

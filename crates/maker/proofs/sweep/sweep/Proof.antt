@@ -23,11 +23,11 @@ sub-address c = search needs
 loop-holds : tie.Need-loop-holds Inv-loop μ-loop
 loop-holds c = (search needs, search needs, passed-none refl)
 
-cast-visit : tie.Need-cast-visit Inv-loop μ-loop
-cast-visit c = search needs
+cast-visit-each : tie.Need-cast-visit-each Inv-loop μ-loop
+cast-visit-each c = search needs
 
-visit-requires : tie.Need-visit-requires Inv-loop μ-loop
-visit-requires c κs = search needs
+visit-each-requires : tie.Need-visit-each-requires Inv-loop μ-loop
+visit-each-requires c κs = search needs
 
 join-requires : tie.Need-join-requires Inv-loop μ-loop
 join-requires c κs = search needs
@@ -44,7 +44,7 @@ loop-again c =
     let at-loop = at-visit .before .before .before in (
       search needs,
       search needs,
-      rw (c .join .ensures) (passed-more (at-loop .loop .inv .2) (λ w s. at-visit .visit .ensures w s .0)),
+      rw (c .join .ensures) (passed-more (at-loop .loop .inv .2) (at-visit .visit-each .ensures)),
     )
 
 same-length : tie.Need-same-length Inv-loop μ-loop
@@ -61,8 +61,8 @@ sweep-spec =
     μ-loop
     sub-address
     loop-holds
-    cast-visit
-    visit-requires
+    cast-visit-each
+    visit-each-requires
     join-requires
     add-address
     loop-less

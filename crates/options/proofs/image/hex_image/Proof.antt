@@ -1,6 +1,6 @@
 -- `image::hex_image` meets its contract: by the size that is asked for.
 use mathlib.Core.Path.{_∙_}
-use Rattle.options.proofs.ImageLaws.{as-none, half-read, lowest-read, space-read}
+use Rattle.options.proofs.ImageLaws.{as-none, large-read, lowest-read, small-read}
 use borrow.Author.Needs.{needs}
 use Rattle.options.proofs.image.hex_image.Statement.{statement}
 use Rattle.options.proofs.image.hex_image.Tie as tie
@@ -26,11 +26,29 @@ sized-requires c κs = search needs
 enum-told-2 : tie.Need-enum-told-2
 enum-told-2 c = search needs
 
+sub-read-2 : tie.Need-sub-read-2
+sub-read-2 c = search needs
+
+part-read-start-2 : tie.Need-part-read-start-2
+part-read-start-2 c = search needs
+
+part-read-end-2 : tie.Need-part-read-end-2
+part-read-end-2 c = search needs
+
 read-requires-2 : tie.Need-read-requires-2
 read-requires-2 c κs = search needs
 
 sized-requires-2 : tie.Need-sized-requires-2
 sized-requires-2 c κs = search needs
+
+sub-read-3 : tie.Need-sub-read-3
+sub-read-3 c = search needs
+
+part-read-start-3 : tie.Need-part-read-start-3
+part-read-start-3 c = search needs
+
+part-read-end-3 : tie.Need-part-read-end-3
+part-read-end-3 c = search needs
 
 read-requires-3 : tie.Need-read-requires-3
 read-requires-3 c κs = search needs
@@ -48,7 +66,7 @@ returns c =
     let start = told .before .before .before .before in
     let args = start .args in
     rw (told .enum-told .given .1)
-    (half-read (args .space .now) (start .pre) (args .file .now) (args .fill) _ (at-read .read .result) _
+    (small-read (args .space .now) (start .pre) (args .file .now) (args .fill) _ (at-read .read .result) _
     (at-read .read .ensures) (c .sized .ensures))
 
 same-length-2 : tie.Need-same-length-2
@@ -61,7 +79,7 @@ returns-2 c =
     let start = told .before .before .before .before in
     let args = start .args in
     rw (told .enum-told2 .given .1)
-    (space-read (args .space .now) (start .pre) (args .file .now) (args .fill) _ (at-read .read2 .result) _
+    (large-read (args .space .now) (start .pre) (args .file .now) (args .fill) _ (at-read .read2 .result) _
     (at-read .read2 .ensures) (c .sized2 .ensures))
 
 same-length-3 : tie.Need-same-length-3
@@ -88,8 +106,14 @@ hex-image-spec =
     read-requires
     sized-requires
     enum-told-2
+    sub-read-2
+    part-read-start-2
+    part-read-end-2
     read-requires-2
     sized-requires-2
+    sub-read-3
+    part-read-start-3
+    part-read-end-3
     read-requires-3
     by-lowest-requires
     same-length

@@ -20,8 +20,8 @@ begin-vectors-requires c κs = search needs
 loop-holds : tie.Need-loop-holds Inv-loop μ-loop
 loop-holds c = search needs
 
-pass-requires : tie.Need-pass-requires Inv-loop μ-loop
-pass-requires c κs = search needs
+pass-pages-requires : tie.Need-pass-pages-requires Inv-loop μ-loop
+pass-pages-requires c κs = search needs
 
 same-length : tie.Need-same-length Inv-loop μ-loop
 same-length c = search needs
@@ -53,7 +53,7 @@ attempt-spec =
     timings-requires
     begin-vectors-requires
     loop-holds
-    pass-requires
+    pass-pages-requires
     same-length
     returns
     sub-passes
