@@ -1,6 +1,6 @@
 -- `parts::page_in` meets its contract.
 use native.Mathlib.Omega.{arith}
-use Prim.Native.Nat.{_-_, _/_}
+use Prim.Native.Nat.{_+_, _-_, _*_, _/_, _%_, _≤_}
 use mathlib.Core.Path.{_≡_, sym}
 use lib.ListN.{length, length-take}
 use Rattle.isa.specs.Rom.{spacesIn}
@@ -16,6 +16,11 @@ start c = c .before
 pages : (c : tie.Else1) → (length (start c .args .image .now) - 2048) / 2048 ≡ spacesIn (length (start c .args .image .now))
 pages c = omega arith
 
+-- the page that is picked lies before the fixed half
+fits : (c : tie.Else1) → start c .args .bank % ((length (start c .args .image .now) - 2048) / 2048) * 2048 + 2048
+    ≤ length (start c .args .image .now) - 2048
+fits c = rw (pages c) (page-fits (start c .args .image .now) (start c .args .bank) (omega arith))
+
 sub-end : tie.Need-sub-end
 sub-end c = search needs
 
@@ -29,10 +34,10 @@ rem-start : tie.Need-rem-start
 rem-start c = search needs
 
 mul-start : tie.Need-mul-start
-mul-start c = rw (pages c) (omega (arith, page-fits (start c .args .image .now) (start c .args .bank) (omega arith)))
+mul-start c = omega (arith, fits c)
 
 add-result : tie.Need-add-result
-add-result c = rw (pages c) (omega (arith, page-fits (start c .args .image .now) (start c .args .bank) (omega arith)))
+add-result c = omega (arith, fits c)
 
 sub-result : tie.Need-sub-result
 sub-result c = search needs
@@ -41,7 +46,7 @@ part-result-start : tie.Need-part-result-start
 part-result-start c = search needs
 
 part-result-end : tie.Need-part-result-end
-part-result-end c = rw (pages c) (omega (arith, page-fits (start c .args .image .now) (start c .args .bank) (omega arith)))
+part-result-end c = omega (arith, fits c)
 
 returns-2 : tie.Need-returns-2
 returns-2 c = rw (cancel, pages (c .before)) (sym (page-picked _ _ (omega arith)))
