@@ -678,6 +678,67 @@ class Pages(Command):
             self.assertIn(st62(*words, preexec_fn=limit).code, (0, 1), words)
 
 
+class Services(Command):
+    """In a trace: where a taken request comes back to, and which request a RETI ends. All services call 8F0h, and so
+    does the main code, which then sleeps."""
+
+    FIXED = {0xFFE: jump(9, 0x880), 0x880: [0x0D, 0xC8, 0x10, 0x4D] + jump(1, 0x8F0) + [0x6D] + jump(9, 0x884), 0x8F0: [0x04, 0xCD],
+             **{vector: jump(9, 0x900 + vector % 256) for vector in VECTORS.values()},
+             **{0x900 + vector % 256: jump(1, 0x8F0) + [0x4D] for vector in VECTORS.values()}}
+
+    def traced(self, image, requests):
+        """The lines of the steps, their last one left out."""
+        words = [word for request in requests for word in ('--request', request)]
+        ended = st62('trace', image, '--steps', '400', *words)
+        self.assertEqual((ended.code, ended.err), (0, ''))
+        return ended.out.split('\n')[:400]
+
+    def follow(self, lines):
+        """The requests whose services ended, each followed from its taking by a stack of our own."""
+        begun, ended = [], []
+        for line, after in zip(lines, lines[1:]):
+            taken = re.search(r' takes (nmi|[1-4]) .*; comes back to ([0-9A-F]{3})$', line)
+            end = re.search(r' RETI .*; ends (nmi|[1-4])$', line)
+            self.assertEqual(bool(taken or end), 'comes back' in line or 'ends' in line, line)
+            if taken:
+                begun.append((taken[1], taken[2]))
+                self.assertEqual(taken[2], line.split()[1][-3:])
+            if end:
+                self.assertEqual((end[1], after.split()[1][-3:]), begun.pop(), line)
+                ended.append((end[1], len(begun)))
+        return ended
+
+    def random_requests(self, rng):
+        return [f'{step}={rng.choice(SOURCES)}' for step in range(400) if rng.random() < 0.2]
+
+    def test_followed(self):
+        """Of every source in normal mode, and of NMI within another service."""
+        image = self.file('image', halves(self.FIXED))
+        self.accepted(5, 'check', '--wired', ','.join(SOURCES), image)
+        rng, ended = random.Random(214), set()
+        for _ in range(20):
+            ended.update(self.follow(self.traced(image, self.random_requests(rng))))
+        self.assertEqual(ended, {(source, 0) for source in SOURCES} | {('nmi', 1)})
+
+    def test_pages(self):
+        """NMI's service changes the page: the address it comes back to has no page in its line."""
+        loop = {0x3F0: jump(9, 0x3F0)}
+        image = self.file('image', halves(loop, loop, {
+            0xFFE: jump(9, 0x880), 0x880: [0x4D] + jump(9, 0x3F0), 0xFFC: jump(9, 0x890), 0x890: [0x0D, 0xCA, 0x01, 0x4D]}))
+        self.accepted(1, 'check', '--wired', 'nmi', image)
+        lines = self.traced(image, ['3=nmi'])
+        self.assertEqual(self.follow(lines), [('nmi', 0)])
+        self.assertTrue(lines[3].endswith('; comes back to 3F0'), lines[3])
+        self.assertEqual([lines[step].split()[1] for step in (3, 7)], ['0:3F0', '1:3F0'])
+
+    def test_start_up(self):
+        """The RETI of start-up ends no request, and one that stops has no line."""
+        lines = st62('trace', PUMP, '--steps', '2').out.split('\n')
+        self.assertNotIn('ends', lines[1])
+        ended = st62('trace', self.file('image', halves({0xFFE: [0x4D, 0x4D]})), '--steps', '3')
+        self.assertNotIn('ends', ended.out)
+
+
 class Certificates(Command):
     """Certificates that are written and read back."""
 

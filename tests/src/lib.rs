@@ -12,6 +12,7 @@ pub mod library;
 pub mod maker;
 pub mod player;
 pub mod record;
+pub mod services;
 
 #[cfg(feature = "mock")]
 pub mod mock;

@@ -8,6 +8,7 @@ mod check;
 mod make;
 mod origin;
 mod play;
+mod traces;
 mod write_only;
 
 use crate::boundary;
@@ -20,7 +21,7 @@ pub use origin::read;
 pub use play::play;
 
 /// The faults that can be injected.
-pub const FAULTS: [&str; 235] = [
+pub const FAULTS: [&str; 259] = [
     "decode-bit",      // bit numbers unreversed
     "com-carry",       // COM leaves C clear
     "rlc-low",         // RLC shifts in 0
@@ -256,6 +257,30 @@ pub const FAULTS: [&str; 235] = [
     "paged-job",       // jobs take them
     "play-bank-0",     // a playing keeps page 0
     "play-unpaged",    // images with pages are refused
+    "trace-next",      // NMI's taking saves the next address
+    "trace-wake",      // one that wakes a sleeper saves the address before
+    "trace-bottom",    // one on two levels or more clears the bottom address
+    "trace-fifth",     // one on five levels loses it
+    "trace-over",      // NMI in interrupt mode sets NMI over normal
+    "trace-cleared",   // a taking clears the interrupted pair
+    "trace-two",       // RETI in NMI over interrupt pops two
+    "trace-mode",      // it returns to normal mode
+    "trace-pair",      // it copies the NMI pair to the interrupt pair
+    "trace-pair-nmi",  // RETI in interrupt mode copies it to the normal pair
+    "trace-empty",     // RETI in interrupt mode empties the stack
+    "trace-late",      // RETI in NMI over normal goes on one address later
+    "trace-run",       // RETI in any service does, in runs
+    "trace-asleep",    // RETI to the address after a STOP or WAIT sleeps on
+    "trace-flags",     // a source's service sets the flags of both pairs
+    "trace-flags-nmi", // NMI's service sets those of the interrupt pair too
+    "trace-page",      // a change of page in a service alters the top address
+    "trace-call",      // CALL in a service pushes over the address beneath too
+    "trace-ret",       // RET in a service pops two
+    "trace-store",     // a host's store in a service clears the bottom address
+    "trace-enable",    // one that clears the enable bit sets normal mode
+    "trace-10",        // a refused store in a service changes the normal pair
+    "trace-11",        // a refused step in a service raises the bottom address
+    "trace-12",        // a refused run in a service empties the stack
 ];
 
 fn fault() -> Option<&'static str> {
@@ -310,6 +335,7 @@ fn any_step(in_run: bool, image: &[u8], state: &mut [u8], request: u32, bank: u8
     if faulty("bank-taken") && answer == 1 << 24 {
         state[0xCA] = 0;
     }
+    traces::after_step(in_run, &seen, &before, state, answer);
     bank::told_by_index(image, bank, answer)
 }
 
@@ -373,6 +399,7 @@ pub fn run(image: &[u8], state: &mut [u8], requests: &[u8], n: u32, report: &mut
         if faulty("run-report") && report.len() >= 8 {
             report[..8].fill(0);
         }
+        traces::after_refused_run(state, answer);
         return answer;
     }
     state.copy_from_slice(&before);
@@ -443,6 +470,7 @@ pub fn store(state: &mut [u8], address: u32, value: u32) -> u64 {
         (Some("bank-store"), 0xCA) if answer == 0 => state[0xCA] &= 0x1F,
         _ => {}
     }
+    traces::after_store(state, address, answer);
     answer
 }
 

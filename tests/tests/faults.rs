@@ -15,6 +15,7 @@ fn part_of(fault: &str) -> Option<&'static str> {
         Some("bank") => Some("banks"),
         Some("paged") => Some("pages"),
         Some("play" | "long") => Some("playing"),
+        Some("trace") => Some("services"),
         _ => None,
     }
 }
@@ -118,61 +119,126 @@ fn playing_is_its_entries() {
     }
 }
 
+/// The report on a fault in services, with nothing compared.
+fn told_alone(fault: &str) -> String {
+    let output = compare(Some(fault), None, &["--alone"]);
+    let text = String::from_utf8_lossy(&output.stdout);
+    assert_eq!(output.status.code(), Some(1), "{fault} is not found\n{text}");
+    let line = text.lines().find(|line| line.starts_with("DIFFERENCE"));
+    line.unwrap_or_else(|| panic!("{fault}\n{text}")).to_string()
+}
+
+/// Each fault in services is seen on the library's machines, with nothing
+/// compared, but for the one that only runs have; and each kind of trace is told.
+#[test]
+fn services_are_followed() {
+    for fault in FAULTS.iter().filter(|fault| part_of(fault) == Some("services")) {
+        let title = match *fault {
+            "trace-run" => "DIFFERENCE between a run and its steps",
+            _ => "DIFFERENCE: a service left a trace",
+        };
+        let told = told_alone(fault);
+        assert!(told.starts_with(title), "{fault}: {told}");
+    }
+    for (fault, trace) in [
+        ("trace-12", "Levels"),
+        ("trace-bottom", "Beneath"),
+        ("trace-next", "Pushed"),
+        ("trace-over", "Set"),
+        ("trace-late", "Address"),
+        ("trace-mode", "Mode"),
+        ("trace-flags", "Flags"),
+        ("trace-empty", "Returns"),
+        ("trace-asleep", "Asleep"),
+        ("sleep-stop", "Sleeper"),
+        ("trace-ret", "End"),
+    ] {
+        let told = told_alone(fault);
+        assert!(told.contains(trace), "{fault}: {told}");
+    }
+}
+
+/// What the bench cases alone don't meet, by the titles that it is printed
+/// under.
+const NOT_MET: [(&str, &[&str]); 5] = [
+    (
+        "write-only registers",
+        &[
+            " SET 0C8h in single steps,",
+            " LD-A direct 0C9h in runs,",
+            " CP (Y) 0C8h in runs,",
+            " source taken in single steps,",
+            " source not enabled in runs,",
+            " page in runs,",
+            " read 0C8h, read 0C9h",
+        ],
+    ),
+    (
+        "playings",
+        &[
+            " record 28 short,",
+            " record 28 too few for version 2,",
+            " record 30 too many,",
+            " record 29 cut store,",
+            " record 29 cut store in version 2,",
+            " entries most of version 1,",
+            " bytes least of version 2,",
+            " bytes most of version 2,",
+            " beyond version 1 ended later,",
+            " version 1 played taken request,",
+            " version 1 ended by 6 middle,",
+            " version 2 played idle step,",
+            " version 2 ended by 11 last,",
+            " version 2 entry by entry, version 2 demand 3",
+        ],
+    ),
+    (
+        "pages",
+        &[
+            " reset of one in an ill-formed machine,",
+            " a bank beyond its byte,",
+            " decode of 2 halves,",
+            " make of 10 halves,",
+            " play of bad lengths,",
+            " single step: all of 9 pages,",
+            " window of a step: all bank bytes,",
+            " step in a run FFFh to 000h,",
+            " changed in runs by LD-to (Y),",
+            " changed in runs by DEC (Y)",
+        ],
+    ),
+    (
+        "programs with pages",
+        &[
+            " 14, 18, 19, 13 for a certificate as long as the image,",
+            " a greater number with an earlier page,",
+            " 17 with page 8,",
+            " made with pages,",
+            " none made with pages: two kinds,",
+        ],
+    ),
+    (
+        "services",
+        &[
+            " ended, with a sleeper woken from WAIT,",
+            " ended, with a run refused with 12,",
+            " ended, with the return into another page,",
+            " open at the end of a list,",
+            " begun by source NMI,",
+            " ended by interrupted mode interrupt,",
+            " ended by size 9 pages,",
+            " ended by levels beneath 5,",
+            " moments",
+        ],
+    ),
+];
+
 #[test]
 fn what_was_not_met_is_printed() {
     let output = compare(None, Some("bench cases"), &[]);
     let text = String::from_utf8_lossy(&output.stdout);
-    let registers = [
-        " SET 0C8h in single steps,",
-        " LD-A direct 0C9h in runs,",
-        " CP (Y) 0C8h in runs,",
-        " source taken in single steps,",
-        " source not enabled in runs,",
-        " page in runs,",
-        " read 0C8h, read 0C9h",
-    ];
-    let playings = [
-        " record 28 short,",
-        " record 28 too few for version 2,",
-        " record 30 too many,",
-        " record 29 cut store,",
-        " record 29 cut store in version 2,",
-        " entries most of version 1,",
-        " bytes least of version 2,",
-        " bytes most of version 2,",
-        " beyond version 1 ended later,",
-        " version 1 played taken request,",
-        " version 1 ended by 6 middle,",
-        " version 2 played idle step,",
-        " version 2 ended by 11 last,",
-        " version 2 entry by entry, version 2 demand 3",
-    ];
-    let pages = [
-        " reset of one in an ill-formed machine,",
-        " a bank beyond its byte,",
-        " decode of 2 halves,",
-        " make of 10 halves,",
-        " play of bad lengths,",
-        " single step: all of 9 pages,",
-        " window of a step: all bank bytes,",
-        " step in a run FFFh to 000h,",
-        " changed in runs by LD-to (Y),",
-        " changed in runs by DEC (Y)",
-    ];
-    let programs = [
-        " 14, 18, 19, 13 for a certificate as long as the image,",
-        " a greater number with an earlier page,",
-        " 17 with page 8,",
-        " made with pages,",
-        " none made with pages: two kinds,",
-    ];
-    for (title, missing) in [
-        ("write-only registers", &registers[..]),
-        ("playings", &playings),
-        ("pages", &pages),
-        ("programs with pages", &programs),
-    ] {
-        let title = format!("NOT MET: {title}");
+    for (title, missing) in NOT_MET {
+        let title = format!("NOT MET: {title}:");
         let line = text.lines().find(|line| line.starts_with(&title));
         let line = line.unwrap_or_else(|| panic!("{text}"));
         for what in missing {

@@ -14,3 +14,8 @@ pub mod Session
 pub mod Balance
 pub mod Cases
 pub mod Unrolled
+pub mod Above
+pub mod Reti
+pub mod NoTrace
+pub mod ServiceEnds
+pub mod ServiceCases

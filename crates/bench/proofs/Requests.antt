@@ -55,6 +55,13 @@ mode-takes Reset enabled s e = absurd (false≢true e)
 mode-takes NmiOverNormal enabled s e = absurd (false≢true e)
 mode-takes NmiOverInterrupt enabled s e = absurd (false≢true e)
 
+-- the request that is taken is one that the mode takes
+pub taken-takes : (mode : Mode) (enabled : Bool) (request : ℕ)
+    → IfTaken (Takes mode) (requestedOf mode enabled request)
+taken-takes mode enabled request =
+    if-taken (Takes mode) mode enabled request
+    (λ s e. mode-takes mode enabled s (both-true (isNamed request s) (canTake mode enabled s) e .1))
+
 -- a source that the mode takes, and that the certificate has wired
 pub record Allowed (certificate : List ℕ) (wired : ℕ) (mode : Mode) (source : Source) : Type 0 where
   pub takes : Takes mode source

@@ -30,6 +30,8 @@ use Rattle.bench.specs.Calls.{
   asSteps,
   unrolledCall,
   unrolled,
+  AllSingle,
+  NoRuns,
   UnrolledLeaves,
 }
 use Rattle.bench.proofs.Invariant.{MachineInvariant, reset-invariant}
@@ -54,6 +56,10 @@ module _ (wired : ℕ) where
   asks-append [] ys a b = b
   asks-append (c ∷ xs) ys a b = (a .0, asks-append xs ys (a .1) b)
 
+  pub asks-split : (xs ys : List Call) → AllAskOnly wired (xs ++ ys) → AllAskOnly wired xs × AllAskOnly wired ys
+  asks-split [] ys asks = (tt, asks)
+  asks-split (c ∷ xs) ys asks = let h = asks-split xs ys (asks .1) in ((asks .0, h .0), h .1)
+
   asks-steps : (requests : List ℕ) (n : ℕ) → FirstAskOnly wired requests n → AllAskOnly wired (asSteps requests n)
   asks-steps requests zero asks = tt
   asks-steps requests (suc n) asks =
@@ -75,6 +81,33 @@ module _ (wired : ℕ) where
   asks-unrolled [] asks = tt
   asks-unrolled (c ∷ calls) asks =
       asks-append (unrolledCall c) (unrolled calls) (asks-call c (asks .0)) (asks-unrolled calls (asks .1))
+
+-- no run is left in a list with its runs as steps
+single-append : (xs ys : List Call) → AllSingle xs → AllSingle ys → AllSingle (xs ++ ys)
+single-append [] ys a b = b
+single-append (step request ∷ xs) ys a b = single-append xs ys a b
+single-append (run requests n ∷ xs) ys a b = a
+single-append (store address value ∷ xs) ys a b = single-append xs ys a b
+single-append (reset ∷ xs) ys a b = single-append xs ys a b
+
+steps-single : (requests : List ℕ) (n : ℕ) → AllSingle (asSteps requests n)
+steps-single requests zero = tt
+steps-single requests (suc n) =
+    single-append (asSteps requests n) (step (getD requests n 0) ∷ []) (steps-single requests n) tt
+
+call-single : (c : Call) → AllSingle (unrolledCall c)
+call-single (step request) = tt
+call-single (run requests n) = by-test (leb n 65535 && requestsFit requests n)
+  where
+    by-test : (b : Bool) → AllSingle (cond b (asSteps requests n) [])
+    by-test true = steps-single requests n
+    by-test false = tt
+call-single (store address value) = tt
+call-single reset = tt
+
+pub no-runs : NoRuns
+no-runs [] = tt
+no-runs (c ∷ calls) = single-append (unrolledCall c) (unrolled calls) (call-single c) (no-runs calls)
 
 -- the machine after one more step of a run
 joined-machine : (r : Run) (m : Machine) (a : Answer ℕ) → joinedBy r m a .machine ≡ m

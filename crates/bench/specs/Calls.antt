@@ -79,6 +79,19 @@ abbrev pub unrolled : List Call → List Call
 unrolled [] = []
 unrolled (c ∷ calls) = unrolledCall c ++ unrolled calls
 
+-- steps, host stores and resets
+abbrev pub AllSingle : List Call → Type 0
+AllSingle [] = Unit {0}
+AllSingle (run requests n ∷ calls) = ⊥
+AllSingle (step request ∷ calls) = AllSingle calls
+AllSingle (store address value ∷ calls) = AllSingle calls
+AllSingle (reset ∷ calls) = AllSingle calls
+
+-- in a list with its runs as steps there is no run
+-- proved by no-runs, proofs/Unrolled
+abbrev pub NoRuns : Type 0
+NoRuns = (calls : List Call) → AllSingle (unrolled calls)
+
 -- a list of calls as in demand 3 leaves the same machine with its runs as steps, where again only wired sources ask
 -- proved by unrolled-leaves, proofs/Unrolled
 pub record UnrolledLeaves : Type 0 where

@@ -2,3 +2,4 @@
 // (specs/Session.antt).
 pub mod keys;
 pub mod sequence;
+pub mod services;

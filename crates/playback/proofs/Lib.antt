@@ -13,3 +13,4 @@ pub mod Turns
 pub mod Counted
 pub mod ValueWalk
 pub mod OnePage
+pub mod NoTrace

@@ -8,3 +8,4 @@ pub mod Safety
 pub mod Cases
 pub mod Turn
 pub mod OnePage
+pub mod NoTrace

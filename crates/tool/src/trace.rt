@@ -6,6 +6,9 @@ use crate::help::put_usage;
 use crate::image::image_start;
 use crate::image::load_image;
 use crate::image::subject_of;
+use bench::services::ended_request;
+use bench::services::latest_source;
+use control::Control;
 use control::Requested;
 use control::requests::requested;
 use isa::Decoded;
@@ -67,23 +70,29 @@ fn page_columns(length: usize) -> usize
     if 1 < choices_in(length) { 2 } else { 0 }
 }
 
-fn taken_name(line: Line, source: Source) -> Line {
+fn source_name(line: Line, source: Source) -> Line {
     match source {
-        Source::Nmi => line.word(b"takes nmi"),
-        Source::First => line.word(b"takes 1"),
-        Source::Second => line.word(b"takes 2"),
-        Source::Third => line.word(b"takes 3"),
-        Source::Fourth => line.word(b"takes 4"),
+        Source::Nmi => line.word(b"nmi"),
+        Source::First => line.letter(b'1'),
+        Source::Second => line.letter(b'2'),
+        Source::Third => line.letter(b'3'),
+        Source::Fourth => line.letter(b'4'),
     }
 }
 
-// What a step does: it takes a request, sleeps on, or executes an instruction.
-fn what(line: Line, image: &[u8], m: Machine, request: u8) -> Line {
+// The request that a step takes, if any.
+fn taken_by(m: Machine, request: u8) -> Requested {
     let c = m.control;
     let mode = c.mode;
     let bytes = m.bytes;
-    if let Requested::Taken(source) = requested(mode, is_enabled(&bytes), request) {
-        return taken_name(line, source);
+    requested(mode, is_enabled(&bytes), request)
+}
+
+// What a step does: it takes a request, sleeps on, or executes an instruction.
+fn what(line: Line, image: &[u8], m: Machine, taken: Requested) -> Line {
+    let c = m.control;
+    if let Requested::Taken(source) = taken {
+        return source_name(line.word(b"takes "), source);
     }
     if c.asleep {
         return line.word(b"sleeps");
@@ -99,12 +108,12 @@ fn what(line: Line, image: &[u8], m: Machine, request: u8) -> Line {
 }
 
 // The step's number, the address, and what it does.
-fn begin_line(image: &[u8], m: Machine, request: u8, number: u16) -> Line {
+fn begin_line(image: &[u8], m: Machine, taken: Requested, number: u16) -> Line {
     let c = m.control;
     let wide = page_columns(image.len());
     let line = Line::new().decimal(number as u32).spaces_to(PC);
     let line = paged_address(line, image.len(), bank_of(m), c.pc);
-    what(line.spaces_to(WHAT + wide), image, m, request)
+    what(line.spaces_to(WHAT + wide), image, m, taken)
 }
 
 // A step's line: its number, the address, what it does, where its data operand came from, levels, cycles, and what changed, which may be
@@ -126,18 +135,47 @@ fn step_line(
     changes(counted(line, cycles as u32, b"cycle"), before, after)
 }
 
-// Writes the line of a step that completed, which another function has begun.
-fn put_step(begun: Line, length: usize, before: Machine, stepped: Stepped, ok: bool) -> bool {
+// Where a taken request will come back to, and which request's service a RETI ends. The address has no page: the page is
+// the data byte at 0CAh, which a service may change.
+fn service_note(
+    line: Line,
+    before: Control,
+    after: Control,
+    taken: Requested,
+    latest: Source,
+) -> Line {
+    if let Requested::Taken(_) = taken {
+        return line.word(b"; comes back to ").address(before.pc);
+    }
+    let old = before.mode;
+    let new = after.mode;
+    if let Requested::Taken(source) = ended_request(old, new, latest) {
+        return source_name(line.word(b"; ends "), source);
+    }
+    line
+}
+
+// Writes the line of a step that completed, which another function has begun. `latest` is the source taken last.
+fn put_step(
+    begun: Line,
+    length: usize,
+    before: Machine,
+    stepped: Stepped,
+    taken: Requested,
+    latest: Source,
+    ok: bool,
+) -> bool {
     let after = stepped.machine;
     let report = stepped.report;
     let answer = report.answer;
-    match answer {
-        StepAnswer::Done(cycles) => put(
-            step_line(begun, length, before, after, report, cycles),
-            ok,
-        ),
-        StepAnswer::Refused(_) => ok,
-    }
+    let StepAnswer::Done(cycles) = answer else {
+        return ok;
+    };
+    let line = step_line(begun, length, before, after, report, cycles);
+    put(
+        service_note(line, before.control, after.control, taken, latest),
+        ok,
+    )
 }
 
 // Whether a step was refused or stopped.
@@ -171,16 +209,19 @@ fn put_stop(image: &[u8], subject: Subject, stepped: Stepped, ok: bool) -> u8 {
 // The steps of a fresh machine, up to the first that stops.
 fn put_steps(image: &[u8], requests: &[u8; MOST_STEPS], steps: u16, subject: Subject) -> u8 {
     let mut m = fresh();
+    let mut latest = Source::Nmi;
     let mut is_written = true;
     let mut i = 0u16;
     while i < steps {
         let request = requests[i as usize];
-        let begun = begin_line(image, m, request, i);
+        let taken = taken_by(m, request);
+        let begun = begin_line(image, m, taken, i);
         let stepped = step(image, m, request);
         if is_stopped(stepped) {
             return put_stop(image, subject, stepped, is_written);
         }
-        is_written = put_step(begun, image.len(), m, stepped, is_written);
+        latest = latest_source(latest, taken);
+        is_written = put_step(begun, image.len(), m, stepped, taken, latest, is_written);
         m = stepped.machine;
         i += 1;
     }

@@ -13,6 +13,7 @@ mod origin;
 mod packing;
 mod paged;
 mod player;
+mod services;
 mod write_only;
 
 use crate::chip::{Flags, Machine, Mode, SIZES};

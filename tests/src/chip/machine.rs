@@ -15,11 +15,20 @@ pub enum Mode {
 impl Mode {
     /// Which flag pair is in use: 0 normal, 1 interrupt, 2 NMI.
     #[inline(always)]
-    pub(super) const fn pair(self) -> usize {
+    pub(crate) const fn pair(self) -> usize {
         match self {
             Mode::Normal => 0,
             Mode::Interrupt => 1,
             Mode::Reset | Mode::NmiOverNormal | Mode::NmiOverInterrupt => 2,
+        }
+    }
+
+    /// The mode that the taking of a source sets: of 0 for NMI, or 1 to 4.
+    pub(crate) const fn taking(self, source: usize) -> Mode {
+        match (source, self) {
+            (0, Mode::Interrupt) => Mode::NmiOverInterrupt,
+            (0, _) => Mode::NmiOverNormal,
+            _ => Mode::Interrupt,
         }
     }
 
@@ -72,15 +81,18 @@ impl Machine {
     /// six levels are in use.
     pub fn well_formed(&self) -> Result<(), Refusal> {
         let good = self.pc < SPACE
-            && self
-                .stack
-                .get(..self.levels as usize)
-                .is_some_and(|used| used.iter().all(|&address| address < SPACE));
+            && self.in_use().is_some_and(|used| used.iter().all(|&address| address < SPACE));
         if good {
             Ok(())
         } else {
             Err(Refusal::IllFormed)
         }
+    }
+
+    /// The return addresses in use, if they are no more than six.
+    #[inline(always)]
+    pub(crate) fn in_use(&self) -> Option<&[u16]> {
+        self.stack.get(..self.levels as usize)
     }
 
     pub fn reset(&mut self) {

@@ -130,7 +130,7 @@ impl Machine {
     }
 
     /// The source that is taken now: 0 for NMI, or 1 to 4.
-    fn taken(&self, request: u8) -> Option<usize> {
+    pub(crate) fn taken(&self, request: u8) -> Option<usize> {
         let open = match self.mode {
             // The stored bit counts, though 0C8h reads 0.
             Mode::Normal if self.data[IOR as usize] & 0x10 != 0 => 0x1F,
@@ -145,11 +145,7 @@ impl Machine {
 
     fn interrupt(&mut self, source: usize) -> Result<Traced, Refusal> {
         self.push(self.pc).ok_or(Refusal::StackFull(self.pc))?;
-        self.mode = match (source, self.mode) {
-            (0, Mode::Interrupt) => Mode::NmiOverInterrupt,
-            (0, _) => Mode::NmiOverNormal,
-            _ => Mode::Interrupt,
-        };
+        self.mode = self.mode.taking(source);
         self.pc = VECTORS[source];
         self.asleep = false;
         Ok(Traced { cycles: 1, origin: None })

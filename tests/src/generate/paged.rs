@@ -11,7 +11,7 @@ use crate::chip::{
 use Instruction::*;
 
 /// Much use of the bank register, also through pointers.
-const CELLS: [u8; 6] = [BANK, BANK, BANK, WINDOW, X, Y];
+pub(super) const CELLS: [u8; 6] = [BANK, BANK, BANK, WINDOW, X, Y];
 
 /// Where the byte at a program address stands in an image of a length, with a
 /// page in place.
@@ -37,6 +37,11 @@ pub fn paged_program(rng: &mut Rng, length: usize) -> Program {
         over_end(&mut b, start);
     }
     tighten_some(&mut b);
+    with_pages(b, length)
+}
+
+/// A 4K program lengthened by other pages, to a length.
+pub(super) fn with_pages(mut b: Builder, length: usize) -> Program {
     let mut image = b.program.image[..HALF].to_vec();
     while image.len() < length - HALF {
         image.extend(other_page(&mut b));

@@ -12,11 +12,20 @@ use Instruction::*;
 pub(super) type Subroutines = Vec<Vec<u16>>;
 
 /// The levels that the parts of a program may need.
-struct Needs {
-    main: u8,
-    sources: u8,
-    nmi: u8,
+pub(super) struct Needs {
+    pub main: u8,
+    pub sources: u8,
+    pub nmi: u8,
 }
+
+impl Needs {
+    pub fn deepest(&self) -> u8 {
+        self.main.max(self.sources).max(self.nmi)
+    }
+}
+
+/// What lets sources 1 to 4 be taken.
+pub(super) const ENABLE: Instruction = Ldi { address: IOR, value: 0x10 };
 
 /// A program with its certificate. Most are accepted; some need more than six
 /// levels.
@@ -41,9 +50,9 @@ pub(super) fn build(b: &mut Builder) -> u16 {
     let wired = if b.rng.chance(15) { 0 } else { b.rng.byte() & 0x1F };
     b.program.wired = wired;
     let needs = needs(b.rng, wired);
-    let subroutines = subroutines(b, needs.main.max(needs.sources).max(needs.nmi));
+    let subroutines = subroutines(b, needs.deepest());
     let start = start_and_main(b, needs.main, &subroutines);
-    services(b, &needs, &subroutines);
+    services(b, &needs, &subroutines, &[]);
     start
 }
 
@@ -61,7 +70,7 @@ pub(super) fn tighten_some(b: &mut Builder) {
 }
 
 /// Shares six levels out, now and then one too many.
-fn needs(rng: &mut Rng, wired: u8) -> Needs {
+pub(super) fn needs(rng: &mut Rng, wired: u8) -> Needs {
     let (nmi, sources) = (wired & 1 != 0, wired & 0x1E != 0);
     let mut left = 6 - nmi as u8 - sources as u8;
     let mut share = |rng: &mut Rng, wanted: bool| {
@@ -93,22 +102,27 @@ pub(super) fn subroutines(b: &mut Builder, deepest: u8) -> Subroutines {
 /// Start-up, then the main loop at the address after its RETI. Gives where
 /// start-up begins.
 fn start_and_main(b: &mut Builder, need: u8, subroutines: &Subroutines) -> u16 {
-    let enable = Ldi { address: IOR, value: 0x10 };
     let calls = &if b.rng.chance(50) { b.calls(need, subroutines) } else { vec![] };
     let end = End::ReturnFromInterrupt;
-    let start = b.routine(&Routine { kind: 1, need, calls, first: &[enable], end });
+    let start = b.routine(&Routine { kind: 1, need, calls, first: &[ENABLE], end });
     b.cursor = (b.program.certificate.iter().rposition(|&mark| mark >> 4 == 1))
         .map_or(b.cursor, |last| last + b.base + 1);
     let calls = &b.calls(need, subroutines);
-    let first: &[Instruction] = if b.rng.chance(70) { &[enable] } else { &[] };
+    let first: &[Instruction] = if b.rng.chance(70) { &[ENABLE] } else { &[] };
     b.routine(&Routine { kind: 2, need, calls, first, end: End::Loop });
     b.put(RESET_VECTOR as usize, Jp(start));
     b.mark(RESET_VECTOR as usize, 1, need);
     start
 }
 
-/// A service for each wired source; sources may share one.
-fn services(b: &mut Builder, needs: &Needs, subroutines: &Subroutines) {
+/// A service for each wired source, with something in front; sources may share
+/// one.
+pub(super) fn services(
+    b: &mut Builder,
+    needs: &Needs,
+    subroutines: &Subroutines,
+    first: &[Instruction],
+) {
     let mut shared = None;
     for (source, &vector) in VECTORS.iter().enumerate() {
         if b.program.wired >> source & 1 == 0 {
@@ -126,7 +140,7 @@ fn services(b: &mut Builder, needs: &Needs, subroutines: &Subroutines) {
             _ => {
                 let calls = &b.calls(need, subroutines);
                 let end = End::ReturnFromInterrupt;
-                b.routine(&Routine { kind: 3, need, calls, first: &[], end })
+                b.routine(&Routine { kind: 3, need, calls, first, end })
             }
         };
         if source > 0 {

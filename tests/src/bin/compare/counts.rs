@@ -7,6 +7,7 @@ use crate::opcode_map::operations;
 use crate::origin_counts::OriginCounts;
 use crate::page_counts::PageCounts;
 use crate::play_counts::PlayCounts;
+use crate::service_counts::ServiceCounts;
 use crate::width_counts::WidthCounts;
 use crate::write_only_counts::WriteOnlyCounts;
 use second::boundary::{self, FORMS, FORM_NAMES};
@@ -36,6 +37,7 @@ pub struct Counts {
     pub widths: WidthCounts,
     pub makes: MakeCounts,
     pub plays: PlayCounts,
+    pub services: ServiceCounts,
     origins: OriginCounts,
     write_only: WriteOnlyCounts,
     banks: BankCounts,
@@ -65,6 +67,7 @@ impl Counts {
             widths: WidthCounts::new(),
             makes: MakeCounts::new(),
             plays: PlayCounts::new(),
+            services: ServiceCounts::default(),
             origins: OriginCounts::new(),
             write_only: WriteOnlyCounts::new(),
             banks: BankCounts::new(),
@@ -196,6 +199,7 @@ impl Counts {
         self.banks.print();
         self.pages.print();
         self.plays.print();
+        self.services.print();
         println!("calls that demand 3 speaks of, all as it says: {}", self.demand3_calls);
         println!("calls and playings with two pages or more among them: {}", self.demand3_paged);
         println!("calls that differ only in return addresses not in use: {}", self.unused_differ);
@@ -227,6 +231,7 @@ impl Counts {
         self.banks.print_not_met();
         self.pages.print_not_met();
         self.plays.print_not_met();
+        self.services.print_not_met();
     }
 }
 

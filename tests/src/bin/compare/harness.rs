@@ -15,19 +15,34 @@ const READ_ONLY_EVERY: u64 = 64;
 pub struct Harness {
     pub rng: Rng,
     pub counts: Counts,
-    strict: bool,
-    /// For making a difference smaller.
-    time: Duration,
+    rules: Rules,
     turn: u64,
 }
 
+/// What is compared, and how a difference is told.
+#[derive(Clone, Copy)]
+pub struct Rules {
+    /// Return addresses that aren't in use must agree too.
+    pub strict: bool,
+    /// Nothing is compared: what is seen of the library must tell by itself.
+    pub alone: bool,
+    /// For making a difference smaller.
+    pub time: Duration,
+}
+
 impl Harness {
-    pub fn new(seed: u64, strict: bool, time: Duration) -> Self {
-        Harness { rng: Rng::new(seed), counts: Counts::new(), strict, time, turn: 0 }
+    pub fn new(seed: u64, rules: Rules) -> Self {
+        Harness { rng: Rng::new(seed), counts: Counts::new(), rules, turn: 0 }
     }
 
-    /// Plays a call on both sides; gives the second emulator's outcome.
+    /// Plays a call on both sides; gives the second emulator's outcome, or the
+    /// library's if nothing is compared.
     pub fn compare(&mut self, call: Call) -> Outcome {
+        self.compare_seen(call, |_, _| {})
+    }
+
+    /// The same, but what the library gave is seen before it is compared.
+    pub fn compare_seen(&mut self, call: Call, see: impl FnOnce(&Call, &Outcome)) -> Outcome {
         let outcome = call.play(&SECOND);
         self.turn = self.turn.wrapping_add(1);
         let kept = self.turn.is_multiple_of(READ_ONLY_EVERY).then(|| call.clone().into_owned());
@@ -36,15 +51,19 @@ impl Harness {
             println!("WRITTEN TO BYTES LENT FOR READING\n{call}");
             exit(1);
         }
+        see(&call, &proved);
+        if self.rules.alone {
+            return proved;
+        }
         match verdict(&call, &outcome, &proved) {
             Verdict::Same => {}
-            Verdict::UnusedDiffer if self.strict => {
+            Verdict::UnusedDiffer if self.rules.strict => {
                 report_difference("return addresses that aren't in use differ", call)
             }
             Verdict::UnusedDiffer => self.counts.unused_differ += 1,
             Verdict::Differ => {
                 eprintln!("a difference in {}; making it smaller", KINDS[call.kind()]);
-                report_difference("DIFFERENCE", shrink(call, self.time, &sides_differ))
+                report_difference("DIFFERENCE", shrink(call, self.rules.time, &sides_differ))
             }
         }
         self.counts.add(&call, &outcome);
@@ -79,7 +98,7 @@ impl Harness {
     ) -> Option<OneByOne> {
         let entries = call.one_by_one(library)?;
         if verdict(call, outcome, &entries.outcome) == Verdict::Differ {
-            report_entries(call, self.time, side, library)
+            report_entries(call, self.rules.time, side, library)
         }
         Some(entries)
     }

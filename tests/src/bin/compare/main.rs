@@ -23,12 +23,14 @@ mod playing;
 mod programs;
 mod records;
 mod refusals;
+mod service_counts;
+mod services;
 mod width_counts;
 mod widths;
 mod write_only;
 mod write_only_counts;
 
-use harness::Harness;
+use harness::{Harness, Rules};
 use std::process::exit;
 use std::time::{Duration, Instant};
 
@@ -39,16 +41,19 @@ struct Options {
     part: Option<String>,
     smaller: u64,
     strict: bool,
+    alone: bool,
 }
 
 const USAGE: &str = "\
-compare [--seed N] [--steps N] [--checks N] [--part NAME] [--smaller N] [--strict]
+compare [--seed N] [--steps N] [--checks N] [--part NAME] [--smaller N] [--strict] [--alone]
   --seed N    the seed of all random choices (default 1)
   --steps N   steps in runs of programs; the other parts grow with it (default 20000000)
   --checks N  certificates checked (default 120000)
   --part NAME only this part, by the name that is printed
   --smaller N seconds for making a difference smaller, at most (default 30)
-  --strict    return addresses that aren't in use must agree too";
+  --strict    return addresses that aren't in use must agree too
+  --alone     the part services with nothing compared: only what is looked at of
+              the library's own machines can tell a fault";
 
 fn options() -> Options {
     let mut options = Options {
@@ -58,6 +63,7 @@ fn options() -> Options {
         part: None,
         smaller: 30,
         strict: false,
+        alone: false,
     };
     let mut arguments = std::env::args().skip(1);
     while let Some(argument) = arguments.next() {
@@ -75,6 +81,7 @@ fn options() -> Options {
             "--part" => options.part = Some(arguments.next().unwrap_or_default()),
             "--smaller" => options.smaller = number(),
             "--strict" => options.strict = true,
+            "--alone" => (options.alone, options.part) = (true, Some("services".to_string())),
             _ => {
                 eprintln!("{USAGE}");
                 exit(2)
@@ -117,14 +124,16 @@ fn run_parts(h: &mut Harness, options: &Options) -> usize {
     part("banks", &mut |h| banks::banks(h, scale(2)));
     part("pages", &mut |h| pages::pages(h, scale(40)));
     part("playing", &mut |h| playing::playing(h, scale(800)));
+    part("services", &mut |h| services::services(h, scale(150_000) as u64));
     parts
 }
 
 fn main() {
     let options = options();
     println!("seed {}, steps {}, checks {}", options.seed, options.steps, options.checks);
-    let smaller = Duration::from_secs(options.smaller);
-    let mut h = Harness::new(options.seed, options.strict, smaller);
+    let Options { strict, alone, .. } = options;
+    let rules = Rules { strict, alone, time: Duration::from_secs(options.smaller) };
+    let mut h = Harness::new(options.seed, rules);
     let start = Instant::now();
     if run_parts(&mut h, &options) == 0 {
         eprintln!("there is no such part\n{USAGE}");

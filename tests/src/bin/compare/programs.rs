@@ -100,7 +100,7 @@ fn next_call<'a>(h: &mut Harness, image: &'a [u8], state: &'a [u8], mask: u8) ->
 }
 
 /// What demand 3 promises of each call in its list.
-fn demand3(h: &mut Harness, kind: usize, outcome: &Outcome, levels: u32) {
+pub fn demand3(h: &mut Harness, kind: usize, outcome: &Outcome, levels: u32) {
     let number = boundary::number(outcome.answer);
     let allowed = match KINDS[kind] {
         "step" => matches!(number, 0 | 11),

@@ -5,10 +5,10 @@ use Rattle.tool.proofs.trace.put_steps.Statement.{statement}
 use Rattle.tool.proofs.trace.put_steps.Tie as tie
 
 abbrev Inv-loop : tie.InvT-loop
-Inv-loop image requests steps subject m₀ is-written₀ i₀ m is-written i = i ≤ steps
+Inv-loop image requests steps subject m₀ latest₀ is-written₀ i₀ m latest is-written i = i ≤ steps
 
 abbrev μ-loop : tie.MeasureT-loop
-μ-loop image requests steps subject m₀ is-written₀ i₀ m is-written i = steps - i
+μ-loop image requests steps subject m₀ latest₀ is-written₀ i₀ m latest is-written i = steps - i
 
 fresh-requires : tie.Need-fresh-requires Inv-loop μ-loop
 fresh-requires c κs = search needs
@@ -21,6 +21,9 @@ cast-request c = search needs
 
 element-copy-out-request : tie.Need-element-copy-out-request Inv-loop μ-loop
 element-copy-out-request c = search needs
+
+taken-by-requires : tie.Need-taken-by-requires Inv-loop μ-loop
+taken-by-requires c κs = search needs
 
 begin-line-requires : tie.Need-begin-line-requires Inv-loop μ-loop
 begin-line-requires c κs = search needs
@@ -37,11 +40,16 @@ put-stop-requires c κs = search needs
 returns : tie.Need-returns Inv-loop μ-loop
 returns c = search needs
 
+latest-source-requires : tie.Need-latest-source-requires Inv-loop μ-loop
+latest-source-requires c κs = search needs
+
 put-step-requires : tie.Need-put-step-requires Inv-loop μ-loop
 put-step-requires c κs = search needs
 
 add-i : tie.Need-add-i Inv-loop μ-loop
-add-i c = search needs
+add-i c =
+    let k = c .before .before .before .before .before .before .before .before .before in
+    search (needs, k .loop-test .taken)
 
 loop-less : tie.Need-loop-less Inv-loop μ-loop
 loop-less c = search needs
@@ -68,11 +76,13 @@ put-steps-spec =
     loop-holds
     cast-request
     element-copy-out-request
+    taken-by-requires
     begin-line-requires
     step-requires
     is-stopped-requires
     put-stop-requires
     returns
+    latest-source-requires
     put-step-requires
     add-i
     loop-less
