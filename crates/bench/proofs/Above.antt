@@ -2,7 +2,7 @@
 -- RETI that ends the service.
 use Prim.Native.Nat.{ℕ, suc, _≤_}
 use native.Mathlib.Omega.{arith}
-use mathlib.Core.Path.{_≡_, refl, ap, sym, _∙_}
+use mathlib.Core.Path.{_≡_, refl, ap, _∙_}
 use mathlib.Core.Logic.{_⊎_, inl, inr, _≢_}
 use mathlib.Core.Bool.{false}
 use mathlib.Core.List.{List, [], _∷_, _++_}
@@ -16,7 +16,7 @@ use Rattle.machine.specs.PairUse.{pairNumber}
 use Rattle.certificate.specs.Marks.{kindAt}
 use Rattle.certificate.specs.Rules.{Continues}
 use Rattle.bench.specs.ServiceEnds.{openServices}
-use Rattle.bench.specs.StackEffect.{StackEffect, by-request, by-call, by-ret, by-reti, by-start-up, none}
+use Rattle.bench.specs.StackEffect.{StackEffect, by-request, by-reti}
 use Rattle.bench.proofs.StackFrames.{Over, source-normal, nmi-normal, nmi-interrupt}
 use Rattle.bench.proofs.Moves.{Takes, nmi, first, second, third, fourth, nested, Moves}
 use Rattle.bench.proofs.Moves as moves

@@ -1,5 +1,5 @@
 -- W-214: the service of a request leaves no trace.
-use Prim.Native.Nat.{ℕ, suc, _-_, _<_}
+use Prim.Native.Nat.{ℕ, _-_, _<_}
 use native.Mathlib.Omega.{arith}
 use mathlib.Core.Path.{_≡_, refl, sym, ap, _∙_}
 use mathlib.Core.Logic.{_⊎_, inl, inr}
@@ -36,7 +36,8 @@ use Rattle.machine.proofs.PairUse.{other-pairs-kept}
 use Rattle.machine.proofs.StepByStep.{step-advances}
 use Rattle.certificate.specs.Rules.{Rules}
 use Rattle.certificate.proofs.Agreement.{agreement}
-use Rattle.bench.specs.Calls.{Call, step, run, store, reset, leaves, leavesAll, AsksOnly, CallAsksOnly, AllAskOnly, unrolled}
+use Rattle.bench.specs.Calls.{Call, step, run, store, reset, leaves, leavesAll, unrolled}
+use Rattle.bench.specs.Calls.{AsksOnly, CallAsksOnly, AllAskOnly}
 use Rattle.bench.specs.Session.{returnAddresses, levelsInUse}
 use Rattle.bench.specs.StackEffect.{stackEffectOf}
 use Rattle.bench.specs.NoTrace.{
@@ -50,7 +51,6 @@ use Rattle.bench.specs.NoTrace.{
   current,
   modeSet,
   NextStep,
-  EndsService,
   SamePair,
   LeavesNoTrace,
   NoTrace,
@@ -59,7 +59,6 @@ use Rattle.bench.specs.NoTrace.{
 }
 use Rattle.bench.proofs.StackFrames.{Over}
 use Rattle.bench.proofs.Invariant.{MachineInvariant, reset-invariant, well-formed}
-use Rattle.bench.proofs.StepMoves.{Advances, invariant-after}
 use Rattle.bench.proofs.Steps.{step-goes, step-refused}
 use Rattle.bench.proofs.Session.{call-kept}
 use Rattle.bench.proofs.Unrolled.{asks-split, asks-unrolled}

@@ -1,7 +1,7 @@
 -- A step whose effect on the stack is that of RETI executes one, and the other way round.
 use Prim.Native.Nat.{ℕ}
 use native.Mathlib.Omega.{arith}
-use mathlib.Core.Path.{_≡_, refl, _∙_}
+use mathlib.Core.Path.{_≡_, refl}
 use mathlib.Core.Bool.{Bool, true, false, cond, _&&_}
 use mathlib.Core.List.{List, []}
 use lib.Dec.{eqb}
@@ -31,10 +31,10 @@ use Rattle.machine.specs.declared.Machine.{Machine}
 use Rattle.machine.specs.Execute.{executeOf}
 use Rattle.machine.specs.State.{viewOf, freshOf}
 use Rattle.machine.specs.Step.{enabledOf}
-use Rattle.machine.specs.Refusals.{Takes, TakesNone, AtPc}
+use Rattle.machine.specs.Refusals.{Takes}
 use Rattle.machine.proofs.Stops.{MayStop, may-stop}
 use Rattle.machine.proofs.Stops as stops
-use Rattle.bench.specs.StackEffect.{StackEffect, by-request, by-reti, by-start-up, none, flowEffect}
+use Rattle.bench.specs.StackEffect.{by-request, by-reti, by-start-up, none, flowEffect}
 use Rattle.bench.specs.StackEffect.{decodedEffect, unrequestedEffect, respondEffect, stackEffectOf}
 use Rattle.bench.specs.NoTrace.{RetiIn}
 

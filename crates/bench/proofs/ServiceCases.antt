@@ -1,5 +1,5 @@
 -- Services from the taking to their RETI, computed.
-use Prim.Native.Nat.{ℕ, zero, suc, _<_}
+use Prim.Native.Nat.{ℕ, zero, suc}
 use native.Mathlib.Omega.{arith}
 use mathlib.Core.Path.{_≡_, refl, sym, ap, _∙_}
 use mathlib.Core.Bool.{Bool, true, false, _&&_, _||_, not}
@@ -277,7 +277,8 @@ module _ (image certificate : List ℕ) (wired number : ℕ) (e : checkOf image 
 abbrev asleep : List Call
 asleep = step 0x00 ∷ step 0x00 ∷ step 0x00 ∷ step 0x00 ∷ step 0x00 ∷ []
 
-both-accepted : (checkOf sleeper sleeperCertificate 0x03 ≡ accepted 2) × (checkOf paged pagedCertificate 0x01 ≡ accepted 1)
+both-accepted : (checkOf sleeper sleeperCertificate 0x03 ≡ accepted 2)
+    × (checkOf paged pagedCertificate 0x01 ≡ accepted 1)
 unfolding checkOf marksFound markFound pagesFound decodedFound flowFound vectorsFound sourceFound vectorFound
     Marks.markAt Marks.kindAt Marks.needAt Successors.placed Successors.successorsOf Successors.allHaveKind
     Successors.coversAll Successors.successorsFound Levels.sourceLevels Levels.levelsFor Levels.levelsOf Map.entryOf

@@ -19,10 +19,11 @@ use Rattle.machine.specs.Step.{enabledOf, stepOf}
 use Rattle.certificate.specs.Rules.{Rules}
 use Rattle.certificate.proofs.Agreement.{agreement}
 use Rattle.bench.specs.Calls.{Call, step, run, store, reset, leaves, leavesAll, AsksOnly, AllAskOnly, unrolled}
-use Rattle.bench.specs.StackEffect.{StackEffect, by-reti, stackEffectOf}
+use Rattle.bench.specs.StackEffect.{StackEffect, by-reti}
 use Rattle.bench.specs.NoTrace.{RetiIn, NoneEnding, TakesRequest, InService, interrupted, current, NextStep}
 use Rattle.bench.specs.NoTrace.{afterStep, EndsService}
-use Rattle.bench.specs.ServiceEnds.{openServices, latestOf, servedIn, endedOf, latestAfter, latestAfterAll, EndTold}
+use Rattle.bench.specs.ServiceEnds.{openServices, latestOf, servedIn, endedOf, latestAfter, latestAfterAll}
+use Rattle.bench.specs.ServiceEnds.{EndTold}
 use Rattle.bench.proofs.StackFrames.{Over, source-normal, nmi-normal, nmi-interrupt}
 use Rattle.bench.proofs.Moves.{Takes, nmi, first, second, third, fourth, nested, Moves}
 use Rattle.bench.proofs.Moves as moves
@@ -32,7 +33,7 @@ use Rattle.bench.proofs.Steps.{step-goes, step-refused}
 use Rattle.bench.proofs.Unrolled.{asks-split, asks-unrolled}
 use Rattle.bench.proofs.Above.{over-depth, over-taken, deep, begun}
 use Rattle.bench.proofs.Reti.{reti-executed, request-effect}
-use Rattle.bench.proofs.NoTrace.{Serving, Goes, call-serves, all-kept, AtMoment, at-moment, back-by}
+use Rattle.bench.proofs.NoTrace.{Serving, Goes, call-serves, all-kept, at-moment, back-by}
 
 -- a taking sets a mode that serves it
 taking-served : {m : Mode} {source : Source} → Takes m source → (latest : Source)
@@ -163,16 +164,16 @@ module _ (image certificate : List ℕ) (wired number : ℕ) (ok : Rules image c
       → RetiIn image (m .control .mode) m request
   end-only m g request asks latest source e = by-test (namesOnlySources request) refl
     where
-      inside : openServices (stepOf image m request .machine .control .mode) < openServices (m .control .mode)
-      inside = fewer-open (m .control .mode) (stepOf image m request .machine .control .mode) latest source e
+      lower : openServices (stepOf image m request .machine .control .mode) < openServices (m .control .mode)
+      lower = fewer-open (m .control .mode) (stepOf image m request .machine .control .mode) latest source e
 
       by-test : (known : Bool) → namesOnlySources request ≡ known → RetiIn image (m .control .mode) m request
       by-test true k =
           reti-executed image (m .control .mode) m request k refl
-          (fewer-moved (step-goes image certificate wired number ok m g request k asks .moves) inside)
+          (fewer-moved (step-goes image certificate wired number ok m g request k asks .moves) lower)
       by-test false k =
           let h : openServices (m .control .mode) < openServices (m .control .mode) =
-          rw (step-refused image certificate wired number ok m g request k) at inside in
+          rw (step-refused image certificate wired number ok m g request k) at lower in
           absurd (omega arith)
 
 pub end-told : EndTold

@@ -46,7 +46,7 @@ NoneEnding image mode [] m = Unit {0}
 NoneEnding image mode (c ∷ calls) m = NotEnding image mode c m × NoneEnding image mode calls (leaves image c m)
 
 -- A moment within a service: any place of a list of calls, its runs as steps, where a step takes a request, and the
--- calls since, none of which ends the service or resets. The moment is after these, and before what is left of the list.
+-- calls since, none of which ends the service or resets. The moment is after these, before what is left of the list.
 pub record InService (image : List ℕ) (start : Machine) (calls : List Call) : Type 0 where
   pub before : List Call
   pub request : ℕ

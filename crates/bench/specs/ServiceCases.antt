@@ -112,7 +112,8 @@ pub record ServiceCases : Type 0 where
   pub source-woke : SourceWoke
   pub nmi-within : NmiWithin
   -- the service has a flag pair of its own, which it does change: Z of it is clear before it, and set after it
-  pub own-pair-before : leaves sleeper (run (0x00 ∷ 0x00 ∷ 0x00 ∷ 0x00 ∷ 0x00 ∷ []) 5) freshOf .flags .interrupt .zero ≡ false
+  pub own-pair-before :
+      leaves sleeper (run (0x00 ∷ 0x00 ∷ 0x00 ∷ 0x00 ∷ 0x00 ∷ []) 5) freshOf .flags .interrupt .zero ≡ false
   pub own-pair-after : leavesAll sleeper woken freshOf .flags .interrupt .zero ≡ true
   pub accepted-paged : checkOf paged pagedCertificate 0x01 ≡ accepted 1
   pub paged-served : PagedServed

@@ -135,8 +135,8 @@ fn step_line(
     changes(counted(line, cycles as u32, b"cycle"), before, after)
 }
 
-// Where a taken request will come back to, and which request's service a RETI ends. The address has no page: the page is
-// the data byte at 0CAh, which a service may change.
+// Where a taken request will come back to, and which request's service a RETI ends. The address has no page: which one
+// is in place is for the data byte at 0CAh to say, and a service may change it.
 fn service_note(
     line: Line,
     before: Control,

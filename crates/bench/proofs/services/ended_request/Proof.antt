@@ -18,7 +18,8 @@ returns : tie.Need-returns
 unfolding endedOf
 returns c =
     let k = c .before .before in
-    rw (← k .before .open-services .ensures, ← k .open-services2 .ensures, lt-ltb _ _ (c .before .if1 .taken)) (c .served-in .ensures)
+    rw (← k .before .open-services .ensures, ← k .open-services2 .ensures, lt-ltb _ _ (c .before .if1 .taken))
+    (c .served-in .ensures)
 
 returns-2 : tie.Need-returns-2
 unfolding endedOf
