@@ -17,7 +17,8 @@ use Rattle.certificate.specs.Check.{checkOf, accepted}
 use Rattle.bench.specs.Calls.{Call, step, run, store, reset, leaves, leavesAll, AllAskOnly, unrolled}
 use Rattle.bench.specs.Session.{returnAddresses, levelsInUse}
 
--- "a request is taken", by a step that is not refused
+-- "a request is taken", by a step that is not refused: in a list as in demand 3 that is with 11 alone, and no step
+-- stops (`NeverStops`)
 pub record TakesRequest (m : Machine) (request : ℕ) (source : Source) : Type 0 where
   pub named : namesOnlySources request ≡ true
   pub takes : Takes m request source
