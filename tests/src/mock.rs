@@ -8,7 +8,9 @@ mod check;
 mod make;
 mod origin;
 mod play;
+mod rows;
 mod traces;
+mod turns;
 mod write_only;
 
 use crate::boundary;
@@ -21,7 +23,7 @@ pub use origin::read;
 pub use play::play;
 
 /// The faults that can be injected.
-pub const FAULTS: [&str; 259] = [
+pub const FAULTS: [&str; 291] = [
     "decode-bit",      // bit numbers unreversed
     "com-carry",       // COM leaves C clear
     "rlc-low",         // RLC shifts in 0
@@ -281,6 +283,38 @@ pub const FAULTS: [&str; 259] = [
     "trace-10",        // a refused store in a service changes the normal pair
     "trace-11",        // a refused step in a service raises the bottom address
     "trace-12",        // a refused run in a service empties the stack
+    "turn-bank",       // a run takes what it decoded there for another bank byte
+    "turn-address",    // what it decoded for another address
+    "turn-fixed",      // what it decoded in the fixed half for any page
+    "turn-place",      // long runs take whatever is kept at a place
+    "turn-place-few",  // short ones do
+    "width-place",     // the gauge does
+    "turn-empty",      // at 000h with bank byte 0 a run takes what it never decoded
+    "turn-back",       // a page that was left before isn't put in place again
+    "turn-service",    // a service's change of page isn't seen before its end
+    "turn-alias",      // another bank byte for the same page picks another
+    "turn-window",     // in runs the window shows the page at the start
+    "turn-pair",       // after RETI one step has the flags of the mode before
+    "turn-pair-taken", // after a taking one has
+    "turn-list",       // short runs have 64 requests, again and again
+    "turn-list-80",    // from the 4,097th step on a request comes a step late
+    "turn-80",         // a run of 80 steps counts a cycle too many
+    "turn-64",         // one of 64 steps counts two cycles too few
+    "row-on",          // a playing goes on after a stop, with the next row
+    "row-first",       // a stop has the number of its row's first entry
+    "row-next",        // it has that of the first entry after its row
+    "row-cycles",      // the cycles of a row that stops are lost
+    "row-back",        // the machine after a stop is the one before its row
+    "row-request",     // steps have the request of the next one in their row
+    "row-last",        // the last step of a row has none
+    "row-cut",         // the first step after a store has none
+    "row-4097",        // the 4,097th step of a row isn't done
+    "row-4096",        // steps of a row after 4,096 have no requests
+    "row-11",          // a refused step takes its row back
+    "row-10",          // the cycles of a row before a refused store are lost
+    "row-store",       // those of one before a store are
+    "row-reset",       // those of one before a reset are
+    "row-long",        // in version 2 a stop in a row has the next one's number
 ];
 
 fn fault() -> Option<&'static str> {
@@ -418,22 +452,28 @@ fn faulty_steps(image: &[u8], state: &mut [u8], requests: &[u8], n: u32) -> (u32
     let (mut steps, mut cycles) = (0, 0);
     let first = bank::bank(state);
     let mut last = first;
+    let mut turns = turns::Turns::new(state, n);
     while steps < n {
-        let request = requests.get(steps as usize).copied().unwrap_or(0);
+        let request = turns::requested(requests, steps, n);
         let bank = match fault() {
             Some("bank-run") => first,
             Some("bank-late") => last,
             _ => bank::bank(state),
         };
         last = bank::bank(state);
-        let answer = any_step(true, image, state, request as u32, bank);
+        let shown = turns.as_mut().map(|turns| turns.shown(image, state));
+        let shown = shown.as_deref().unwrap_or(image);
+        let answer = any_step(true, shown, state, request as u32, bank);
         if boundary::number(answer) != 0 {
             return (steps, cycles, answer);
         }
         steps += 1;
         cycles += boundary::cycles(answer);
+        if let Some(turns) = &mut turns {
+            turns.after_step(state, boundary::cycles(answer));
+        }
     }
-    (steps, cycles, 0)
+    (steps, turns::cycles(cycles, n), 0)
 }
 
 pub fn write(fields: &[u8], out: &mut [u8]) -> u64 {
@@ -509,6 +549,10 @@ pub fn width(image: &[u8], certificate: &[u8], count: u32) -> u64 {
     let Gauged { width, steps } = boundary::gauged(answer);
     match (fault(), boundary::number(answer)) {
         (Some("width-bytes"), 0) => (steps as u64) << 40 | (width.swap_bytes() as u64) << 24,
+        (Some("width-place"), 0) => {
+            let width = turns::width(image, count as u8, steps);
+            (steps as u64) << 40 | (width as u64) << 24
+        }
         (Some("width-steps"), 0) => answer + (1 << 40),
         (Some("width-limit"), 0) if steps == u16::MAX => 24,
         (Some("width-number"), 23) => refused() as u64,

@@ -48,14 +48,14 @@ fn store_result(bytes: &mut [u8; 256], address: u8, result: Outcome) -> Flags
 }
 
 // LD A and LDI A.
-fn load(value: u8, bytes: &mut [u8; 256], carry: bool) -> Flags
+pub fn load(value: u8, bytes: &mut [u8; 256], carry: bool) -> Flags
     ensures { λ r. ⌜ dataOf (now (bytes .exit)) r ≡ loadOf (now (bytes .entry)) carry value ⌝ }
 {
     store_result(bytes, A, alu::result(value, carry))
 }
 
 // LD of A to a data address.
-fn store_a(address: u8, bytes: &mut [u8; 256], carry: bool) -> Flags
+pub fn store_a(address: u8, bytes: &mut [u8; 256], carry: bool) -> Flags
     ensures { λ r. ⌜ dataOf (now (bytes .exit)) r ≡ storeAOf (now (bytes .entry)) carry address ⌝ }
 {
     let result = alu::result(accumulator(bytes), carry);
@@ -63,7 +63,7 @@ fn store_a(address: u8, bytes: &mut [u8; 256], carry: bool) -> Flags
 }
 
 // INC.
-fn increment(image: &[u8], address: u8, bytes: &mut [u8; 256], carry: bool) -> Flags
+pub fn increment(image: &[u8], address: u8, bytes: &mut [u8; 256], carry: bool) -> Flags
     ensures { λ r. ⌜ (IsImage (now (image .entry))
         → dataOf (now (bytes .exit)) r
         ≡ incrementOf (programOf (now (image .entry)) (now (bytes .entry))) (now (bytes .entry)) carry address) ⌝ }
@@ -73,7 +73,7 @@ fn increment(image: &[u8], address: u8, bytes: &mut [u8; 256], carry: bool) -> F
 }
 
 // DEC.
-fn decrement(image: &[u8], address: u8, bytes: &mut [u8; 256], carry: bool) -> Flags
+pub fn decrement(image: &[u8], address: u8, bytes: &mut [u8; 256], carry: bool) -> Flags
     ensures { λ r. ⌜ (IsImage (now (image .entry))
         → dataOf (now (bytes .exit)) r
         ≡ decrementOf (programOf (now (image .entry)) (now (bytes .entry))) (now (bytes .entry)) carry address) ⌝ }
@@ -83,7 +83,7 @@ fn decrement(image: &[u8], address: u8, bytes: &mut [u8; 256], carry: bool) -> F
 }
 
 // ADD and ADDI.
-fn add(value: u8, bytes: &mut [u8; 256]) -> Flags
+pub fn add(value: u8, bytes: &mut [u8; 256]) -> Flags
     ensures { λ r. ⌜ dataOf (now (bytes .exit)) r ≡ addOf (now (bytes .entry)) value ⌝ }
 {
     let result = alu::added(accumulator(bytes), value);
@@ -91,7 +91,7 @@ fn add(value: u8, bytes: &mut [u8; 256]) -> Flags
 }
 
 // SUB and SUBI.
-fn subtract(value: u8, bytes: &mut [u8; 256]) -> Flags
+pub fn subtract(value: u8, bytes: &mut [u8; 256]) -> Flags
     ensures { λ r. ⌜ dataOf (now (bytes .exit)) r ≡ subtractOf (now (bytes .entry)) value ⌝ }
 {
     let result = alu::subtracted(accumulator(bytes), value);
@@ -99,7 +99,7 @@ fn subtract(value: u8, bytes: &mut [u8; 256]) -> Flags
 }
 
 // AND and ANDI.
-fn and(value: u8, bytes: &mut [u8; 256], carry: bool) -> Flags
+pub fn and(value: u8, bytes: &mut [u8; 256], carry: bool) -> Flags
     ensures { λ r. ⌜ dataOf (now (bytes .exit)) r ≡ andOf (now (bytes .entry)) carry value ⌝ }
 {
     let result = alu::anded(accumulator(bytes), value, carry);
@@ -107,7 +107,7 @@ fn and(value: u8, bytes: &mut [u8; 256], carry: bool) -> Flags
 }
 
 // CP and CPI: flags only.
-fn compare(value: u8, bytes: &[u8; 256]) -> Flags
+pub fn compare(value: u8, bytes: &[u8; 256]) -> Flags
     ensures { λ r. ⌜ r ≡ compareOf (now (bytes .entry)) value ⌝ }
 {
     let result = alu::subtracted(accumulator(bytes), value);
@@ -115,7 +115,7 @@ fn compare(value: u8, bytes: &[u8; 256]) -> Flags
 }
 
 // COM.
-fn complement(bytes: &mut [u8; 256]) -> Flags
+pub fn complement(bytes: &mut [u8; 256]) -> Flags
     ensures { λ r. ⌜ dataOf (now (bytes .exit)) r ≡ complementOf (now (bytes .entry)) ⌝ }
 {
     let result = alu::complemented(accumulator(bytes));
@@ -123,7 +123,7 @@ fn complement(bytes: &mut [u8; 256]) -> Flags
 }
 
 // RLC.
-fn rotate(bytes: &mut [u8; 256], carry: bool) -> Flags
+pub fn rotate(bytes: &mut [u8; 256], carry: bool) -> Flags
     ensures { λ r. ⌜ dataOf (now (bytes .exit)) r ≡ rotateOf (now (bytes .entry)) carry ⌝ }
 {
     let result = alu::rotated(accumulator(bytes), carry);
@@ -131,7 +131,7 @@ fn rotate(bytes: &mut [u8; 256], carry: bool) -> Flags
 }
 
 // LDI of a data address: no flag changes.
-fn store_immediate(bytes: &mut [u8; 256], flags: Flags, address: u8, value: u8) -> Flags
+pub fn store_immediate(bytes: &mut [u8; 256], flags: Flags, address: u8, value: u8) -> Flags
     ensures { λ r. ⌜ dataOf (now (bytes .exit)) r ≡ storeImmediateOf (now (bytes .entry)) flags address value ⌝ }
 {
     store(bytes, address, value);
@@ -139,7 +139,7 @@ fn store_immediate(bytes: &mut [u8; 256], flags: Flags, address: u8, value: u8) 
 }
 
 // SET: no flag changes.
-fn set_bit(image: &[u8], bytes: &mut [u8; 256], flags: Flags, address: u8, bit: u8) -> Flags
+pub fn set_bit(image: &[u8], bytes: &mut [u8; 256], flags: Flags, address: u8, bit: u8) -> Flags
     ensures { λ r. ⌜ (IsImage (now (image .entry))
         → dataOf (now (bytes .exit)) r
         ≡ setBitOf (programOf (now (image .entry)) (now (bytes .entry))) (now (bytes .entry)) flags address bit) ⌝ }
@@ -150,7 +150,7 @@ fn set_bit(image: &[u8], bytes: &mut [u8; 256], flags: Flags, address: u8, bit: 
 }
 
 // RES: no flag changes.
-fn reset_bit(image: &[u8], bytes: &mut [u8; 256], flags: Flags, address: u8, bit: u8) -> Flags
+pub fn reset_bit(image: &[u8], bytes: &mut [u8; 256], flags: Flags, address: u8, bit: u8) -> Flags
     ensures { λ r. ⌜ (IsImage (now (image .entry))
         → dataOf (now (bytes .exit)) r
         ≡ resetBitOf (programOf (now (image .entry)) (now (bytes .entry))) (now (bytes .entry)) flags address bit) ⌝ }

@@ -8,8 +8,10 @@ use isa::rom::fixed_of;
 use isa::rom::page_of;
 use isa::rom::rom_byte;
 ghost use mathlib.Core.Path.{_≡_};
+ghost use mathlib.Core.List.{List};
 ghost use Rattle.isa.specs.Rom.{IsImage, romAt};
-ghost use Prim.Native.Nat.{_≤_, _<_};
+ghost use Prim.Native.Nat.{ℕ, _≤_, _<_};
+ghost use lib.ListN.{getD};
 ghost use Rattle.data.specs.Space.{inWindow, isWriteOnly, shownOf, windowAddress, heldOf, readOf, originOf};
 ghost use Rattle.data.specs.Space.{programOf};
 ghost use Rattle.data.specs.Space.{storeOf, addressOf, operandOf};
@@ -138,10 +140,32 @@ pub fn address(bytes: &[u8; 256], operand: Operand) -> u8
     }
 }
 
+// The same, for a caller that has read X and Y.
+pub fn address_by(x: u8, y: u8, operand: Operand) -> u8
+    ensures { λ r. ⌜ ((bytes : List ℕ) → x ≡ getD bytes 128 0 → y ≡ getD bytes 129 0
+        → r ≡ addressOf bytes operand) ⌝ }
+{
+    match operand {
+        Operand::Direct(a) => a,
+        Operand::Short(n) => 0x80 + n % 4,
+        Operand::ThroughX => x,
+        Operand::ThroughY => y,
+    }
+}
+
 // The byte of an operand.
 pub fn operand(image: &[u8], bytes: &[u8; 256], o: Operand) -> u8
     ensures { λ r. ⌜ (IsImage (now (image .entry))
         → r ≡ operandOf (programOf (now (image .entry)) (now (bytes .entry))) (now (bytes .entry)) o) ⌝ }
 {
     read(image, bytes, address(bytes, o))
+}
+
+// The same, for a caller that has read X and Y.
+pub fn operand_by(image: &[u8], bytes: &[u8; 256], x: u8, y: u8, o: Operand) -> u8
+    ensures { λ r. ⌜ (IsImage (now (image .entry)) → x ≡ getD (now (bytes .entry)) 128 0
+        → y ≡ getD (now (bytes .entry)) 129 0
+        → r ≡ operandOf (programOf (now (image .entry)) (now (bytes .entry))) (now (bytes .entry)) o) ⌝ }
+{
+    read(image, bytes, address_by(x, y, o))
 }

@@ -7,7 +7,7 @@ use native.Mathlib.Omega.{arith}
 use native.Mathlib.Nat.{le-refl}
 use borrow.Author.Tests.{eqb-true}
 use lib.ListN.{length, drop, length-append, length-drop, drop-of-length-le}
-use lib.Seq.{paste, take-all, take-at, drop-append-add, drop-drop}
+use lib.Seq.{paste, take-all, take-at, drop-append-add}
 use Rattle.control.specs.declared.Control.{Control}
 use Rattle.machine.specs.declared.FlagPairs.{FlagPairs}
 use Rattle.certificate.proofs.Facts.{both-true}
@@ -42,13 +42,3 @@ three-parts s bytes s₁ s₂ s₃ c f stack whole full e₁ e₂ e₃ =
     let d₂ : s₂ ≡ bytes ++ cb ++ r₂ = e₂ ∙ rw d₁ (paste-next bytes r₁ cb 256 full) in
     let d₃ : s₃ ≡ bytes ++ cb ++ sb ++ drop 12 r₂ = e₃ ∙ rw d₂ (paste-next (bytes ++ cb) r₂ sb 268 filled) in
     d₃ ∙ rw (drop-of-length-le r₂ over, append-nil)
-
--- two parts in a row at the front
-pub two-parts :
-    (out row timing out₁ out₂ : List ℕ) → length row ≡ 7 → length timing ≡ 3 → out₁ ≡ paste out 0 row (length row) →
-    out₂ ≡ paste out₁ 7 timing (length timing) → out₂ ≡ row ++ timing ++ drop 10 out
-two-parts out row timing out₁ out₂ seven three e₁ e₂ =
-    let d₁ : out₁ ≡ row ++ drop (length row) out = e₁ ∙ paste-next [] out row 0 refl in
-    let d₂ : out₂ ≡ row ++ timing ++ drop (length timing) (drop (length row) out) =
-    e₂ ∙ rw d₁ (paste-next row (drop (length row) out) timing 7 seven) in
-    d₂ ∙ rw (seven, three, drop-drop 3 7 out)

@@ -1,7 +1,6 @@
 // An instruction as a row of fields: form, operand kind, value low and high, second value, bit number, displacement;
 // decoding adds length, cycles and a zero.
 use crate::copying::number;
-use crate::copying::put;
 use isa::Instruction;
 use isa::Operand;
 use isa::displacement::long_byte;
@@ -119,15 +118,23 @@ fn fields_of(i: Instruction) -> [u8; 7]
     }
 }
 
-// The whole row that decoding answers, from the buffer's first byte.
+// The whole row that decoding answers, from the buffer's first byte. It is written byte by byte: copied in one, the
+// fields would have to stand in memory first, and be read from there as soon as they are written.
 pub fn put_row(out: &mut [u8], i: Instruction, bytes: u8, cycles: u8)
     requires { ⌜ 10 ≤ length (now out) ⌝ }
     ensures { λ _. ⌜ now (out .exit) ≡ decodedRow i bytes cycles ++ drop 10 (now (out .entry)) ⌝ }
 {
     let fields = fields_of(i);
-    let timing = [bytes, cycles, 0];
-    put(out, 0, &fields);
-    put(out, 7, &timing);
+    out[0] = fields[0];
+    out[1] = fields[1];
+    out[2] = fields[2];
+    out[3] = fields[3];
+    out[4] = fields[4];
+    out[5] = fields[5];
+    out[6] = fields[6];
+    out[7] = bytes;
+    out[8] = cycles;
+    out[9] = 0;
 }
 
 fn operand_of(kind: u8, value: u8) -> Operand
@@ -196,8 +203,8 @@ fn candidate(fields: &[u8]) -> Instruction
     )
 }
 
-// Whether the first seven bytes of a slice are these.
-fn begins_with(fields: &[u8], own: &[u8; 7]) -> bool
+// Whether the first seven bytes of a slice are those of a row.
+fn begins_with(fields: &[u8], own: &[u8; 10]) -> bool
     requires { ⌜ 7 ≤ length (now fields) ⌝ }
     ensures { λ r. ⌜ r ≡ every (agree (now (fields .entry)) (now (own .entry))) 7 ⌝ }
 {
@@ -220,7 +227,8 @@ pub fn read(fields: &[u8]) -> Reading
         return Reading::Unreadable;
     }
     let i = candidate(fields);
-    let own = fields_of(i);
+    let mut own = [0u8; 10];
+    put_row(&mut own, i, 0, 0);
     if begins_with(fields, &own) {
         Reading::Is(i)
     } else {

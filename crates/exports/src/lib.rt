@@ -35,13 +35,18 @@ use jobs::answer::answer;
 use machine::run::run;
 use machine::state::host_store;
 use machine::state::reset;
-use machine::step::step;
+use machine::step::step_lent;
 use maker::make::make;
 use packing::pack;
+use packing::pack_parts;
 use packing::report_bytes;
 use playback::PlayAnswer;
 use playback::play::play;
+use states::control_of;
+use states::data_of;
 use states::is_valid;
+use states::pairs_of;
+use states::stack_of;
 use states::unpack;
 ghost use mathlib.Core.Path.{_≡_};
 ghost use Rattle.certificate.specs.Check.{checkOf};
@@ -134,10 +139,15 @@ pub extern "C" fn st62_step(image: &[u8], state: &mut [u8], request: u32) -> u64
     if !is_valid(state) {
         return invalid_state(image);
     }
-    let stepped = step(image, unpack(state), clamp_byte(request));
-    let m = stepped.machine;
-    let report = stepped.report;
-    pack(state, m);
+    let mut bytes = data_of(state);
+    let mut stack = stack_of(state);
+    let c = control_of(state);
+    let f = pairs_of(state);
+    let after = step_lent(image, &mut bytes, &mut stack, c, f, clamp_byte(request));
+    let control = after.control;
+    let flags = after.flags;
+    let report = after.report;
+    pack_parts(state, &bytes, &stack, control, flags);
     step_word(report)
 }
 

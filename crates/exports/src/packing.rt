@@ -8,6 +8,7 @@ use machine::Machine;
 ghost use mathlib.Core.Path.{_≡_};
 ghost use Prim.Native.Nat.{_<_, _/_, _%_};
 ghost use lib.ListN.{length};
+ghost use Rattle.machine.specs.State.{machineOf};
 ghost use Rattle.exports.specs.States.{modeNumber, flagByte, lowByte, highByte, controlBytes, stackBytes, packed};
 ghost use Rattle.exports.specs.Lent.{reportBytes};
 
@@ -84,6 +85,25 @@ fn stack_bytes(stack: &[u16; 6]) -> [u8; 12]
     ]
 }
 
+// The parts of a machine as a state.
+pub fn pack_parts(
+    state: &mut [u8],
+    bytes: &[u8; 256],
+    stack: &[u16; 6],
+    c: Control,
+    flags: FlagPairs,
+)
+    requires { ⌜ length (now state) ≡ 280 ⌝ }
+    ensures { λ _. ⌜ now (state .exit)
+        ≡ packed (machineOf c (now (stack .entry)) flags (now (bytes .entry))) ⌝ }
+{
+    let control = control_bytes(c, flags);
+    let returns = stack_bytes(stack);
+    put(state, 0, bytes);
+    put(state, 256, &control);
+    put(state, 268, &returns);
+}
+
 // The machine as a state.
 pub fn pack(state: &mut [u8], m: Machine)
     requires { ⌜ length (now state) ≡ 280 ⌝ }
@@ -93,11 +113,7 @@ pub fn pack(state: &mut [u8], m: Machine)
     let stack = m.stack;
     let c = m.control;
     let f = m.flags;
-    let control = control_bytes(c, f);
-    let returns = stack_bytes(&stack);
-    put(state, 0, &bytes);
-    put(state, 256, &control);
-    put(state, 268, &returns);
+    pack_parts(state, &bytes, &stack, c, f);
 }
 
 // A byte of a number, by its weight.

@@ -65,7 +65,7 @@ fn mode_of(number: u8) -> Mode
     }
 }
 
-fn data_of(state: &[u8]) -> [u8; 256]
+pub fn data_of(state: &[u8]) -> [u8; 256]
     requires { ⌜ length (now state) ≡ 280 ⌝ }
     ensures { λ r. ⌜ r ≡ take 256 (now (state .entry)) ⌝ }
 {
@@ -78,7 +78,7 @@ fn data_of(state: &[u8]) -> [u8; 256]
     bytes
 }
 
-fn stack_of(state: &[u8]) -> [u16; 6]
+pub fn stack_of(state: &[u8]) -> [u16; 6]
     requires { ⌜ length (now state) ≡ 280 ⌝ }
     ensures { λ r. ⌜ r ≡ stackAt (now (state .entry)) ⌝ }
 {
@@ -103,7 +103,7 @@ fn pair_at(state: &[u8], at: usize) -> Flags
     }
 }
 
-fn pairs_of(state: &[u8]) -> FlagPairs
+pub fn pairs_of(state: &[u8]) -> FlagPairs
     requires { ⌜ length (now state) ≡ 280 ⌝ }
     ensures { λ r. ⌜ r ≡ pairsAt (now (state .entry)) ⌝ }
 {
@@ -114,7 +114,7 @@ fn pairs_of(state: &[u8]) -> FlagPairs
     }
 }
 
-fn control_of(state: &[u8]) -> Control
+pub fn control_of(state: &[u8]) -> Control
     requires { ⌜ length (now state) ≡ 280 ⌝ }
     ensures { λ r. ⌜ r ≡ controlAt (now (state .entry)) ⌝ }
 {

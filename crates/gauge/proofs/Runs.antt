@@ -1,4 +1,4 @@
--- The first sleep of a machine that is looked at after every run of 255 steps only.
+-- The first sleep of a machine that is looked at after every run of 1,285 steps only.
 use Prim.Native.Nat.{ℕ, zero, suc, _+_, _-_, _<_, _≤_}
 use mathlib.Core.Path.{_≡_, refl, sym, ap, _∙_}
 use mathlib.Core.Bool.{Bool, true, false, false≢true}
@@ -31,34 +31,34 @@ module _ (image : List ℕ) (m : Machine) (ready : Ready image m) where
       (λ d h. awake-before image m 65535 (ready .all-done) (1 + d) 65535 (omega arith) (omega arith) awake)
 
   -- after n steps, with a run more to go
-  module _ (n : ℕ) (room : n + 255 ≤ 65535) (held : Machine) (is : held ≡ machineAfter image m n) where
+  module _ (n : ℕ) (room : n + 1285 ≤ 65535) (held : Machine) (is : held ≡ machineAfter image m n) where
     -- the machine after the run
-    pub run-on : (r : Run) → r ≡ runOf image held [] 255 → r .machine ≡ machineAfter image m (n + 255)
+    pub run-on : (r : Run) → r ≡ runOf image held [] 1285 → r .machine ≡ machineAfter image m (n + 1285)
     run-on r e =
-        ap (λ (x : Run). x .machine) e ∙ ap (λ (x : Machine). runOf image x [] 255 .machine) is
-        ∙ run-further image m 65535 (ready .all-done) n 255 (omega arith) (omega arith)
+        ap (λ (x : Run). x .machine) e ∙ ap (λ (x : Machine). runOf image x [] 1285 .machine) is
+        ∙ run-further image m 65535 (ready .all-done) n 1285 (omega arith) (omega arith)
 
     -- whether it sleeps then, as the program finds it
-    pub asleep-then : (r : Run) → r ≡ runOf image held [] 255 → (b : Bool) → b ≡ r .machine .control .asleep
-        → asleepAfter image m (n + 255) ≡ b
-    asleep-then r e b a = found-after image m (r .machine) (n + 255) b (run-on r e) a
+    pub asleep-then : (r : Run) → r ≡ runOf image held [] 1285 → (b : Bool) → b ≡ r .machine .control .asleep
+        → asleepAfter image m (n + 1285) ≡ b
+    asleep-then r e b a = found-after image m (r .machine) (n + 1285) b (run-on r e) a
 
     -- .. and after some of its steps
-    on : (k : ℕ) → k ≤ 255 → machineAfter image held k ≡ machineAfter image m (n + k)
+    on : (k : ℕ) → k ≤ 1285 → machineAfter image held k ≡ machineAfter image m (n + k)
     on k h =
         ap (λ (x : Machine). machineAfter image x k) is
         ∙ further image m 65535 (ready .all-done) n k (omega arith)
 
     -- it is asleep after the run, so it falls asleep in it
-    pub sleeps-within : AsleepAfter image m (n + 255) → SleepsWithin image held 255
+    pub sleeps-within : AsleepAfter image m (n + 1285) → SleepsWithin image held 1285
     sleeps-within asleep =
         record {
-          all-done = rw is (rest-done image m 65535 (ready .all-done) n 255 room);
-          asleep = ap (λ (x : Machine). x .control .asleep) (on 255 (omega arith)) ∙ asleep;
+          all-done = rw is (rest-done image m 65535 (ready .all-done) n 1285 room);
+          asleep = ap (λ (x : Machine). x .control .asleep) (on 1285 (omega arith)) ∙ asleep;
         }
 
-    module _ (awake : AwakeAfter image m n) (width steps : ℕ) (first : SleepsFirst image held 255 width steps) where
-      within : steps ≤ 255
+    module _ (awake : AwakeAfter image m n) (width steps : ℕ) (first : SleepsFirst image held 1285 width steps) where
+      within : steps ≤ 1285
       within = first .within
 
       -- the steps before it are those of the runs before and of this one

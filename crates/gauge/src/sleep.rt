@@ -8,10 +8,11 @@ ghost use mathlib.Core.Path.{_≡_};
 ghost use Prim.Native.Nat.{_+_, _*_};
 ghost use Rattle.gauge.specs.Sleep.{sizingOf, widthShown, sizeOf, Ready, SleepsWithin, SleepsFirst};
 
-// 257 runs of 255 steps are the 65,535 steps in which the machine must sleep.
-const RUNS: u16 = 257;
+// 51 runs of 1,285 steps are the 65,535 steps in which the machine must sleep. A run begins by clearing a store, in the
+// time of some 60 steps, so runs are long.
+const RUNS: u16 = 51;
 
-const RUN_STEPS: u16 = 255;
+const RUN_STEPS: u16 = 1285;
 
 // The data address of the width's high byte; the low byte follows it.
 const WIDTH: usize = 0x84;
@@ -45,8 +46,8 @@ fn width_shown(m: Machine) -> u16
 
 // The first sleep of a machine that is known to sleep within a run, step by step.
 fn first_sleep(image: &[u8], m: Machine) -> Slept
-    requires { ⌜ SleepsWithin (now image) m 255 ⌝ }
-    ensures { λ r. ⌜ SleepsFirst (now (image .entry)) m 255 (r .width) (r .steps) ⌝ }
+    requires { ⌜ SleepsWithin (now image) m 1285 ⌝ }
+    ensures { λ r. ⌜ SleepsFirst (now (image .entry)) m 1285 (r .width) (r .steps) ⌝ }
 {
     let mut held = m;
     let mut steps: u16 = 0;

@@ -3,12 +3,15 @@ pub mod Halves
 pub mod ThreeBytes
 pub mod ShortDisplacement
 pub mod Column
+pub mod PlainColumns
 pub mod Prefix
 pub mod GoesOn
 pub mod EntryFlow
+pub mod Words
 pub mod Reading
 pub mod AtAddress
 pub mod DecodedLength
+pub mod CyclesFit
 pub mod Targets
 pub mod RoundTrip
 pub mod Counts

@@ -11,6 +11,7 @@ pub mod ControlFlow
 pub mod FlowAt
 pub mod Sources
 pub mod Lengths
+pub mod Predecoded
 pub mod RoundTrip
 pub mod Targets
 pub mod Counts

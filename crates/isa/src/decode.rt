@@ -43,7 +43,8 @@ pub fn decode_in_range(table: &[u8; 256], image: &[u8], bank: u8, address: u16) 
     }
 }
 
-// The instruction at an address of an image with a bank byte.
+// The instruction at an address of an image with a bank byte. The answer is taken apart and made again: handed on
+// whole, it is read at once from the memory into which it was written part by part, and the processor waits for that.
 pub fn decode(image: &[u8], bank: u8, address: u16) -> Decoded
     ensures { λ r. ⌜ answerOf r ≡ decodeIn (now (image .entry)) bank address ⌝ }
 {
@@ -54,5 +55,16 @@ pub fn decode(image: &[u8], bank: u8, address: u16) -> Decoded
         return Decoded::Refused(Refusal::AddressRange);
     }
     let table = timings();
-    decode_in_range(&table, image, bank, address)
+    match decode_in_range(&table, image, bank, address) {
+        Decoded::Refused(refusal) => Decoded::Refused(refusal),
+        Decoded::Valid {
+            instruction,
+            length,
+            cycles,
+        } => Decoded::Valid {
+            instruction,
+            length,
+            cycles,
+        },
+    }
 }

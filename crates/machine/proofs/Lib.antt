@@ -1,4 +1,5 @@
 pub mod PairTests
+pub mod Store
 pub mod Stops
 pub mod StepDoes
 pub mod StaysWellFormed

@@ -7,8 +7,8 @@ use native.Mathlib.Omega.{arith}
 use native.Mathlib.Nat.{zero-add, suc-add}
 use native.Mathlib.Numerals.{add-one}
 use borrow.Author.Count.{below-more}
-use lib.ListN.{getD, length, replicate, List·getD-eq-default}
-use Rattle.isa.specs.Refusals.{Numbered, Answer, done, refused}
+use lib.ListN.{getD, length, List·getD-eq-default}
+use Rattle.isa.specs.Refusals.{Numbered, done, refused}
 use Rattle.isa.specs.Sources.{namesOnlySources}
 use Rattle.isa.specs.Rom.{isImage}
 use Rattle.isa.specs.Decode.{decodeAt}
@@ -17,8 +17,7 @@ use Rattle.machine.specs.declared.Machine.{Machine}
 use Rattle.machine.specs.State.{isWellFormed}
 use Rattle.machine.specs.Advance.{Step, doneOf, refusedOf, decodedOf, uninterruptedOf, advancedOf}
 use Rattle.machine.specs.Step.{stepOf}
-use Rattle.machine.specs.Steps.{Run, runAt, asAnswer, joinedBy, continuedOf, stepsOf, requestsFit}
-use Rattle.machine.specs.Operands.{readWith, stepReadOf}
+use Rattle.machine.specs.Steps.{Run, runAt, continuedOf, stepsOf, requestsFit}
 
 -- a step that is not refused
 pub step-advances :
@@ -139,33 +138,3 @@ module _ (image requests : List ℕ) (m : Machine) where
       let whole : (n - suc i) + suc i ≡ n = omega arith in
       here ∙ sym (stays-by (suc i) (n - suc i) r (sym (ap (λ (x : Run). x .report .ending) here)))
       ∙ ap (stepsOf image requests m) whole
-
--- a list of one request byte
-pub fit-one : (q : ℕ) → namesOnlySources q ≡ true → requestsFit (replicate 1 q) 1 ≡ true
-unfolding requestsFit
-fit-one q e = rw e
-
--- a run of one step is that step
-pub one-step :
-    (image : List ℕ) (m : Machine) (q : ℕ) (r : Run) → r ≡ stepsOf image (replicate 1 q) m 1 →
-    _≡_ {A = Step} (record { machine = r .machine; answer = asAnswer (r .report) }) (stepOf image m q)
-unfolding stepsOf
-one-step image m q r e = rw e (by-answer (stepOf image m q .machine) (stepOf image m q .answer))
-  where
-    by-answer :
-        (n : Machine) (a : Answer ℕ) →
-        _≡_ {A = Step}
-        (record {
-          machine = joinedBy (runAt m 0 0 (done tt)) n a .machine;
-          answer = asAnswer (joinedBy (runAt m 0 0 (done tt)) n a .report);
-        })
-        (record { machine = n; answer = a })
-    by-answer n (done cycles) = rw (zero-add cycles)
-    by-answer n (refused reason) = refl
-
--- .. and reads what the step does
-pub one-step-read :
-    (image : List ℕ) (m : Machine) (q : ℕ) (r : Run) → r ≡ stepsOf image (replicate 1 q) m 1 →
-    readWith image m q (asAnswer (r .report)) ≡ stepReadOf image m q
-unfolding stepReadOf
-one-step-read image m q r e = ap (λ (s : Step). readWith image m q (s .answer)) (one-step image m q r e)

@@ -7,6 +7,7 @@ use native.Mathlib.Omega.{arith}
 use Rattle.alu.specs.declared.Flags.{Flags}
 use Rattle.data.specs.Effect.{Data, dataOf, effectOf}
 use Rattle.isa.specs.ControlFlow.{flowOf}
+use Rattle.isa.specs.Displacement.{forwardOf}
 use Rattle.isa.specs.Refusals.{located}
 use Rattle.isa.specs.declared.Instruction.{Instruction}
 use Rattle.isa.specs.declared.Instruction.the-variants as I
@@ -18,12 +19,14 @@ use Rattle.control.specs.Stack.{Transferred, transferOf, popOf}
 use Rattle.control.specs.Transfers.{callOf, returnFromInterruptOf, advanceOf}
 use Rattle.control.proofs.Stopped.{call-stops, pop-stops, return-stops}
 use Rattle.control.proofs.Stopped as control
+use Rattle.machine.specs.declared.FlagPairs.{FlagPairs}
 use Rattle.machine.specs.declared.Machine.{Machine}
 use Rattle.machine.specs.declared.Executed.{Executed}
 use Rattle.machine.specs.Pairs.{withPairOf}
 use Rattle.machine.specs.Execute.{Execution, executionOf, executionBy, executeOf}
 use Rattle.machine.specs.State.{machineOf, viewOf}
-use Rattle.machine.specs.Advance.{Step, doneOf, refusedOf, takenBy, completedOf}
+use Rattle.machine.specs.Advance.{Step, doneOf, refusedOf, takenBy, completedOf, executedOf}
+use Rattle.machine.proofs.PairTests.{pair-put, put-twice}
 
 -- it goes on, or data and stack are as they were
 abbrev pub Kept : Data → List ℕ → Execution → Type 0
@@ -85,7 +88,7 @@ module _ (image : List ℕ) (d : Data) (stack : List ℕ) (c : Control) where
   by-kind _ next is-reti = by-transfer (returnFromInterruptOf stack c next) (return-stops stack c next .kept)
   by-kind i next (goes-on e) = inl (e image d stack c next)
 
-  pub execution-keeps : (i : Instruction) (next : ℕ) → Kept d stack (executeOf image d stack c i next)
+  execution-keeps : (i : Instruction) (next : ℕ) → Kept d stack (executeOf image d stack c i next)
   execution-keeps i next = by-kind i next (may-stop i)
 
 -- a stop that is none of the others
@@ -98,7 +101,7 @@ not-none-empty p q = let z : _≡_ {A = ℕ} 0 1 = cc in omega arith
 -- an instruction's end, from what the program was handed
 module _ (m : Machine) (cycles : ℕ) (x : Execution) (bytes stack : List ℕ) (r : Executed)
     (e : executionOf bytes stack r ≡ x) where
-  pub completed :
+  completed :
       r .stop ≡ stop.None →
       doneOf (machineOf (r .control) stack (withPairOf (m .flags) (m .control .mode) (r .flags)) bytes) cycles
       ≡ completedOf m cycles x
@@ -112,19 +115,56 @@ module _ (m : Machine) (cycles : ℕ) (x : Execution) (bytes stack : List ℕ) (
       let s : stack ≡ m .stack = ap (λ (y : Execution). y .stack) e ∙ k .1 in
       rw (b, s)
 
-  pub completed-full :
+  completed-full :
       Kept (viewOf m) (m .stack) x → r .stop ≡ stop.Full →
       refusedOf (machineOf (m .control) stack (m .flags) bytes) (located 6 (m .control .pc)) ≡ completedOf m cycles x
   unfolding completedOf
   completed-full k h =
       ap (λ (n : Machine). refusedOf n (located 6 (m .control .pc))) (same k (λ n. not-none n h)) ∙ rw (← e, h)
 
-  pub completed-empty :
+  completed-empty :
       Kept (viewOf m) (m .stack) x → r .stop ≡ stop.Empty →
       refusedOf (machineOf (m .control) stack (m .flags) bytes) (located 7 (m .control .pc)) ≡ completedOf m cycles x
   unfolding completedOf
   completed-empty k h =
       ap (λ (n : Machine). refusedOf n (located 7 (m .control .pc))) (same k (λ n. not-none-empty n h)) ∙ rw (← e, h)
+
+-- the same where the pair in use is apart from the others: for both ways to execute an instruction
+module _ (program : List ℕ) (c : Control) (flags : Flags) (i : Instruction) (n cycles : ℕ)
+    (bytes stack left pushed : List ℕ) (pairs : FlagPairs) (r : Executed)
+    (e : executionOf left pushed r ≡ executeOf program (dataOf bytes flags) stack c i (forwardOf (c .pc) n)) where
+  abbrev before : Machine
+  before = machineOf c stack (withPairOf pairs (c .mode) flags) bytes
+
+  seen : executionOf left pushed r ≡ executeOf program (viewOf before) stack c i (forwardOf (c .pc) n)
+  seen = rw (pair-put pairs (c .mode) flags) e
+
+  kept : Kept (viewOf before) stack (executeOf program (viewOf before) stack c i (forwardOf (c .pc) n))
+  kept = execution-keeps program (viewOf before) stack c i (forwardOf (c .pc) n)
+
+  pub executed-done :
+      r .stop ≡ stop.None →
+      doneOf (machineOf (r .control) pushed (withPairOf pairs (c .mode) (r .flags)) left) cycles
+      ≡ executedOf program before i n cycles
+  unfolding executedOf
+  executed-done h =
+      ap (λ (p : FlagPairs). doneOf (machineOf (r .control) pushed p left) cycles)
+      (sym (put-twice pairs (c .mode) flags (r .flags)))
+      ∙ completed before cycles _ left pushed r seen h
+
+  pub executed-full :
+      r .stop ≡ stop.Full →
+      refusedOf (machineOf c pushed (withPairOf pairs (c .mode) flags) left) (located 6 (c .pc))
+      ≡ executedOf program before i n cycles
+  unfolding executedOf
+  executed-full h = completed-full before cycles _ left pushed r seen kept h
+
+  pub executed-empty :
+      r .stop ≡ stop.Empty →
+      refusedOf (machineOf c pushed (withPairOf pairs (c .mode) flags) left) (located 7 (c .pc))
+      ≡ executedOf program before i n cycles
+  unfolding executedOf
+  executed-empty h = completed-empty before cycles _ left pushed r seen kept h
 
 -- a request's end, likewise
 module _ (m : Machine) (t : Transferred) (stack : List ℕ) (r : Transfer) (e : transferOf stack r ≡ t) where

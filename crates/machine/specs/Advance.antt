@@ -10,12 +10,14 @@ use Rattle.isa.specs.Decode.{decodeAt}
 use Rattle.isa.specs.Decode as decode
 use Rattle.isa.specs.declared.Instruction.{Instruction}
 use Rattle.isa.specs.declared.Source.{Source}
+use Rattle.control.specs.declared.Mode.{Mode}
 use Rattle.control.specs.declared.Stop.{Stop}
 use Rattle.control.specs.declared.Stop.the-variants as stop
 use Rattle.control.specs.declared.Requested.{Requested}
 use Rattle.control.specs.declared.Requested.the-variants.{Nothing, Taken}
 use Rattle.control.specs.Stack.{Transferred}
 use Rattle.control.specs.Requests.{requestedOf, takeOf}
+use Rattle.machine.specs.declared.FlagPairs.{FlagPairs}
 use Rattle.machine.specs.declared.Machine.{Machine}
 use Rattle.machine.specs.declared.StepAnswer.{StepAnswer}
 use Rattle.machine.specs.declared.StepAnswer.the-variants as answer
@@ -34,10 +36,12 @@ pub record Step : Type 0 where
   pub machine : Machine
   pub answer : Answer ℕ
 
--- the program's answer, with the bytes and the stack that it was lent
-abbrev pub advancedAs : (bytes stack : List ℕ) → Advanced → Step
-advancedAs bytes stack r =
-    record { machine = machineOf (r .control) stack (r .flags) bytes; answer = answerOf (r .answer) }
+-- the program's answer, with the bytes and the stack that it was lent; its flags are the pair of a mode
+abbrev pub advancedAs : FlagPairs → Mode → (bytes stack : List ℕ) → Advanced → Step
+advancedAs pairs mode bytes stack r = record {
+  machine = machineOf (r .control) stack (withPairOf pairs mode (r .flags)) bytes;
+  answer = answerOf (r .answer);
+}
 
 abbrev pub doneOf : Machine → (cycles : ℕ) → Step
 doneOf m cycles = record { machine = m; answer = done cycles }

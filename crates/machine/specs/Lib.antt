@@ -1,6 +1,7 @@
 pub mod Pairs
 pub mod Execute
 pub mod State
+pub mod Fetch
 pub mod Advance
 pub mod Step
 pub mod Steps

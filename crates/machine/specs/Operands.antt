@@ -15,9 +15,7 @@ use Rattle.control.specs.declared.Requested.{Requested}
 use Rattle.control.specs.declared.Requested.the-variants.{Nothing, Taken}
 use Rattle.control.specs.Requests.{requestedOf}
 use Rattle.machine.specs.declared.Machine.{Machine}
-use Rattle.machine.specs.declared.StepAnswer.{StepAnswer}
-use Rattle.machine.specs.declared.StepReport.{StepReport}
-use Rattle.machine.specs.Advance.{answerOf, enabledOf}
+use Rattle.machine.specs.Advance.{enabledOf}
 use Rattle.machine.specs.Step.{stepOf}
 
 -- of what stands at PC: an instruction, or nothing that decodes
@@ -46,10 +44,6 @@ readWith image m request a =
     readIfDone a
     (respondRead (programOf image (m .bytes)) (m .bytes) (m .control)
     (requestedOf (m .control .mode) (enabledOf (m .bytes)) request))
-
--- the program's report of a step with this answer
-abbrev pub reportedOf : (image : List ℕ) → Machine → (request : ℕ) → StepAnswer → StepReport
-reportedOf image m request a = record { answer = a; read = readWith image m request (answerOf a) }
 
 -- "Each step tells the origin of the data operand it read, or that it read none"
 unfoldable pub stepReadOf : (image : List ℕ) → Machine → (request : ℕ) → OriginRead

@@ -5,10 +5,16 @@ use mathlib.Core.List.{List}
 use lib.ListN.{getD}
 use Rattle.isa.specs.Refusals.{Answer, Ended, done, refused}
 use Rattle.isa.specs.Sources.{namesOnlySources}
+use Rattle.control.specs.declared.Mode.{Mode}
+use Rattle.machine.specs.declared.FlagPairs.{FlagPairs}
 use Rattle.machine.specs.declared.Machine.{Machine}
+use Rattle.machine.specs.declared.Ending.{Ending}
+use Rattle.machine.specs.declared.Ending.the-variants as ending
+use Rattle.machine.specs.declared.Part.{Part}
 use Rattle.machine.specs.declared.Report.{Report}
 use Rattle.machine.specs.declared.Progress.{Progress}
 use Rattle.machine.specs.declared.Ran.{Ran}
+use Rattle.machine.specs.Pairs.{withPairOf}
 use Rattle.machine.specs.State.{machineOf, endedOf}
 use Rattle.machine.specs.Advance.{Step}
 use Rattle.machine.specs.Step.{stepOf}
@@ -22,14 +28,6 @@ pub record Reported : Type 0 where
 abbrev pub reportOf : Report → Reported
 reportOf r = record { steps = r .steps; cycles = r .cycles; ending = endedOf (r .ending) }
 
--- the report of a run of one step, as the step's answer
-abbrev pub answerBy : (cycles : ℕ) → Ended → Answer ℕ
-answerBy cycles (done tt) = done cycles
-answerBy cycles (refused n) = refused n
-
-abbrev pub asAnswer : Reported → Answer ℕ
-asAnswer r = answerBy (r .cycles) (r .ending)
-
 -- a machine after a run, and the run's report
 pub record Run : Type 0 where
   pub machine : Machine
@@ -42,6 +40,21 @@ ranOf r = record { machine = r .machine; report = reportOf (r .report) }
 abbrev pub progressAs : (bytes stack : List ℕ) → Progress → Run
 progressAs bytes stack p =
     record { machine = machineOf (p .control) stack (p .flags) bytes; report = reportOf (p .report) }
+
+-- the same of steps in one mode, whose flags are the pair of that mode
+abbrev pub partAs : FlagPairs → Mode → (bytes stack : List ℕ) → Part → Run
+partAs pairs mode bytes stack p = record {
+  machine = machineOf (p .control) stack (withPairOf pairs mode (p .flags)) bytes;
+  report = reportOf (p .report);
+}
+
+-- how many steps of a run of n are settled with a part of it: a stop settles all
+abbrev pub settledBy : Ending → (steps n : ℕ) → ℕ
+settledBy ending.Done steps n = steps
+settledBy (ending.Refused r) steps n = n
+
+abbrev pub settled : Report → (n : ℕ) → ℕ
+settled r n = settledBy (r .ending) (r .steps) n
 
 -- a machine and how far a run is, and how it ended
 abbrev pub runAt : Machine → (steps cycles : ℕ) → Ended → Run

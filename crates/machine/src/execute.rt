@@ -23,7 +23,7 @@ ghost use Rattle.control.specs.Update.{withPc};
 ghost use Rattle.machine.specs.Execute.{executionOf, executionBy, executeOf};
 
 // Control goes on.
-fn goes_on(control: Control, flags: Flags) -> Executed
+pub fn goes_on(control: Control, flags: Flags) -> Executed
     ensures { λ r. ⌜ ((bytes stack : List ℕ) → executionOf bytes stack r
         ≡ executionBy (dataOf bytes flags) (goesOn stack control)) ⌝ }
 {
@@ -35,7 +35,7 @@ fn goes_on(control: Control, flags: Flags) -> Executed
 }
 
 // Control is transferred by way of the stack.
-fn transferred(t: Transfer, flags: Flags) -> Executed
+pub fn transferred(t: Transfer, flags: Flags) -> Executed
     ensures { λ r. ⌜ ((bytes stack : List ℕ) → executionOf bytes stack r
         ≡ executionBy (dataOf bytes flags) (transferOf stack t)) ⌝ }
 {
@@ -49,7 +49,7 @@ fn transferred(t: Transfer, flags: Flags) -> Executed
 }
 
 // An instruction that goes on at the next address.
-fn on_data(
+pub fn on_data(
     image: &[u8],
     bytes: &mut [u8; 256],
     c: Control,

@@ -1,10 +1,12 @@
 // The ST62 machine: control beside the stack, flags and data bytes; step, run, reset, host store and reading a byte.
 mod advance;
 mod execute;
-mod operands;
+mod execute_word;
+mod fetch;
 mod pairs;
 pub mod reading;
 pub mod run;
+mod run_step;
 pub mod state;
 pub mod step;
 mod steps;
@@ -32,6 +34,12 @@ pub struct Machine {
     pub bytes: [u8; 256],
 }
 
+// The number of the instruction at an address (isa's `predecoded`), or why there is none.
+pub enum Fetched {
+    Word(u64),
+    Refused(Refusal),
+}
+
 // What an instruction makes of control and of the flag pair in use.
 pub struct Executed {
     pub control: Control,
@@ -45,10 +53,10 @@ pub enum StepAnswer {
     Refused(Refusal),
 }
 
-// What a step makes of all but the data bytes and the stack, which it is lent.
+// What a step makes of control and of the flag pair in use, and its answer; the data bytes and the stack are lent.
 pub struct Advanced {
     pub control: Control,
-    pub flags: FlagPairs,
+    pub flags: Flags,
     pub answer: StepAnswer,
 }
 
@@ -56,6 +64,13 @@ pub struct Advanced {
 pub struct StepReport {
     pub answer: StepAnswer,
     pub read: OriginRead,
+}
+
+// What a single step makes of all but the data bytes and the stack, which it is lent.
+pub struct StepProgress {
+    pub control: Control,
+    pub flags: FlagPairs,
+    pub report: StepReport,
 }
 
 // A machine after a step, and the step's report.
@@ -81,6 +96,13 @@ pub struct Report {
     pub steps: u32,
     pub cycles: u32,
     pub ending: Ending,
+}
+
+// What steps in one mode make of control and of the flag pair in use, and how far the run is.
+pub struct Part {
+    pub control: Control,
+    pub flags: Flags,
+    pub report: Report,
 }
 
 // What a run makes of all but the data bytes and the stack, which it is lent.

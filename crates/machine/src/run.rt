@@ -3,7 +3,7 @@ use crate::Ending;
 use crate::Machine;
 use crate::Ran;
 use crate::Report;
-use crate::steps::on_copy;
+use crate::steps::by_store;
 use crate::steps::request_at;
 use control::well_formed::is_well_formed;
 use isa::Refusal;
@@ -71,5 +71,5 @@ pub fn run(image: &[u8], m: Machine, requests: &[u8], n: u32) -> Ran
     if !requests_fit(requests, n) {
         return refused_run(m, Refusal::UnknownSource);
     }
-    on_copy(image, m, requests, n)
+    by_store(image, m, requests, n)
 }

@@ -13,6 +13,7 @@ use Rattle.maker.specs.Least.{NoneAccepted}
 use Rattle.maker.specs.Progress.{Forced, Sound, Stepped, Meets, Demanded}
 use Rattle.maker.proofs.Rising.{room-set, set-same, kind-set, sound-set, fits}
 use Rattle.maker.proofs.Reached.{reached-kind}
+use Rattle.maker.specs.Reach.{Reachable}
 use Rattle.maker.proofs.Refuted.{outside, too-deep, two-kinds}
 
 -- nothing changed, since no certificate is accepted
@@ -86,3 +87,32 @@ module _ (marks : List ℕ) (a kind need : ℕ) where
     is-met n k h image wired s r t =
         let m : Meets a kind need marks = meets (forced-here s n .formed) (here s) k (omega arith) in
         (record { sound = s; told = (refl, m); kept = λ b h. refl }, λ p. m)
+
+none-least : 1 ≤ 0 → ⊥
+none-least h = omega arith
+
+-- the need alone, at an address that has a kind
+module _ (marks : List ℕ) (a need at mark : ℕ) (low : a < 4096) (high : 4096 ≤ a + length marks)
+    (at-is : at ≡ a + length marks - 4096) (mark-here : mark ≡ getD marks at 0) where
+  kind-here : {image : List ℕ} {wired : ℕ} → Sound image wired marks → Reachable image wired a (kindAt marks a)
+      → (mark ≢ 0) × (kindAt marks a ≡ mark / 16)
+  unfolding kindAt
+  kind-here s r =
+      let e = here marks a (kindAt marks a) need at mark low high at-is mark-here s in
+      let least = reached-kind a (kindAt marks a) r .0 in
+      let n : mark ≢ 0 = λ z. none-least (rw (e, z) at least) in
+      (n, rw e (kind-of mark (forced-here marks a (kindAt marks a) need at mark low high at-is mark-here s n .formed)))
+
+  pub is-enough : need ≤ mark % 16 → Demanded marks marks a (kindAt marks a) need Same
+  is-enough h image wired s r t =
+      let k = kind-here s r in
+      is-met marks a (kindAt marks a) need at mark low high at-is mark-here (k .0) (sym (k .1)) (omega (arith, k .1))
+      image wired s r t
+
+  pub is-lifted : mark % 16 < need → need ≤ 6
+      → Demanded marks (set marks at (mark / 16 * 16 + need)) a (kindAt marks a) need Changed
+  is-lifted h n image wired s r t =
+      let k = kind-here s r in
+      rw (← k .1)
+      (is-raised marks a (kindAt marks a) need at mark low high at-is mark-here
+      (inr (sym (k .1), omega (arith, k .1))) n image wired s r t)

@@ -15,6 +15,7 @@ use Rattle.isa.proofs.Halves.{is-space}
 use Rattle.isa.specs.Decode as decode
 use Rattle.isa.specs.Decode.{Decoding, decodeOf, decodeAt}
 use Rattle.isa.specs.Displacement.{forwardOf}
+use Rattle.isa.specs.FlowAt.{goes, continuationFrom}
 use Rattle.isa.specs.ControlFlow.{flowOf}
 use Rattle.isa.specs.Refusals.{Numbered, Answer, done, refused}
 use Rattle.isa.specs.declared.Instruction.{Instruction}
@@ -76,6 +77,24 @@ module _ {before middle : List ℕ} {a kind : ℕ} {s : Successor} where
         by (λ z. (record { kind = z .0 .kind-is; need = z .1 }, tt)) (then (t .0) v),
         λ z. (u .kept (s .address) (rw k kind-least) ∙ k, tt),
       )
+
+-- what was done, and then nothing
+joined-same : (p : Progress) → joined p Same ≡ p
+joined-same Same = refl
+joined-same Changed = refl
+joined-same Impossible = refl
+
+-- no level is needed there, and so none here
+pub follows-free : {before middle : List ℕ} {a kind : ℕ} {s : Successor} {p : Progress}
+    → Demanded before middle (s .address) (s .kind) 0 p → (p ≡ Impossible → ⊥)
+    → needAt middle (s .address) + s .levels ≡ 0 → Followed before middle a kind (s ∷ []) p
+follows-free {before} {middle} {a} {kind} {s} {p} d n free image wired so r each =
+    let t = d image wired so (onward r (each .0)) here in
+    let v : Stepped image wired (λ m. needAt m (s .address) + s .levels ≤ needAt m a) middle middle Same =
+    record { sound = t .0 .sound; told = (refl, omega arith); kept = λ b h. refl } in (
+      rw (← joined-same p) (by (λ z. (record { kind = z .0 .kind-is; need = z .1 }, tt)) (then (t .0) v)),
+      λ z. (t .1 n .kind-is, tt),
+    )
 
 pub follows-none : {marks : List ℕ} {a kind : ℕ} → Followed marks marks a kind [] Same
 follows-none image wired s r each = (record { sound = s; told = (refl, tt); kept = λ b h. refl }, λ n. tt)
@@ -155,6 +174,25 @@ successors-small {kind} mark k n f next e =
   where
     small : (s : Successor) → (1 ≤ s .kind) × (s .kind ≤ 4) × (s .levels ≤ 1) → Small s
     small s b = record { kind-least = b .0; kind-most = b .1; levels-most = b .2 }
+
+-- what decoding answers, by where its instruction continues
+pub record Continues (a : ℕ) (d : Answer Decoding) (f : Flow) (n : ℕ) : Type 0 where
+  pub i : Instruction
+  pub bytes : ℕ
+  pub cycles : ℕ
+  pub decodes : done (decode.instruction i bytes cycles) ≡ d
+  pub flow-is : f ≡ flowOf i a
+  pub next-is : n ≡ forwardOf a bytes
+
+pub continues : (a : ℕ) (d : Answer Decoding) (f : Flow) (n : ℕ) → done (goes f n) ≡ continuationFrom a d
+    → Continues a d f n
+continues a (done (decode.instruction i bytes cycles)) f n e =
+    record { i = i; bytes = bytes; cycles = cycles; decodes = refl; flow-is = cc; next-is = cc }
+continues a (refused r) f n e = absurd (let z : _≡_ {A = ℕ} 0 1 = cc in omega arith)
+
+pub refused-by : (a : ℕ) (d : Answer Decoding) {r : Numbered} → refused r ≡ continuationFrom a d → refused r ≡ d
+refused-by a (done (decode.instruction i bytes cycles)) e = absurd (let z : _≡_ {A = ℕ} 0 1 = cc in omega arith)
+refused-by a (refused q) e = cc
 
 -- an address of a kind is a program address
 pub in-space : (marks : List ℕ) (a kind : ℕ) → kind ≡ kindOf (markAt marks a) → kind ≢ 0 → a < 4096

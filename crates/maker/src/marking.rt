@@ -10,16 +10,15 @@ use certificate::successors::Successor;
 use certificate::successors::Successors;
 use certificate::successors::is_placed;
 use certificate::successors::successors_of;
-use isa::Decoded;
-use isa::control_flow::flow_of;
-use isa::decode::decode_in_range;
-use isa::displacement::forward;
+use isa::Continuation;
+use isa::flow_at::flow_in;
 use isa::rom::PROGRAM_SPACE;
 ghost use mathlib.Core.Path.{_≡_};
 ghost use mathlib.Core.List.{[], _∷_};
 ghost use Prim.Native.Nat.{_≤_, _<_};
 ghost use Rattle.isa.specs.Rom.{IsImage};
 ghost use Rattle.isa.specs.Table.{Timings};
+ghost use Rattle.certificate.specs.Marks.{kindAt};
 ghost use Rattle.certificate.specs.Successors.{listed};
 ghost use Rattle.certificate.specs.Links.{Every};
 ghost use Rattle.maker.specs.Progress.{Small, Demanded, Followed, Visited};
@@ -56,6 +55,30 @@ pub fn demand(marks: &mut [u8], address: u16, kind: u8, need: u8) -> Progress
     Progress::Same
 }
 
+// Raises the need of an address that has a kind to at least a need.
+pub fn raise_at(marks: &mut [u8], address: u16, need: u8) -> Progress
+    ensures { λ r. ⌜ Demanded (now (marks .entry)) (now (marks .exit)) address
+        (kindAt (now (marks .entry)) address) need r ⌝ }
+{
+    let end = address as usize + marks.len();
+    if PROGRAM_SPACE <= address as usize {
+        return Progress::Impossible;
+    }
+    if end < PROGRAM_SPACE {
+        return Progress::Impossible;
+    }
+    let at = end - PROGRAM_SPACE;
+    let mark = marks[at];
+    if need <= mark % 16 {
+        return Progress::Same;
+    }
+    if MOST_LEVELS < need {
+        return Progress::Impossible;
+    }
+    marks[at] = mark / 16 * 16 + need;
+    Progress::Changed
+}
+
 // Follows the way from an address, in code of a kind, to a successor: this has its kind, and the need here suffices
 // for it.
 fn follow(marks: &mut [u8], address: u16, kind: u8, successor: Successor) -> Progress
@@ -67,6 +90,10 @@ fn follow(marks: &mut [u8], address: u16, kind: u8, successor: Successor) -> Pro
         return Progress::Impossible;
     }
     let need = need_at(marks, successor.address) + successor.levels;
+    // Where no level is needed nothing is demanded here: the most common case, as an address is found.
+    if need == 0 {
+        return marked;
+    }
     join(marked, demand(marks, address, kind, need))
 }
 
@@ -106,19 +133,13 @@ pub fn visit(table: &[u8; 256], image: &[u8], page: u8, marks: &mut [u8], addres
     if kind == 0 {
         return ended(Progress::Same);
     }
-    let Decoded::Valid {
-        instruction,
-        length,
-        cycles: _,
-    } = decode_in_range(table, image, page, address)
-    else {
+    let Continuation::Valid { flow, next } = flow_in(table, image, page, address) else {
         return ended(Progress::Impossible);
     };
-    let flow = flow_of(instruction, address);
     if !is_placed(kind, flow) {
         return ended(Progress::Impossible);
     }
-    let successors = successors_of(kind, flow, forward(address, length));
+    let successors = successors_of(kind, flow, next);
     let progress = follow_all(marks, address, kind, successors);
     if let Progress::Impossible = progress {
         return ended(Progress::Impossible);

@@ -14,10 +14,8 @@ use crate::graph::note_edges;
 use crate::graph::pop;
 use crate::graph::push;
 use crate::join::join;
-use crate::marking::demand;
+use crate::marking::raise_at;
 use crate::marking::visit;
-use certificate::marks::MOST_LEVELS;
-use certificate::marks::kind_at;
 use certificate::marks::mark_at;
 use certificate::marks::need_at;
 use isa::Source;
@@ -126,14 +124,11 @@ fn raise_one(marks: &mut [u8], edges: &[u32], notes: &mut [u16; 8194], edge: u16
     }
     let from = from_of(edge);
     let need = need_at(marks, (link - 1) / 2) + ((link - 1) % 2) as u8;
-    if need <= need_at(marks, from) {
-        return Progress::Same;
-    }
-    // Above six there is no certificate, and this address would be raised again and again.
-    if need <= MOST_LEVELS {
+    let raised = raise_at(marks, from, need);
+    if let Progress::Changed = raised {
         push(notes, RISEN, from);
     }
-    demand(marks, from, kind_at(marks, from), need)
+    raised
 }
 
 // Raises the needs of all addresses that lead to one, by the list of the edges into it.

@@ -7,7 +7,7 @@ use mathlib.Core.Bool.{true, false, false≢true}
 use mathlib.Core.List.{List, []}
 use lib.ListN.{length, take, drop, length-drop}
 use lib.Seq.{drop-length, drop-drop}
-use Rattle.isa.specs.Refusals.{numbered, Answer, Ended, done, refused}
+use Rattle.isa.specs.Refusals.{numbered, Ended, done, refused}
 use Rattle.isa.specs.declared.Refusal.{Refusal}
 use Rattle.machine.specs.declared.Machine.{Machine}
 use Rattle.machine.specs.declared.Ending.the-variants as ending
@@ -20,10 +20,10 @@ use Rattle.playback.specs.Entries.{thenRead, entriesOf, isRead, isBody, 
 use Rattle.playback.specs.Play.{withoutCycles, playFrom, pressOf}
 use Rattle.playback.specs.Keys.{stepLeft}
 use Rattle.playback.specs.Turn.{entryOf, playedFrom, playsOn, left, Within, Kept, Due, turnOf, overOf, TurnAt}
-use Rattle.playback.specs.Turn.{FirstTurn, AfterAny, AfterStep, AfterStore, AfterReset}
+use Rattle.playback.specs.Turn.{FirstTurn, AfterAny, AfterStore, AfterReset}
 use Rattle.playback.proofs.Reading.{read-after, unread-body, to-end}
 use Rattle.playback.proofs.Playing.{one-more, ends-here}
-use Rattle.playback.proofs.Presses.{step-press, store-press, reset-press, press-keeps}
+use Rattle.playback.proofs.Presses.{store-press, reset-press, press-keeps}
 use Rattle.playback.proofs.Turns.{is-over}
 
 module _ (body : List ℕ) (t : Turn) where
@@ -160,15 +160,6 @@ module _ (body : List ℕ) (t t′ : Turn) (due : Due body t (entryOf t)) where
 
 -- ---- by the key of the turn's entry
 module _ (body : List ℕ) (t t′ : Turn) where
-  pub by-step :
-      (a : Answer ℕ) → entryOf t ≡ Step (t .first) → AfterAny body t a t′ → AfterStep body t a t′
-  unfolding AfterAny AfterStep
-  by-step a is after = (
-    after .0,
-    after .1,
-    λ image m m′ left. after .2 image m m′ (step-press image m m′ (t .first) a left ∙ ap (pressOf image m) (sym is)),
-  )
-
   pub by-store :
       (ended : Ended) → entryOf t ≡ Store (t .first) (t .second) → AfterAny body t (withoutCycles ended) t′ →
       AfterStore body t ended t′

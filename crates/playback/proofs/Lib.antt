@@ -11,6 +11,9 @@ pub mod Cases
 pub mod Presses
 pub mod Turns
 pub mod Counted
+pub mod Cycles
+pub mod Rows
 pub mod ValueWalk
+pub mod ArrayWalk
 pub mod OnePage
 pub mod NoTrace

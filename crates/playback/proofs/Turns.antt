@@ -7,15 +7,15 @@ use lib.Dec.{T as Holds, eqb, eqb→eq, eqb-refl, T-not}
 use Rattle.isa.specs.Refusals.{Answer, Ended, done, refused}
 use Rattle.machine.specs.declared.Machine.{Machine}
 use Rattle.machine.specs.State.{freshOf, endedOf, resetOf, hostStored, hostStoreOf}
-use Rattle.machine.specs.Step.{stepOf}
+use Rattle.machine.specs.Steps.{Reported}
+use Rattle.machine.specs.Run.{runOf}
 use Rattle.playback.specs.declared.Entry.{Entry}
 use Rattle.playback.specs.declared.Entry.the-variants.{Step, Store, Reset}
 use Rattle.playback.specs.declared.turn.Turn.{Turn}
 use Rattle.playback.specs.Entries.{entriesOf}
 use Rattle.playback.specs.Play.{playingAs, playedBy}
-use Rattle.playback.specs.Keys.{stepLeft}
 use Rattle.playback.specs.Turn.{entryBy, entryOf, playedFrom, playsOn, Kept, FirstTurn}
-use Rattle.playback.specs.Turn.{After, AfterStep, AfterStore, AfterReset}
+use Rattle.playback.specs.Turn.{After, AfterStore, AfterReset, Gathered, runLeft, AfterRun}
 
 -- a test that came out so
 pub came : (b : Bool) → Holds b → b ≡ true
@@ -50,11 +50,12 @@ unfolding playsOn
 is-over image body m t over = rw over refl
 
 -- what a turn after another keeps, by the key that was pressed
-pub after-step :
-    (body : List ℕ) (t : Turn) (answer : Answer ℕ) (t′ : Turn) → AfterStep body t answer t′ →
-    After body t (λ image m m′. stepLeft m′ answer ≡ stepOf image m (t .first)) t′
-unfolding AfterStep
-after-step body t answer t′ is = is
+pub after-run :
+    (body : List ℕ) (t : Turn) (count : ℕ) (report : Reported) (t′ : Turn) → AfterRun body t count report t′ →
+    (requests : List ℕ) → Gathered body t requests count →
+    After body t (λ image m m′. runLeft m′ report ≡ runOf image m requests count) t′
+unfolding AfterRun
+after-run body t count report t′ is = is
 
 pub after-store :
     (body : List ℕ) (t : Turn) (ended : Ended) (t′ : Turn) → AfterStore body t ended t′ →

@@ -1,15 +1,17 @@
 -- Where a playing stands between two keys: what the functions inside the crate promise; no claim uses it.
-use Prim.Native.Nat.{ℕ, zero, suc, _-_, _*_, _≤_, _<_}
+use Prim.Native.Nat.{ℕ, zero, suc, _+_, _-_, _*_, _≤_, _<_}
 use mathlib.Core.Path.{_≡_}
 use mathlib.Core.Bool.{Bool, true, false}
 use mathlib.Core.List.{List}
-use lib.ListN.{length, drop}
+use lib.ListN.{length, drop, getD}
 use Rattle.isa.specs.Refusals.{Answer, Ended, done, refused}
+use Rattle.isa.specs.Sources.{namesOnlySources}
 use Rattle.machine.specs.declared.Machine.{Machine}
 use Rattle.machine.specs.declared.Ending.{Ending}
 use Rattle.machine.specs.declared.Ending.the-variants as ending
 use Rattle.machine.specs.State.{endedOf, resetOf, hostStored, hostStoreOf}
-use Rattle.machine.specs.Step.{stepOf}
+use Rattle.machine.specs.Steps.{Reported}
+use Rattle.machine.specs.Run.{Run, runOf}
 use Rattle.playback.specs.declared.Entry.{Entry}
 use Rattle.playback.specs.declared.Entry.the-variants.{Step, Store, Reset}
 use Rattle.playback.specs.declared.turn.Turn.{Turn}
@@ -110,15 +112,49 @@ unfoldable pub AfterAny : (body : List ℕ) → Turn → Answer ℕ → Turn →
 AfterAny body t answer =
     After body t (λ image m m′. stepLeft m′ answer ≡ pressOf image m (entryOf t))
 
-unfoldable pub AfterStep : (body : List ℕ) → Turn → Answer ℕ → Turn → Type 0
-AfterStep body t answer = After body t (λ image m m′. stepLeft m′ answer ≡ stepOf image m (t .first))
-
 unfoldable pub AfterStore : (body : List ℕ) → Turn → Ended → Turn → Type 0
 AfterStore body t ended =
     After body t (λ image m m′. hostStored m′ ended ≡ hostStoreOf m (t .first) (t .second))
 
 unfoldable pub AfterReset : (body : List ℕ) → Turn → Turn → Type 0
 AfterReset body t = After body t (λ image m m′. m′ ≡ resetOf m)
+
+-- the steps of the first so many requests are read, and then the rest
+unfoldable pub stepsRead : (requests : List ℕ) → (count : ℕ) → Answer (List Entry) → Answer (List Entry)
+stepsRead requests zero rest = rest
+stepsRead requests (suc n) rest = stepsRead requests n (thenRead (Step (getD requests n 0)) rest)
+
+-- the requests of the turn's step and of steps in a row after it, of which each names only sources, and where the body
+-- goes on
+pub record Gathered (body : List ℕ) (t : Turn) (requests : List ℕ) (count : ℕ) : Type 0 where
+  pub next : ℕ
+  pub is-next : next + 2 ≡ t .next + 2 * count
+  pub within : next ≤ length body
+  pub some : 0 < count
+  pub most : count ≤ 4096
+  pub fit : (k : ℕ) → 0 < k → k < count → namesOnlySources (getD requests k 0) ≡ true
+  pub reads :
+      thenRead (Step (t .first)) (entriesOf (drop (t .next) body))
+      ≡ stepsRead requests count (entriesOf (drop next body))
+
+-- a machine that the run's key leaves, with the key's report
+abbrev pub runLeft : Machine → Reported → Run
+runLeft held report = record { machine = held; report = report }
+
+-- the report is of a run of such requests, on some machine
+pub record RowRun (body : List ℕ) (t : Turn) (count : ℕ) (report : Reported) : Type 0 where
+  pub image : List ℕ
+  pub requests : List ℕ
+  pub before : Machine
+  pub left : Machine
+  pub gathered : Gathered body t requests count
+  pub ran : runLeft left report ≡ runOf image before requests count
+
+-- the run's key was pressed for the turn's step and those after it
+unfoldable pub AfterRun : (body : List ℕ) → Turn → (count : ℕ) → Reported → Turn → Type 0
+AfterRun body t count report t′ =
+    (requests : List ℕ) → Gathered body t requests count →
+    After body t (λ image m m′. runLeft m′ report ≡ runOf image m requests count) t′
 
 -- the turn of the first entry: nothing is played before it
 unfoldable pub FirstTurn : (body : List ℕ) → (fresh : Machine) → Turn → Type 0

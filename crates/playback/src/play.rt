@@ -7,11 +7,12 @@ use crate::header::Body;
 use crate::header::find_body;
 use crate::turn::Turn;
 use crate::turn::after_reset;
-use crate::turn::after_step;
+use crate::turn::after_run;
 use crate::turn::after_store;
 use crate::turn::first_turn;
+use crate::turn::gather;
 use bench::keys::key_reset;
-use bench::keys::key_step;
+use bench::keys::key_run;
 use bench::keys::key_store;
 use isa::Refusal;
 use isa::rom::is_image_length;
@@ -51,18 +52,21 @@ fn ended(machine: Machine, turn: Turn) -> Played
     }
 }
 
-// Plays the entries of a body: one machine is held here, and lent to the key of each entry. The body is short enough
-// for the sum of the cycles to have 32 bits.
+// Plays the entries of a body: one machine is held here, and lent to the key of each entry, or of each row of steps,
+// which is one run. The body is short enough for the sum of the cycles to have 32 bits.
 fn play_entries(image: &[u8], body: &[u8]) -> Played
     requires { ⌜ (isBody (now body) ≡ true) × (length (now body) ≤ 0xFFFFFF) ⌝ }
     ensures { λ r. ⌜ playedOf r ≡ playedBy (now (image .entry)) (entriesOf (now (body .entry))) ⌝ }
 {
     let mut held = fresh();
     let mut turn = first_turn(body);
+    let mut requests = [0u8; 4096];
     while turn.more {
         if turn.kind == 0 {
-            let report = key_step(&mut held, image, turn.first);
-            turn = after_step(body, turn, report);
+            let count = gather(&mut requests, body, turn);
+            let row: &[u8] = &requests;
+            let report = key_run(&mut held, image, row, count);
+            turn = after_run(body, turn, count, report);
         } else if turn.kind == 1 {
             let ending = key_store(&mut held, turn.first, turn.second);
             turn = after_store(body, turn, ending);

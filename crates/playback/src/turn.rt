@@ -4,20 +4,27 @@ use crate::Entry;
 use crate::entries::Leading;
 use crate::entries::first_entry;
 use isa::Refusal;
+use isa::sources::names_only_sources;
 use machine::Ending;
+use machine::Report;
 use machine::StepAnswer;
-use machine::StepReport;
 ghost use Prim.Native.Nat.{_≤_, _*_};
 ghost use mathlib.Core.Path.{_≡_};
 ghost use mathlib.Core.Bool.{true};
 ghost use lib.ListN.{length, drop};
+ghost use Rattle.isa.specs.Sources.{namesOnlySources};
 ghost use Rattle.machine.specs.State.{endedOf, freshOf};
 ghost use Rattle.machine.specs.Step.{answerOf};
-ghost use Rattle.playback.specs.Entries.{isBody};
+ghost use Rattle.machine.specs.Run.{reportOf};
+ghost use Rattle.playback.specs.Entries.{isBody, Leads};
 ghost use Rattle.playback.specs.Play.{withoutCycles};
 ghost use Rattle.playback.specs.declared.Entry.the-variants.{Step, Store, Reset};
+ghost use Rattle.playback.specs.declared.entries.Leading.the-variants as leading;
 ghost use Rattle.playback.specs.Turn.{entryOf, Due, turnBy, turnOf, overOf, TurnAt, FirstTurn};
-ghost use Rattle.playback.specs.Turn.{AfterAny, AfterStep, AfterStore, AfterReset};
+ghost use Rattle.playback.specs.Turn.{AfterAny, AfterStore, AfterReset, Gathered, RowRun, AfterRun};
+
+// The most steps that are gathered for a run, each with its request.
+const ROW: u32 = 4096;
 
 // Where a playing stands between two keys.
 pub struct Turn {
@@ -117,12 +124,55 @@ fn after_answer(body: &[u8], turn: Turn, answer: StepAnswer) -> Turn
     }
 }
 
-pub fn after_step(body: &[u8], turn: Turn, report: StepReport) -> Turn
-    requires { ⌜ Due (now body) turn (Step (turn .first)) ⌝ }
-    ensures { λ r. ⌜ AfterStep (now (body .entry)) turn (answerOf (report .answer)) r ⌝ }
+// The request of the step that begins there. Where none does it is 255, which names more than sources.
+fn request_at(body: &[u8], at: usize) -> u8
+    ensures { λ r. ⌜ (namesOnlySources r ≡ true → Leads (drop at (now (body .entry))) (leading.Entry (Step r) 2)) ⌝ }
 {
-    let answer = report.answer;
-    after_answer(body, turn, answer)
+    let count = body.len();
+    if count < 2 {
+        return 255;
+    }
+    if count - 2 < at {
+        return 255;
+    }
+    if body[at] == 0 { body[at + 1] } else { 255 }
+}
+
+// Gathers the requests of the turn's step and of the steps in a row after it, which are one run then, and counts them:
+// as many as there is room for, up to one that names more than sources, since the whole run would be refused for it.
+// Where the turn's own does, the run is refused as that step is.
+pub fn gather(requests: &mut [u8; 4096], body: &[u8], turn: Turn) -> u32
+    requires { ⌜ Due (now body) turn (Step (turn .first)) × (length (now requests) ≡ 4096) ⌝ }
+    ensures { λ r. ⌜ Gathered (now (body .entry)) turn (now (requests .exit)) r ⌝ }
+{
+    requests[0] = turn.first;
+    let mut count: u32 = 1;
+    let mut at = turn.next;
+    while count < ROW {
+        let request = request_at(body, at);
+        if !names_only_sources(request) {
+            return count;
+        }
+        requests[count as usize] = request;
+        count += 1;
+        at += 2;
+    }
+    count
+}
+
+// The turn after the run of a row of so many steps: that of the entry after the row, or the end of the playing at the
+// step with which the run was refused or stopped.
+pub fn after_run(body: &[u8], turn: Turn, count: u32, report: Report) -> Turn
+    requires { ⌜ Due (now body) turn (Step (turn .first)) × RowRun (now body) turn count (reportOf report) ⌝ }
+    ensures { λ r. ⌜ AfterRun (now (body .entry)) turn count (reportOf report) r ⌝ }
+{
+    let entries = turn.entries + report.steps;
+    let cycles = turn.cycles + report.cycles;
+    let ending = report.ending;
+    match ending {
+        Ending::Done => turn_at(body, turn.next + 2 * (count as usize - 1), entries, cycles),
+        Ending::Refused(reason) => over(entries, cycles, Ending::Refused(reason)),
+    }
 }
 
 // A host store takes no cycles.

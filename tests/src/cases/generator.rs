@@ -3,6 +3,7 @@
 use super::*;
 use crate::check::check;
 use crate::chip::Instruction::Jrz;
+use crate::chip::{BANK, IOR, MOST_HALVES, RESET_VECTOR, X, Y};
 use crate::gauge::gauge;
 use crate::generate::*;
 use crate::maker::{reason, Reason};
@@ -130,4 +131,70 @@ fn accepted_programs_never_stop() {
             assert!(m.levels <= levels);
         }
     }
+}
+
+/// They run on with any requests, and change the page by their form.
+#[test]
+fn loops_that_turn_pages_never_end() {
+    let mut rng = Rng::new(7);
+    for halves in 1..=MOST_HALVES {
+        for form in 0..TURNS.len() {
+            let mut machine = Machine::default();
+            let image = turning(&mut rng, halves, form);
+            let list = requests(&mut rng, 2000, 0x1F);
+            let report = machine.run(&image, &list, 3000).unwrap();
+            assert_eq!((report.steps, report.stop, machine.asleep), (3000, None, false));
+            if halves > 1 {
+                seams_never_end(&mut rng, halves, form);
+            }
+        }
+    }
+}
+
+fn seams_never_end(rng: &mut Rng, halves: usize, form: usize) {
+    let mut machine = super::machine(RESET_VECTOR, &[(X, BANK), (Y, BANK), (IOR, 0x10)]);
+    let image = over_seams(rng, halves, form);
+    let list = requests(rng, 200, 0x1F);
+    assert_eq!(machine.run(&image, &list, 300).unwrap().stop, None);
+}
+
+#[test]
+fn visits_share_what_they_are_to() {
+    let mut rng = Rng::new(7);
+    for halves in 1..=MOST_HALVES {
+        let pages = (halves - 1).max(1);
+        let page = |visit: &Visit| visit.0 as usize % pages;
+        for places in [PLACES, FEW_PLACES] {
+            let visits = visits(&mut rng, halves, Sharing::Place(places));
+            let place = kept_at(visits[0], places);
+            assert!(visits.iter().all(|&visit| kept_at(visit, places) == place));
+        }
+        let same = visits(&mut rng, halves, Sharing::Page);
+        assert!(same[1..]
+            .iter()
+            .all(|visit| page(visit) == page(&same[0]) && visit.1 == same[0].1));
+        let other = visits(&mut rng, halves, Sharing::Address);
+        let differ = |visit: &Visit| page(visit) != page(&other[0]) || pages == 1;
+        assert!(other[1..].iter().all(|visit| differ(visit) && visit.1 == other[0].1));
+        let mut machine = Machine::default();
+        let image = visiting(&mut rng, halves, &other);
+        assert_eq!(machine.run(&image, &[], 1000).unwrap().stop, None);
+    }
+}
+
+/// What they visit makes the width.
+#[test]
+fn visits_are_sized() {
+    let mut rng = Rng::new(7);
+    let mut widths = Vec::new();
+    for _ in 0..20 {
+        for halves in [1, 2] {
+            let visits = visits(&mut rng, halves, Sharing::Place(PLACES));
+            let p = sizing_visits(&mut rng, halves, &visits);
+            widths.push(gauge(&p.image, &p.certificate, 5).unwrap().width);
+        }
+    }
+    widths.sort_unstable();
+    widths.dedup();
+    assert!(widths.len() > 20, "{widths:?}");
 }

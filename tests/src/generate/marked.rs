@@ -135,3 +135,20 @@ pub fn written(length: usize, code: &[(u16, Instruction, u8)]) -> Program {
     }
     program
 }
+
+/// Instructions one after another, with their addresses and a mark.
+pub fn placed(from: u16, mark: u8, code: &[Instruction]) -> Vec<(u16, Instruction, u8)> {
+    let mut address = from;
+    let mut lines = Vec::new();
+    for &instruction in code {
+        lines.push((address, instruction, mark));
+        address += write(instruction, &mut [0; 3]).expect("a good instruction") as u16;
+    }
+    lines
+}
+
+/// A 4K image with code at some addresses.
+pub fn laid_out(code: &[(u16, &[Instruction])]) -> Vec<u8> {
+    let lines: Vec<_> = code.iter().flat_map(|&(from, code)| placed(from, 0, code)).collect();
+    written(2 * HALF, &lines).image
+}

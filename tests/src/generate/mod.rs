@@ -15,13 +15,14 @@ mod serviced;
 mod sizing;
 mod tangle;
 mod timed;
+mod turning;
 
 pub use chains::{
     chains, long_recursion, repeated_calls, repeated_recursion, straight, Chains, Order, ORDERS,
 };
 pub use graph::call_graph;
 pub use machine::{ill_formed, machine, request, requests, spoil};
-pub use marked::{dense, p11, round_the_end, sparse, written};
+pub use marked::{dense, laid_out, p11, placed, round_the_end, sparse, written};
 pub use maze::maze;
 pub use paged::{misplaced, paged_graph, paged_program, place};
 pub use program::{program, write_only_program};
@@ -31,6 +32,10 @@ pub use serviced::serviced;
 pub use sizing::sizing;
 pub use tangle::{tangle, Tangle};
 pub use timed::{soonest, timed};
+pub use turning::{
+    kept_at, over_seams, sizing_visits, turning, visiting, visits, Sharing, Visit, FEW_PLACES,
+    PLACES, TURNS,
+};
 
 use crate::chip::{HALF, MOST_HALVES, SPACE};
 

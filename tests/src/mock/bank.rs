@@ -6,8 +6,8 @@ use super::{fault, faulty};
 use crate::boundary;
 use std::borrow::Cow;
 
-const HALF: usize = 2048;
-const SPACE: usize = 4096;
+pub(super) const HALF: usize = 2048;
+pub(super) const SPACE: usize = 4096;
 const BANK: usize = 0xCA;
 
 /// The bank byte of a state, if it has one.
@@ -98,7 +98,7 @@ pub(super) fn seen_by_step<'a>(image: &'a [u8], state: &[u8], bank: u8) -> Cow<'
 }
 
 /// What is shown in the window, but with the bytes at PC that are fetched.
-fn but_for_code(seen: &[u8], pc: usize, shown: &[u8]) -> Cow<'static, [u8]> {
+pub(super) fn but_for_code(seen: &[u8], pc: usize, shown: &[u8]) -> Cow<'static, [u8]> {
     let mut all = shown.to_vec();
     for address in (pc..pc + 3).map(|address| address % SPACE) {
         all[address] = seen[address];

@@ -2,6 +2,7 @@
 //! record by index, with a packed machine.
 
 use super::bank::{bank, halves, seen};
+use super::rows::Row;
 use super::{fault, faulty};
 use crate::boundary::{self, unpack, REPORT, STATE};
 
@@ -231,12 +232,13 @@ fn write_though_refused(number: u64, state: &mut [u8], report: &mut [u8]) {
     }
 }
 
-struct Session {
-    machine: Vec<u8>,
+pub(super) struct Session {
+    pub(super) machine: Vec<u8>,
     /// Before the last entry that was played, with the fault that needs it.
     earlier: Vec<u8>,
-    number: u32,
-    cycles: u32,
+    pub(super) number: u32,
+    pub(super) cycles: u32,
+    pub(super) row: Row,
 }
 
 impl Session {
@@ -248,7 +250,7 @@ impl Session {
         if !faulty("play-lent") {
             boundary::reset(&mut machine);
         }
-        Session { machine, earlier: Vec::new(), number: 0, cycles: 0 }
+        Session { machine, earlier: Vec::new(), number: 0, cycles: 0, row: Row::default() }
     }
 
     fn play(&mut self, image: &[u8], body: &[u8]) -> u64 {
@@ -259,17 +261,22 @@ impl Session {
                 return if faulty("play-cut-last") { 0 } else { 29 };
             };
             let before = faulty("play-early").then(|| self.machine.clone());
-            let answer = self.entry(image, entry);
+            let answer = self.in_row(image, body, index..end);
             let passed_over = match boundary::number(answer) {
                 10 => faulty("play-skip-10"),
                 11 => faulty("play-skip-11"),
                 number => number == 0,
             };
             if !passed_over {
+                if let Some(after) = self.passed_row(answer, body, index) {
+                    index = after;
+                    continue;
+                }
                 return answer;
             }
             self.earlier = before.unwrap_or_default();
             self.count(entry.len(), boundary::cycles(answer));
+            self.count_row(entry.len(), boundary::cycles(answer));
             index = end;
         }
         0
@@ -285,7 +292,7 @@ impl Session {
     }
 
     /// The answer of an entry.
-    fn entry(&mut self, image: &[u8], entry: &[u8]) -> u64 {
+    pub(super) fn entry(&mut self, image: &[u8], entry: &[u8]) -> u64 {
         let machine = &mut self.machine[..];
         let bank = if faulty("play-bank-0") { 0 } else { bank(machine) };
         match *entry {

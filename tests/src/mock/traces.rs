@@ -7,18 +7,18 @@ use crate::boundary::{self, STATE};
 use std::ops::Range;
 
 /// Places in a state.
-const PC: usize = 256;
+pub(super) const PC: usize = 256;
 const LEVELS: usize = 258;
-const MODE: usize = 259;
+pub(super) const MODE: usize = 259;
 const ASLEEP: usize = 260;
-const NORMAL_PAIR: Range<usize> = 261..263;
+pub(super) const NORMAL_PAIR: Range<usize> = 261..263;
 const INTERRUPT_PAIR: Range<usize> = 263..265;
 const NMI_PAIR: Range<usize> = 265..267;
 const BOTTOM: usize = 268;
 const IOR: usize = 0xC8;
 const BANK: usize = 0xCA;
 
-const NORMAL: u8 = 1;
+pub(super) const NORMAL: u8 = 1;
 const INTERRUPT: u8 = 2;
 const NMI_OVER_NORMAL: u8 = 3;
 const NMI_OVER_INTERRUPT: u8 = 4;

@@ -6,16 +6,16 @@ mod plays;
 mod widths;
 
 use crate::check::check;
-use crate::chip::{decode, Machine, SIZES};
-use crate::generate::{dense, sparse, Program, Rng};
+use crate::chip::{decode, Machine, HALF, SIZES};
+use crate::generate::{dense, sparse, turning, Program, Rng, TURNS};
 use crate::{boundary, proved};
 use std::hint::black_box;
 
-use loops::mixed_loop;
+use loops::{long_loop, mixed_loop, picking_loop};
 
-pub use loops::Place;
+pub use loops::{Place, LONG};
 pub use makes::{worst, worst_paged, Makes};
-pub use plays::{Plays, Repeated, LONGEST_STEPS, STEPS as PLAY_STEPS};
+pub use plays::{PlayRuns, Plays, Repeated, LONGEST_STEPS, STEPS as PLAY_STEPS};
 pub use widths::{Widths, STEPS as WIDTH_STEPS};
 
 /// Who works: the proved library, the second emulator by itself, or the same
@@ -35,84 +35,137 @@ pub trait Work {
     fn work(&mut self, side: Side, times: usize);
 }
 
-/// Steps of one run.
+/// Steps of the longest run.
 pub const RUN: u32 = 65_535;
 
-/// The mixed loop, and where each side's machine is in it.
-pub struct MixedLoop {
+/// Of a state, what comes before the return addresses: those that aren't in
+/// use may be any.
+const IN_USE: std::ops::Range<usize> = 0..268;
+
+/// A loop, and where each side's machine is in it.
+pub struct Loop {
     image: Vec<u8>,
     proved: Vec<u8>,
     second: Machine,
     packed: Vec<u8>,
 }
 
-impl Default for MixedLoop {
+impl Default for Loop {
     fn default() -> Self {
-        MixedLoop::new(mixed_loop(0, Place::Fixed))
+        Loop::new(mixed_loop(0, Place::Fixed))
     }
 }
 
-impl MixedLoop {
+impl Loop {
     fn new(image: Vec<u8>) -> Self {
         let second = Machine::default();
         let mut fresh = vec![0; boundary::STATE];
         boundary::pack(&second, &mut fresh);
-        MixedLoop { image, proved: fresh.clone(), second, packed: fresh }
+        Loop { image, proved: fresh.clone(), second, packed: fresh }
     }
 
-    /// The loop at a place in an image with pages.
+    /// The mixed loop at a place in an image with pages.
     pub fn paged(pages: usize, place: Place) -> Self {
-        MixedLoop::new(mixed_loop(pages, place))
+        Loop::new(mixed_loop(pages, place))
+    }
+
+    /// The loop that picks another of nine pages every so many steps.
+    pub fn picking(every: usize) -> Self {
+        Loop::new(picking_loop(every))
+    }
+
+    /// The long one, in 4K.
+    pub fn long() -> Self {
+        Loop::new(long_loop())
     }
 
     /// Whether the proved library's machine is where the second emulator's is.
     pub fn agree(&self) -> bool {
         let mut second = vec![0; boundary::STATE];
         boundary::pack(&self.second, &mut second);
-        self.proved == second
+        self.proved[IN_USE] == second[IN_USE]
+    }
+
+    /// The cycles of a step, by what the proved library reports for many more
+    /// of them.
+    pub fn cycles_per_step(&self) -> f64 {
+        let (mut state, mut report) = (self.proved.clone(), [0; boundary::REPORT]);
+        assert_eq!(proved::run(&self.image, &mut state, &[], RUN, &mut report), 0);
+        let [.., a, b, c, d] = report;
+        u32::from_le_bytes([a, b, c, d]) as f64 / RUN as f64
     }
 }
 
-/// Runs of the mixed loop.
-#[derive(Default)]
-pub struct Runs(pub MixedLoop);
+/// Runs of loops in turn, of so many steps each.
+pub struct Runs {
+    loops: Vec<Loop>,
+    steps: u32,
+}
+
+impl Runs {
+    pub fn new(of: Loop, steps: u32) -> Self {
+        Runs { loops: vec![of], steps }
+    }
+
+    /// The longest.
+    pub fn longest(of: Loop) -> Self {
+        Runs::new(of, RUN)
+    }
+
+    /// Different loops of some halves, so many that a processor cannot learn
+    /// the branches of them all. With pages they change them now and then.
+    pub fn of_many(halves: usize, steps: u32) -> Self {
+        let mut rng = Rng::new(3);
+        let image = |number: usize| Loop::new(turning(&mut rng, halves, number % TURNS.len()));
+        Runs { loops: (0..IMAGES).map(image).collect(), steps }
+    }
+
+    /// Whether the machines of both sides went the same way.
+    pub fn agree(&self) -> bool {
+        self.loops.iter().all(Loop::agree)
+    }
+
+    pub fn cycles_per_step(&self) -> f64 {
+        let each = self.loops.iter().map(Loop::cycles_per_step);
+        each.sum::<f64>() / self.loops.len() as f64
+    }
+}
 
 impl Work for Runs {
     fn work(&mut self, side: Side, times: usize) {
-        let MixedLoop { image, proved, second, packed } = &mut self.0;
-        match side {
-            Side::Proved => runs(image, proved, times, proved::run),
-            Side::Second => {
-                for _ in 0..times {
-                    let report = second.run(black_box(image), &[], RUN).expect("it runs");
+        let count = self.loops.len();
+        for index in 0..times {
+            let Loop { image, proved, second, packed } = &mut self.loops[index % count];
+            match side {
+                Side::Proved => run(image, proved, self.steps, proved::run),
+                Side::Second => {
+                    let report = second.run(black_box(image), &[], self.steps).expect("it runs");
                     assert_eq!(black_box(report).stop, None);
                 }
+                Side::Packed => run(image, packed, self.steps, boundary::run),
             }
-            Side::Packed => runs(image, packed, times, boundary::run),
         }
     }
 }
 
-fn runs(
+fn run(
     image: &[u8],
     state: &mut [u8],
-    times: usize,
+    steps: u32,
     run: impl Fn(&[u8], &mut [u8], &[u8], u32, &mut [u8]) -> u64,
 ) {
-    for _ in 0..times {
-        let mut report = [0; boundary::REPORT];
-        assert_eq!(run(black_box(image), state, &[], RUN, &mut report), 0);
-        black_box(report);
-    }
+    let mut report = [0; boundary::REPORT];
+    assert_eq!(run(black_box(image), state, &[], steps, &mut report), 0);
+    black_box(report);
 }
 
-/// Single steps of the mixed loop.
+/// Single steps of a loop.
 #[derive(Default)]
-pub struct Steps(pub MixedLoop);
+pub struct Steps(pub Loop);
 
 impl Work for Steps {
     fn work(&mut self, side: Side, times: usize) {
-        let MixedLoop { image, proved, second, packed } = &mut self.0;
+        let Loop { image, proved, second, packed } = &mut self.0;
         match side {
             Side::Proved => steps(image, proved, times, proved::step),
             Side::Second => {
@@ -191,47 +244,56 @@ fn checks(programs: &[(Program, u8)], times: usize, check: impl Fn(&[u8], &[u8],
 /// Decodes of one pass over the opcodes.
 pub const OPCODES: usize = 256;
 
-/// Passes over an image that has every opcode, four bytes apart.
-pub struct Decodes(Vec<u8>);
+/// Passes over an image that has every opcode, four bytes apart, in a page.
+pub struct Decodes {
+    image: Vec<u8>,
+    bank: u8,
+}
 
 impl Default for Decodes {
     fn default() -> Self {
-        let mut image = vec![0; 4096];
-        for (opcode, place) in (0..=255).zip(image.chunks_exact_mut(4)) {
+        Decodes::paged(1)
+    }
+}
+
+impl Decodes {
+    /// With some pages, the last of them in place.
+    pub fn paged(pages: usize) -> Self {
+        let mut page = vec![0; HALF];
+        for (opcode, place) in (0..=255).zip(page.chunks_exact_mut(4)) {
             place[..3].copy_from_slice(&[opcode, 0x12, 0x34]);
         }
-        Decodes(image)
+        Decodes { image: page.repeat(pages + 1), bank: pages as u8 - 1 }
+    }
+
+    /// How many opcodes are decoded through a side of the boundary.
+    fn decodes(&self, decode: impl Fn(&[u8], u32, u32, &mut [u8]) -> u64) -> usize {
+        let mut count = 0;
+        for opcode in 0..OPCODES as u32 {
+            let mut fields = [0; boundary::FIELDS];
+            let answer = decode(black_box(&self.image), 4 * opcode, self.bank as u32, &mut fields);
+            count += (boundary::number(answer) == 0) as usize;
+            black_box(fields);
+        }
+        count
     }
 }
 
 impl Work for Decodes {
     fn work(&mut self, side: Side, times: usize) {
         let defined = SIZES.iter().filter(|size| size.length > 0).count();
-        let image = &self.0;
         for _ in 0..times {
             let decoded = match side {
-                Side::Proved => decodes(image, proved::decode),
+                Side::Proved => self.decodes(proved::decode),
                 Side::Second => {
-                    let addresses = (0..OPCODES as u32).map(|opcode| 4 * opcode);
-                    addresses
-                        .filter(|&address| black_box(decode(black_box(image), address, 0)).is_ok())
-                        .count()
+                    let good = |&opcode: &u32| {
+                        black_box(decode(black_box(&self.image), 4 * opcode, self.bank)).is_ok()
+                    };
+                    (0..OPCODES as u32).filter(good).count()
                 }
-                Side::Packed => decodes(image, boundary::decode),
+                Side::Packed => self.decodes(boundary::decode),
             };
             assert_eq!(decoded, defined);
         }
     }
-}
-
-/// How many opcodes are decoded through a side of the boundary.
-fn decodes(image: &[u8], decode: impl Fn(&[u8], u32, u32, &mut [u8]) -> u64) -> usize {
-    let mut count = 0;
-    for opcode in 0..OPCODES as u32 {
-        let mut fields = [0; boundary::FIELDS];
-        let answer = decode(black_box(image), 4 * opcode, 0, &mut fields);
-        count += (boundary::number(answer) == 0) as usize;
-        black_box(fields);
-    }
-    count
 }

@@ -1,9 +1,9 @@
 //! Widths of a sizing program that sleeps after some 60,000 steps.
 
 use super::{Side, Work};
-use crate::chip::{write, Instruction, Operand, RESET_VECTOR, WINDOW};
+use crate::chip::{Instruction, Operand, RESET_VECTOR, WINDOW};
 use crate::gauge::{gauge, Gauged, COUNT, WIDTH};
-use crate::generate::{written, Program};
+use crate::generate::{placed, written, Program};
 use crate::{boundary, proved};
 use std::hint::black_box;
 use Instruction::*;
@@ -123,14 +123,3 @@ const LOOPS: [Instruction; 17] = [
     Stop,
     Jp(TOP),
 ];
-
-/// Instructions one after another, with their addresses and a mark.
-fn placed(from: u16, mark: u8, code: &[Instruction]) -> Vec<(u16, Instruction, u8)> {
-    let mut address = from;
-    let mut lines = Vec::new();
-    for &instruction in code {
-        lines.push((address, instruction, mark));
-        address += write(instruction, &mut [0; 3]).expect("a good instruction") as u16;
-    }
-    lines
-}

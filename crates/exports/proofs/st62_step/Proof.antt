@@ -1,8 +1,8 @@
 -- `st62_step` meets its contract.
+use borrow.Author.Needs.{needs}
 use mathlib.Core.Path.{sym, _∙_}
 use borrow.Author.Tests.{not-true, not-false}
-use borrow.Author.Needs.{needs}
-use Rattle.exports.specs.States.{unpacked}
+use Rattle.exports.specs.States.{machineAt, unpacked}
 use Rattle.exports.specs.Lent.{stepLent}
 use Rattle.exports.proofs.Clamping.{step-lent-clamped}
 use Rattle.exports.proofs.Pasting.{valid-length}
@@ -28,20 +28,37 @@ returns c =
       c .invalid-state .ensures,
     )
 
-unpack-requires : tie.Need-unpack-requires
-unpack-requires c κs = valid-length _ (sym (c .before .before .is-valid .ensures) ∙ not-false _ (c .before .if1 .left))
+data-of-requires : tie.Need-data-of-requires
+data-of-requires c κs =
+    let k = c .before in
+    valid-length _ (sym (k .before .is-valid .ensures) ∙ not-false _ (k .if1 .left))
+
+stack-of-requires : tie.Need-stack-of-requires
+stack-of-requires c κs =
+    let k = c .before .before .before in
+    valid-length _ (sym (k .before .is-valid .ensures) ∙ not-false _ (k .if1 .left))
+
+control-of-requires : tie.Need-control-of-requires
+control-of-requires c κs =
+    let k = c .before .before .before .before .before in
+    valid-length _ (sym (k .before .is-valid .ensures) ∙ not-false _ (k .if1 .left))
+
+pairs-of-requires : tie.Need-pairs-of-requires
+pairs-of-requires c κs =
+    let k = c .before .before .before .before .before .before .before in
+    valid-length _ (sym (k .before .is-valid .ensures) ∙ not-false _ (k .if1 .left))
 
 clamp-byte-requires : tie.Need-clamp-byte-requires
 clamp-byte-requires c κs = search needs
 
-step-requires : tie.Need-step-requires
-step-requires c κs = search needs
+step-lent-requires : tie.Need-step-lent-requires
+step-lent-requires c κs = search needs
 
-pack-requires : tie.Need-pack-requires
-pack-requires c κs =
-    let at-if1 = c .before .before .before .before .before .before .before in
-    let at-is-valid = at-if1 .before in
-    valid-length _ (sym (at-is-valid .is-valid .ensures) ∙ not-false _ (at-if1 .if1 .left))
+pack-parts-requires : tie.Need-pack-parts-requires
+pack-parts-requires c κs =
+    let at-step = c .before .before .before .before .before .before in
+    let k = at-step .before .before .before .before .before .before .before .before .before .before .before .before in
+    valid-length _ (sym (k .before .is-valid .ensures) ∙ not-false _ (k .if1 .left))
 
 step-word-requires : tie.Need-step-word-requires
 step-word-requires c κs = search needs
@@ -50,22 +67,31 @@ same-length-2 : tie.Need-same-length-2
 same-length-2 c = search needs
 
 returns-2 : tie.Need-returns-2
-unfolding stepLent unpacked
+unfolding stepLent unpacked machineAt
 returns-2 c =
     let at-pack = c .before .before .before in
-    let at-step = at-pack .before .before .before .before in
-    let at-clamp-byte = at-step .before in
-    let at-unpack = at-clamp-byte .before in
-    let at-if1 = at-unpack .before .before in
+    let at-step = at-pack .before .before .before .before .before .before .before in
+    let at-clamp = at-step .before in
+    let at-pairs = at-clamp .before .before .before in
+    let at-control = at-pairs .before .before in
+    let at-stack = at-control .before .before in
+    let at-data = at-stack .before .before in
+    let at-if1 = at-data .before .before in
     let at-is-valid = at-if1 .before in
     rw (
       ← at-is-valid .is-valid .ensures,
       not-false (at-is-valid .is-valid .result) (at-if1 .if1 .left),
       c .step-word .ensures,
-      at-pack .pack .ensures,
+      at-pack .pack-parts .ensures,
     )
     (let stepped =
-    rw (at-unpack .unpack .ensures, at-clamp-byte .clamp-byte .ensures) at (at-step .step .ensures) in
+    rw (
+      at-pairs .pairs-of .ensures,
+      at-control .control-of .ensures,
+      at-stack .stack-of .ensures,
+      at-data .data-of .ensures,
+      at-clamp .clamp-byte .ensures,
+    ) at (at-step .step-lent .ensures) in
     step-lent-clamped _ _ _ _ _ (stepped .0) (stepped .1))
 
 pub st62-step-spec : {M : Type 1} → statement M
@@ -76,10 +102,13 @@ st62-step-spec =
     invalid-state-requires
     same-length
     returns
-    unpack-requires
+    data-of-requires
+    stack-of-requires
+    control-of-requires
+    pairs-of-requires
     clamp-byte-requires
-    step-requires
-    pack-requires
+    step-lent-requires
+    pack-parts-requires
     step-word-requires
     same-length-2
     returns-2)

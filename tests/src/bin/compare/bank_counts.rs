@@ -6,6 +6,7 @@ use crate::opcode_map::{operations, Operation, KINDS as OPERANDS};
 use crate::play_counts::{named, not_met};
 use second::boundary::{self, FORM_NAMES};
 use second::chip::{Rom, Space, BANK, FIXED, HALF, MOST_HALVES, SIZES, SPACE};
+use second::generate::TURNS;
 use second::library::KINDS;
 use second::play::{Call, Outcome};
 
@@ -18,21 +19,6 @@ const IN_RUN: usize = 2;
 const WINDOW: usize = 3;
 const READ: usize = 4;
 const SEAMS: [&str; 2] = ["7FFh to 800h", "FFFh to 000h"];
-/// Forms with operands that store where they may change the bank byte.
-const STORING: [&str; 12] = [
-    "RES",
-    "SET",
-    "LDI-rr",
-    "LD-to direct",
-    "LD-to (X)",
-    "LD-to (Y)",
-    "INC direct",
-    "INC (X)",
-    "INC (Y)",
-    "DEC direct",
-    "DEC (X)",
-    "DEC (Y)",
-];
 /// Calls with an image that can be of any number of halves; a width is refused
 /// then, and counted so.
 const WITH_IMAGE: [&str; 8] = ["decode", "step", "run", "check", "width", "make", "read", "play"];
@@ -75,7 +61,7 @@ pub struct BankCounts {
     /// decodes, single steps and steps in runs.
     seams: [[u64; SEAMS.len()]; 3],
     /// Steps that changed the page, alone and in runs, by what stored.
-    changes: [[u64; STORING.len()]; 2],
+    changes: [[u64; TURNS.len()]; 2],
     others: [u64; OTHERS.len()],
     storing: [Option<usize>; 256],
 }
@@ -88,7 +74,7 @@ impl BankCounts {
             uses: [[[0; MOST_PAGES]; MOST_HALVES]; USES.len()],
             bytes: [(); USES.len()].map(|_| vec![false; 256]),
             seams: [[0; SEAMS.len()]; 3],
-            changes: [[0; STORING.len()]; 2],
+            changes: [[0; TURNS.len()]; 2],
             others: [0; OTHERS.len()],
             storing: operations().map(|operation| operation.and_then(stores_as)),
         }
@@ -203,7 +189,7 @@ impl BankCounts {
              by single steps {single:?}, in runs {in_runs:?}"
         );
         for (way, changes) in ["single steps", "runs"].iter().zip(&self.changes) {
-            println!("pages changed in {way}: {}", named(&STORING, changes));
+            println!("pages changed in {way}: {}", named(&TURNS, changes));
         }
         println!("bank bytes: {}", named(&OTHERS, &self.others));
         let lengths =
@@ -233,7 +219,7 @@ impl BankCounts {
         for (way, counts) in
             ["changed in single steps by", "changed in runs by"].iter().zip(&self.changes)
         {
-            missing.extend(not_met(way, &STORING, counts));
+            missing.extend(not_met(way, &TURNS, counts));
         }
         if !missing.is_empty() {
             println!("NOT MET: pages: {}", missing.join(", "));
@@ -249,9 +235,9 @@ fn with_image() -> impl Iterator<Item = usize> {
 }
 
 /// The place of a form with its operand among those that store.
-fn stores_as([form, kind]: Operation) -> Option<usize> {
+pub fn stores_as([form, kind]: Operation) -> Option<usize> {
     let name = format!("{}{}", FORM_NAMES[form as usize], OPERANDS[kind as usize]);
-    STORING.iter().position(|storing| **storing == name)
+    TURNS.iter().position(|storing| **storing == name)
 }
 
 fn residues(by_pages: &ByResidue) -> String {

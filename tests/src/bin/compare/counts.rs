@@ -7,7 +7,9 @@ use crate::opcode_map::operations;
 use crate::origin_counts::OriginCounts;
 use crate::page_counts::PageCounts;
 use crate::play_counts::PlayCounts;
+use crate::row_counts::RowCounts;
 use crate::service_counts::ServiceCounts;
+use crate::turn_counts::TurnCounts;
 use crate::width_counts::WidthCounts;
 use crate::write_only_counts::WriteOnlyCounts;
 use second::boundary::{self, FORMS, FORM_NAMES};
@@ -38,6 +40,8 @@ pub struct Counts {
     pub makes: MakeCounts,
     pub plays: PlayCounts,
     pub services: ServiceCounts,
+    pub turns: TurnCounts,
+    pub rows: RowCounts,
     origins: OriginCounts,
     write_only: WriteOnlyCounts,
     banks: BankCounts,
@@ -68,6 +72,8 @@ impl Counts {
             makes: MakeCounts::new(),
             plays: PlayCounts::new(),
             services: ServiceCounts::default(),
+            turns: TurnCounts::new(),
+            rows: RowCounts::new(),
             origins: OriginCounts::new(),
             write_only: WriteOnlyCounts::new(),
             banks: BankCounts::new(),
@@ -200,6 +206,8 @@ impl Counts {
         self.pages.print();
         self.plays.print();
         self.services.print();
+        self.turns.print();
+        self.rows.print();
         println!("calls that demand 3 speaks of, all as it says: {}", self.demand3_calls);
         println!("calls and playings with two pages or more among them: {}", self.demand3_paged);
         println!("calls that differ only in return addresses not in use: {}", self.unused_differ);
@@ -232,6 +240,8 @@ impl Counts {
         self.pages.print_not_met();
         self.plays.print_not_met();
         self.services.print_not_met();
+        self.turns.print_not_met();
+        self.rows.print_not_met();
     }
 }
 

@@ -23,8 +23,12 @@ mod playing;
 mod programs;
 mod records;
 mod refusals;
+mod row_counts;
+mod rows;
 mod service_counts;
 mod services;
+mod turn_counts;
+mod turns;
 mod width_counts;
 mod widths;
 mod write_only;
@@ -125,6 +129,8 @@ fn run_parts(h: &mut Harness, options: &Options) -> usize {
     part("pages", &mut |h| pages::pages(h, scale(40)));
     part("playing", &mut |h| playing::playing(h, scale(800)));
     part("services", &mut |h| services::services(h, scale(150_000) as u64));
+    part("turns", &mut |h| turns::turns(h, 1 + scale(10) / 8));
+    part("rows", &mut |h| rows::rows(h, scale(200)));
     parts
 }
 

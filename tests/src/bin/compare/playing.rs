@@ -79,7 +79,7 @@ fn any_bytes(rng: &mut Rng, length: usize) -> Vec<u8> {
 
 /// Most are accepted. Call graphs go too deep now and then, and changed bytes
 /// and random images stop for every reason.
-fn any_program(rng: &mut Rng) -> Program {
+pub fn any_program(rng: &mut Rng) -> Program {
     let length = paged_length(rng);
     match rng.below(20) {
         0 => sizing(rng),

@@ -1,9 +1,28 @@
 -- `fields::read` meets its contract.
+use mathlib.Core.Path.{_≡_, _∙_}
+use mathlib.Core.List.{[], _∷_}
 use borrow.Author.Tests.{le-leb, lt-leb}
 use borrow.Author.Needs.{needs}
-use Rattle.exports.specs.Fields.{unpackedInstruction}
+use Rattle.exports.specs.Every.{every}
+use Rattle.exports.specs.Fields.{agree, packedInstruction, unpackedInstruction}
+use Rattle.exports.proofs.Rows.{seven, begins-with}
 use Rattle.exports.proofs.fields.read.Statement.{statement}
 use Rattle.exports.proofs.fields.read.Tie as tie
+
+-- the start, from where the test is made
+abbrev start : tie.After-begins-with → tie.Start
+start c = c .before .before .before .before .before .before .before .before
+
+-- the test is of the candidate's own fields
+tested : (c : tie.After-begins-with)
+    → c .begins-with .result
+    ≡ every (agree (start c .args .fields .now)
+    (packedInstruction (c .before .before .before .before .before .candidate .result))) 7
+tested c =
+    let own = packedInstruction (c .before .before .before .before .before .candidate .result) in
+    c .begins-with .ensures
+    ∙ begins-with (start c .args .fields .now) _ own (0 ∷ 0 ∷ 0 ∷ []) _ (c .before .before .before .put-row .ensures)
+    (seven (c .before .before .before .before .before .candidate .result))
 
 returns : tie.Need-returns
 unfolding unpackedInstruction
@@ -12,8 +31,11 @@ returns c = rw (lt-leb _ _ (c .if1 .taken))
 candidate-requires : tie.Need-candidate-requires
 candidate-requires c κs = search needs
 
-fields-of-requires : tie.Need-fields-of-requires
-fields-of-requires c κs = search needs
+slice-aggregate-put-row : tie.Need-slice-aggregate-put-row
+slice-aggregate-put-row c = search needs
+
+put-row-requires : tie.Need-put-row-requires
+put-row-requires c κs = search needs
 
 begins-with-requires : tie.Need-begins-with-requires
 begins-with-requires c κs = search needs
@@ -21,28 +43,22 @@ begins-with-requires c κs = search needs
 returns-2 : tie.Need-returns-2
 unfolding unpackedInstruction
 returns-2 c =
-    let at-fields-of = c .before .before .before in
-    let at-candidate = at-fields-of .before in
-    let at-if1 = at-candidate .before in
+    let at-candidate = c .before .before .before .before .before .before in
     rw (
-      le-leb _ _ (at-if1 .if1 .left),
+      le-leb _ _ (at-candidate .before .if1 .left),
       ← at-candidate .candidate .ensures,
-      ← at-fields-of .fields-of .ensures,
-      ← c .before .begins-with .ensures,
+      ← tested (c .before),
       c .if2 .taken,
     )
 
 returns-3 : tie.Need-returns-3
 unfolding unpackedInstruction
 returns-3 c =
-    let at-fields-of = c .before .before .before in
-    let at-candidate = at-fields-of .before in
-    let at-if1 = at-candidate .before in
+    let at-candidate = c .before .before .before .before .before .before in
     rw (
-      le-leb _ _ (at-if1 .if1 .left),
+      le-leb _ _ (at-candidate .before .if1 .left),
       ← at-candidate .candidate .ensures,
-      ← at-fields-of .fields-of .ensures,
-      ← c .before .begins-with .ensures,
+      ← tested (c .before),
       c .if2 .left,
     )
 
@@ -52,7 +68,8 @@ read-spec =
     (tie.spec
     returns
     candidate-requires
-    fields-of-requires
+    slice-aggregate-put-row
+    put-row-requires
     begins-with-requires
     returns-2
     returns-3)

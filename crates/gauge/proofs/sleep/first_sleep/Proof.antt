@@ -14,11 +14,11 @@ use Rattle.gauge.proofs.sleep.first_sleep.Tie as tie
 
 abbrev Inv-loop : tie.InvT-loop
 Inv-loop image held₀ steps₀ held steps =
-    (steps ≤ 255) × (held ≡ machineAfter image held₀ steps)
+    (steps ≤ 1285) × (held ≡ machineAfter image held₀ steps)
     × ((n : ℕ) → n < steps → AwakeAfter image held₀ n)
 
 abbrev μ-loop : tie.MeasureT-loop
-μ-loop image held₀ steps₀ held steps = 255 - steps
+μ-loop image held₀ steps₀ held steps = 1285 - steps
 
 loop-holds : tie.Need-loop-holds Inv-loop μ-loop
 unfolding stepsOf
@@ -39,7 +39,7 @@ loop-less c =
     let loop = c .before .before .before .before .loop in
     let start = c .before .before .before .before .before .before in
     let still =
-    still-awake (start .args .image .now) (start .args .m) 255 (start .pre) (loop .held) (loop .steps) (asleep .result)
+    still-awake (start .args .image .now) (start .args .m) 1285 (start .pre) (loop .held) (loop .steps) (asleep .result)
     (loop .inv .0) (loop .inv .1) (asleep .ensures) (c .before .before .if1 .taken) _ (c .before .step .ensures .0) in
     omega (arith, still .left)
 
@@ -49,7 +49,7 @@ loop-again c =
     let loop = c .before .before .before .before .loop in
     let start = c .before .before .before .before .before .before in
     let still =
-    still-awake (start .args .image .now) (start .args .m) 255 (start .pre) (loop .held) (loop .steps) (asleep .result)
+    still-awake (start .args .image .now) (start .args .m) 1285 (start .pre) (loop .held) (loop .steps) (asleep .result)
     (loop .inv .0) (loop .inv .1) (asleep .ensures) (c .before .before .if1 .taken) _ (c .before .step .ensures .0) in
     (omega (arith, still .left), still .next, below-more _ _ (loop .inv .2) (still .awake))
 

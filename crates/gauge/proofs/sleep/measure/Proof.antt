@@ -11,10 +11,10 @@ use Rattle.gauge.proofs.sleep.measure.Tie as tie
 
 abbrev Inv-loop : tie.InvT-loop
 Inv-loop image held₀ i₀ t9 held i =
-    (i ≤ 257) × (held ≡ machineAfter image held₀ (i * 255)) × AwakeAfter image held₀ (i * 255)
+    (i ≤ 51) × (held ≡ machineAfter image held₀ (i * 1285)) × AwakeAfter image held₀ (i * 1285)
 
 abbrev μ-loop : tie.MeasureT-loop
-μ-loop image held₀ i₀ t9 held i = 257 - i
+μ-loop image held₀ i₀ t9 held i = 51 - i
 
 loop-holds : tie.Need-loop-holds Inv-loop μ-loop
 unfolding stepsOf
@@ -38,10 +38,10 @@ first-sleep-requires c κs =
     let ran = c .before .before .before .run in
     let loop = c .before .before .before .before .before .before .loop in
     let start = c .before .before .before .before .before .before .before .before in
-    let room : loop .i * 255 + 255 ≤ 65535 = omega arith in
-    let finds = asleep-then (start .args .image .now) (start .args .m) (start .pre) (loop .i * 255) room (loop .held)
+    let room : loop .i * 1285 + 1285 ≤ 65535 = omega arith in
+    let finds = asleep-then (start .args .image .now) (start .args .m) (start .pre) (loop .i * 1285) room (loop .held)
     (loop .inv .1) (ranOf (ran .result)) (ran .ensures) (asleep .result) (asleep .ensures) in
-    sleeps-within (start .args .image .now) (start .args .m) (start .pre) (loop .i * 255) room (loop .held)
+    sleeps-within (start .args .image .now) (start .args .m) (start .pre) (loop .i * 1285) room (loop .held)
     (loop .inv .1) (finds ∙ c .if1 .taken)
 
 mul-t14 : tie.Need-mul-t14 Inv-loop μ-loop
@@ -54,8 +54,8 @@ returns : tie.Need-returns Inv-loop μ-loop
 returns c =
     let loop = c .before .before .before .before .before .before .before .before .loop in
     let start = c .before .before .before .before .before .before .before .before .before .before in
-    let room : loop .i * 255 + 255 ≤ 65535 = omega arith in
-    found (start .args .image .now) (start .args .m) (start .pre) (loop .i * 255) room (loop .held)
+    let room : loop .i * 1285 + 1285 ≤ 65535 = omega arith in
+    found (start .args .image .now) (start .args .m) (start .pre) (loop .i * 1285) room (loop .held)
     (loop .inv .1) (loop .inv .2) (c .before .first-sleep .result .width) (c .before .first-sleep .result .steps)
     (c .before .first-sleep .ensures)
 
@@ -71,12 +71,12 @@ loop-again c =
     let ran = c .before .before .before .run in
     let loop = c .before .before .before .before .before .before .loop in
     let start = c .before .before .before .before .before .before .before .before in
-    let room : loop .i * 255 + 255 ≤ 65535 = omega arith in
-    let finds = asleep-then (start .args .image .now) (start .args .m) (start .pre) (loop .i * 255) room (loop .held)
+    let room : loop .i * 1285 + 1285 ≤ 65535 = omega arith in
+    let finds = asleep-then (start .args .image .now) (start .args .m) (start .pre) (loop .i * 1285) room (loop .held)
     (loop .inv .1) (ranOf (ran .result)) (ran .ensures) (asleep .result) (asleep .ensures) in
-    let next : loop .i * 255 + 255 ≡ (loop .i + 1) * 255 = omega arith in (
+    let next : loop .i * 1285 + 1285 ≡ (loop .i + 1) * 1285 = omega arith in (
       search needs,
-      run-on (start .args .image .now) (start .args .m) (start .pre) (loop .i * 255) room (loop .held) (loop .inv .1)
+      run-on (start .args .image .now) (start .args .m) (start .pre) (loop .i * 1285) room (loop .held) (loop .inv .1)
           (ranOf (ran .result)) (ran .ensures)
           ∙ ap (machineAfter (start .args .image .now) (start .args .m)) next,
       ap (asleepAfter (start .args .image .now) (start .args .m)) (sym next) ∙ finds ∙ c .if1 .left,
@@ -86,7 +86,7 @@ returns-2 : tie.Need-returns-2 Inv-loop μ-loop
 returns-2 c =
     let loop = c .before .loop in
     let start = c .before .before .before in
-    let all : loop .i * 255 ≡ 65535 = omega arith in
+    let all : loop .i * 1285 ≡ 65535 = omega arith in
     sym (never (start .args .image .now) (start .args .m) (start .pre)
     (ap (asleepAfter (start .args .image .now) (start .args .m)) (sym all) ∙ loop .inv .2))
 

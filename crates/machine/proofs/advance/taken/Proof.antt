@@ -29,26 +29,24 @@ stopped-requires-2 c κs = search needs
 
 returns : tie.Need-returns
 unfolding takenOf
-returns c = λ bytes.
-    let k = c .before in
-    rw (c .done .ensures bytes _)
-    (taken-done _ _ _ _ (k .before .before .before .take .ensures) (k .enum-told .given .1))
+returns c = λ bytes pairs.
+    (let k = c .before in
+    rw (c .done .ensures bytes _ pairs _)
+    (taken-done _ _ _ _ (k .before .before .before .take .ensures) (k .enum-told .given .1)))
 
 returns-2 : tie.Need-returns-2
 unfolding takenOf
-returns-2 c = λ bytes.
-    let k = c .before in
-    rw (c .stopped .ensures bytes _)
-    (taken-full _ _ _ _ (k .before .before .before .take .ensures) (take-stops _ _ _ .kept)
-    (k .enum-told2 .given .1))
+returns-2 c = λ bytes pairs.
+    (let k = c .before in
+    rw (c .stopped .ensures bytes _ pairs _)
+    (taken-full _ _ _ _ (k .before .before .before .take .ensures) (take-stops _ _ _ .kept) (k .enum-told2 .given .1)))
 
 returns-3 : tie.Need-returns-3
 unfolding takenOf
-returns-3 c = λ bytes.
-    let k = c .before in
-    rw (c .stopped2 .ensures bytes _)
-    (taken-empty _ _ _ _ (k .before .before .before .take .ensures) (take-stops _ _ _ .kept)
-    (k .enum-told3 .given .1))
+returns-3 c = λ bytes pairs.
+    (let k = c .before in
+    rw (c .stopped2 .ensures bytes _ pairs _)
+    (taken-empty _ _ _ _ (k .before .before .before .take .ensures) (take-stops _ _ _ .kept) (k .enum-told3 .given .1)))
 
 pub taken-spec : {M : Type 1} → statement M
 taken-spec =

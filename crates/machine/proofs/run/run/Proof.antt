@@ -78,8 +78,8 @@ returns-4 c =
     )
     (c .refused-run4 .ensures)))
 
-on-copy-requires : tie.Need-on-copy-requires
-on-copy-requires c κs =
+by-store-requires : tie.Need-by-store-requires
+by-store-requires c κs =
     let f = c .before in
     let w = f .before .before .before in
     let i = w .before .before .before .before .before in (
@@ -105,7 +105,7 @@ returns-5 c =
       ← f .requests-fit .ensures,
       not-false (f .requests-fit .result) (c .before .if4 .left),
     )
-    (c .on-copy .ensures .0)))
+    (c .by-store .ensures)))
 
 pub run-spec : {M : Type 1} → statement M
 run-spec =
@@ -122,5 +122,5 @@ run-spec =
     requests-fit-requires
     refused-run-requires-4
     returns-4
-    on-copy-requires
+    by-store-requires
     returns-5)

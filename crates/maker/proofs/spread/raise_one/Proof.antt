@@ -1,8 +1,7 @@
 -- `spread::raise_one` meets its contract.
 use native.Mathlib.Omega.{arith}
-use mathlib.Core.Path.{refl}
 use Rattle.certificate.proofs.SourceLevels.{need-most}
-use Rattle.maker.proofs.Edges.{kind-at-most, raised-one}
+use Rattle.maker.proofs.Edges.{raised-one}
 use borrow.Author.Needs.{needs}
 use Rattle.maker.proofs.spread.raise_one.Statement.{statement}
 use Rattle.maker.proofs.spread.raise_one.Tie as tie
@@ -31,37 +30,38 @@ cast-need c = search needs
 add-need : tie.Need-add-need
 add-need c = omega (arith, need-most _ _ (c .need-at .ensures))
 
-need-at-requires-2 : tie.Need-need-at-requires-2
-need-at-requires-2 c κs = search needs
+raise-at-requires : tie.Need-raise-at-requires
+raise-at-requires c κs = search needs
+
+enum-told : tie.Need-enum-told
+enum-told c = search needs
+
+push-requires : tie.Need-push-requires
+push-requires c κs = search needs
 
 same-length : tie.Need-same-length
 same-length c = search needs
 
 returns-2 : tie.Need-returns-2
-returns-2 c = search needs
-
-push-requires : tie.Need-push-requires
-push-requires c κs = search needs
-
-kind-at-requires : tie.Need-kind-at-requires
-kind-at-requires c κs = search needs
-
-demand-requires : tie.Need-demand-requires
-demand-requires c κs = rw (c .kind-at .ensures) (kind-at-most _ _)
+returns-2 c =
+    let at-raise-at = c .before .before .before .before .before .before in
+    let at-need-at = at-raise-at .before .before in
+    let at-from-of = at-need-at .before .before in
+    let at-if1 = at-from-of .before in
+    raised-one _ _ (at-if1 .before .link-at .ensures) (at-if1 .if1 .left)
+    (rw (at-from-of .from-of .ensures, at-need-at .need-at .ensures) at (at-raise-at .raise-at .ensures))
 
 same-length-2 : tie.Need-same-length-2
 same-length-2 c = search needs
 
 returns-3 : tie.Need-returns-3
 returns-3 c =
-    let at-demand = c .before .before in
-    let at-kind-at = at-demand .before in
-    let at-need-at = at-kind-at .before .before .before .before .before .before .before in
+    let at-raise-at = c .before .before .before in
+    let at-need-at = at-raise-at .before .before in
     let at-from-of = at-need-at .before .before in
     let at-if1 = at-from-of .before in
     raised-one _ _ (at-if1 .before .link-at .ensures) (at-if1 .if1 .left)
-    (rw (at-kind-at .kind-at .ensures, at-from-of .from-of .ensures, at-need-at .need-at .ensures) at
-    (at-demand .demand .ensures))
+    (rw (at-from-of .from-of .ensures, at-need-at .need-at .ensures) at (at-raise-at .raise-at .ensures))
 
 pub raise-one-spec : {M : Type 1} → statement M
 raise-one-spec =
@@ -75,11 +75,10 @@ raise-one-spec =
     sub-need
     cast-need
     add-need
-    need-at-requires-2
+    raise-at-requires
+    enum-told
+    push-requires
     same-length
     returns-2
-    push-requires
-    kind-at-requires
-    demand-requires
     same-length-2
     returns-3)
