@@ -29,8 +29,8 @@ ghost use Rattle.machine.specs.Pairs.{modeNumber, withPairOf};
 ghost use Rattle.machine.specs.State.{machineOf, isWellFormed, endedOf};
 ghost use Rattle.machine.specs.Steps.{ranOf, progressAs, partAs, runAt, settled, requestsFit, stepsOf};
 
-// From so many steps on a run has a long store: to clear it costs as much as some fifty steps.
-const LONG: u32 = 80;
+// From so many steps on a run has a long store: to clear it costs as much as some sixty steps.
+const LONG: u32 = 128;
 
 // The request byte of a step: none past the list's end.
 pub fn request_at(requests: &[u8], i: u32) -> u8

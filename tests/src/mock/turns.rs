@@ -7,7 +7,7 @@ use super::fault;
 use super::traces::{MODE, NORMAL, NORMAL_PAIR, PC};
 use crate::boundary::{self, STATE};
 
-/// The places of long runs, and of those shorter than 80 steps.
+/// The places of long runs, and of those shorter than 128 steps.
 const PLACES: usize = 4096;
 const FEW_PLACES: usize = 64;
 
@@ -29,7 +29,7 @@ impl Turns {
     /// Of a run of so many steps, if the fault is one of these.
     pub fn new(state: &[u8], n: u32) -> Option<Self> {
         let named = fault().is_some_and(|name| name.starts_with("turn-"));
-        named.then(|| Turns::with(state, if n < 80 { FEW_PLACES } else { PLACES }))
+        named.then(|| Turns::with(state, if n < 128 { FEW_PLACES } else { PLACES }))
     }
 
     fn with(state: &[u8], places: usize) -> Self {

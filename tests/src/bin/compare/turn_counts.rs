@@ -10,7 +10,7 @@ use second::chip::{Machine, Mode, Rom, Space, BANK, FIXED, MOST_HALVES, SIZES, S
 use second::generate::{kept_at, Visit, FEW_PLACES, PLACES, TURNS};
 
 /// From so many steps on a run keeps more.
-const LONG: u32 = 80;
+const LONG: u32 = 128;
 const MODES: [&str; 3] = ["normal", "interrupt", "NMI"];
 /// What a run met, by halves.
 #[derive(Clone, Copy)]

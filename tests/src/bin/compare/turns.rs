@@ -125,7 +125,7 @@ fn each_sharing(h: &mut Harness, halves: usize) {
     for sharing in SHARED {
         let visits = visits(&mut h.rng, halves, sharing);
         let mut course = Course::new(visiting(&mut h.rng, halves, &visits));
-        for n in [h.rng.pick(&EDGES), 79, 40 + h.rng.below(40), 80, 100 + h.rng.below(400)] {
+        for n in [h.rng.pick(&EDGES), 127, 40 + h.rng.below(40), 128, 130 + h.rng.below(400)] {
             course.go_on(h, n);
         }
     }
@@ -170,7 +170,7 @@ fn every_first(h: &mut Harness, halves: usize) {
     let mut course = Course::new(image);
     for pc in 0..SPACE {
         course.state[256..258].copy_from_slice(&pc.to_le_bytes());
-        for (bank, n) in [(0, 2), (255, 2), (h.rng.byte(), 2), (0, 80)] {
+        for (bank, n) in [(0, 2), (255, 2), (h.rng.byte(), 2), (0, 128)] {
             course.state[BANK as usize] = bank;
             course.run(h, &[], n);
             h.counts.turns.add_first((bank, pc), n);
