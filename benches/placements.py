@@ -2,7 +2,7 @@
 """placements.py [COUNT [FOLDER..]]: time of runs of the proved library against the second emulator's, over random placements of the
 library's functions.
 
-Where functions are placed moves a run by 15 %, so that one build says little. This links libexports.a of each folder (by default
+Where functions are placed moves a run, now and then by 15 %, so that one build says little. This links libexports.a of each folder (by default
 target/staticlib) COUNT times (by default 10) as a shared library, with its functions in random order, and measures each in one process
 with the second emulator, in turns. The same program takes all of them. It prints the geometric mean of the ratios, and their range;
 with several folders the placements of all are measured one after the other, in turns."""

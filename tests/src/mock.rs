@@ -283,13 +283,13 @@ pub const FAULTS: [&str; 291] = [
     "trace-10",        // a refused store in a service changes the normal pair
     "trace-11",        // a refused step in a service raises the bottom address
     "trace-12",        // a refused run in a service empties the stack
-    "turn-bank",       // a run takes what it decoded there for another bank byte
-    "turn-address",    // what it decoded for another address
+    "turn-bank",       // a run takes what it decoded at an address for another page
+    "turn-address",    // what it decoded for another address of the same page
     "turn-fixed",      // what it decoded in the fixed half for any page
     "turn-place",      // long runs take whatever is kept at a place
     "turn-place-few",  // short ones do
-    "width-place",     // the gauge does
-    "turn-empty",      // at 000h with bank byte 0 a run takes what it never decoded
+    "width-place-few", // the gauge does, with as few places
+    "turn-empty",      // at 000h of page 0 a run takes what it never decoded
     "turn-back",       // a page that was left before isn't put in place again
     "turn-service",    // a service's change of page isn't seen before its end
     "turn-alias",      // another bank byte for the same page picks another
@@ -549,7 +549,7 @@ pub fn width(image: &[u8], certificate: &[u8], count: u32) -> u64 {
     let Gauged { width, steps } = boundary::gauged(answer);
     match (fault(), boundary::number(answer)) {
         (Some("width-bytes"), 0) => (steps as u64) << 40 | (width.swap_bytes() as u64) << 24,
-        (Some("width-place"), 0) => {
+        (Some("width-place-few"), 0) => {
             let width = turns::width(image, count as u8, steps);
             (steps as u64) << 40 | (width as u64) << 24
         }

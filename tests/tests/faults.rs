@@ -9,7 +9,7 @@ use std::thread;
 /// The part that finds a fault, where the others would only take time.
 fn part_of(fault: &str) -> Option<&'static str> {
     match fault.split('-').next() {
-        _ if fault == "width-place" => Some("turns"),
+        _ if fault == "width-place-few" => Some("turns"),
         Some("make") => Some("makes"),
         Some("origin" | "read") => Some("origins"),
         Some("stored" | "zero") => Some("write-only"),
@@ -240,7 +240,7 @@ const NOT_MET: [(&str, &[&str]); 7] = [
             " page that was left before of 3 halves,",
             " other bank byte, same page and address of 1 halves,",
             " place shared in turn of 10 halves,",
-            " and by other pages at the same address of 4 halves,",
+            " place shared in turn, short run of 1 halves,",
             " changed by LD-to (Y) in mode interrupt,",
             " runs of [1, 2, 3,",
         ],

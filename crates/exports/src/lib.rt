@@ -32,7 +32,7 @@ use isa::decode::decode;
 use isa::write::write;
 use jobs::Answered;
 use jobs::answer::answer;
-use machine::run::run;
+use machine::run::run_lent;
 use machine::state::host_store;
 use machine::state::reset;
 use machine::step::step_lent;
@@ -180,9 +180,14 @@ pub extern "C" fn st62_run(
     if !is_valid(state) {
         return invalid_state(image);
     }
-    let ran = run(image, unpack(state), requests, n);
-    let m = ran.machine;
-    let reported = ran.report;
+    let mut bytes = data_of(state);
+    let mut stack = stack_of(state);
+    let c = control_of(state);
+    let f = pairs_of(state);
+    let after = run_lent(image, &mut bytes, &mut stack, c, f, requests, n);
+    let control = after.control;
+    let flags = after.flags;
+    let reported = after.report;
     let ending = reported.ending;
     if is_refused(ending) {
         return ending_word(ending);
@@ -190,9 +195,9 @@ pub extern "C" fn st62_run(
     if report.len() < 8 {
         return refused(Refusal::BufferLength);
     }
-    let bytes = report_bytes(reported.steps, reported.cycles);
-    pack(state, m);
-    put(report, 0, &bytes);
+    let written = report_bytes(reported.steps, reported.cycles);
+    pack_parts(state, &bytes, &stack, control, flags);
+    put(report, 0, &written);
     ending_word(ending)
 }
 

@@ -1,5 +1,5 @@
 -- Program space by its halves: where a byte of it stands, and what an image's page and fixed half are.
-use mathlib.Core.Path.{_≡_, refl, sym, _∙_, ap}
+use mathlib.Core.Path.{_≡_, refl, sym, _∙_, ap, subst}
 use mathlib.Core.Bool.{Bool, true, false, cond, _&&_, _||_}
 use mathlib.Core.List.{List, [], _∷_, _++_}
 use mathlib.Core.Logic.{_⊎_, inl, inr, ⊎-elim}
@@ -9,7 +9,7 @@ use borrow.Author.Tests.{lt-ltb, le-leb, lt-leb, leb-true, leb-false, eqb-true, 
 use lib.Dec.{ltb, leb, eqb}
 use lib.ListN.{length, getD, take, drop, length-append, length-drop, List·getD-append, take-append-drop}
 use lib.Seq.{getD-append-add, length-take-le, take-all, take-take, take-add, drop-at, getD-drop}
-use native.Mathlib.Nat.{mod-lt, mod-one, mod-eq-of-lt}
+use native.Mathlib.Nat.{mod-lt, mod-one, mod-mod}
 use Rattle.isa.specs.declared.rom.RomByte.the-variants.{Byte, Outside}
 use Rattle.isa.specs.Displacement.{forwardOf}
 use Rattle.isa.specs.RoundTrip.{Bytes}
@@ -264,19 +264,12 @@ space-bytes image bank all =
     (bytes-drop (length image - 2048) image all)
 
 -- a bank byte, and the number of the page that it picks
-page-again : (image : List ℕ) (bank : ℕ) → bank % spacesIn (length image) < spacesIn (length image)
-    → pageOf image bank ≡ pageOf image (bank % spacesIn (length image))
-unfolding pageOf
-page-again image bank below = rw (mod-eq-of-lt below)
+pub same-space : (image : List ℕ) (bank : ℕ) → spaceOf image (bank % spacesIn (length image)) ≡ spaceOf image bank
+unfolding spaceOf pageOf
+same-space image bank = rw (mod-mod bank (spacesIn (length image)))
 
 -- what holds of program space with each page in place holds of it with any bank byte
 pub with-any-bank : (image : List ℕ) → (P : List ℕ → Type 0)
     → ((k : ℕ) → k < spacesIn (length image) → P (spaceOf image k)) → (bank : ℕ) → P (spaceOf image bank)
-unfolding spaceOf
-with-any-bank image P each bank = rw again (each (bank % spacesIn (length image)) below)
-  where
-    below : bank % spacesIn (length image) < spacesIn (length image)
-    below = mod-lt bank (omega arith)
-
-    again : pageOf image bank ≡ pageOf image (bank % spacesIn (length image))
-    again = page-again image bank below
+with-any-bank image P each bank =
+    subst P (same-space image bank) (each (bank % spacesIn (length image)) (mod-lt bank (omega arith)))

@@ -6,7 +6,7 @@ use crate::parts::page_in;
 ghost use mathlib.Core.Path.{_≡_};
 ghost use mathlib.Core.Bool.{true};
 ghost use mathlib.Core.List.{_++_};
-ghost use Prim.Native.Nat.{_<_};
+ghost use Prim.Native.Nat.{_<_, _%_};
 ghost use Rattle.isa.specs.Rom.{isImage, isSpace, spacesIn, pageOf, fixedOf, Halves, halfOf, romAt, operandAt};
 
 // How many addresses program space has, and how many of them a half fills.
@@ -51,6 +51,21 @@ pub fn spaces_in(length: usize) -> u8
         return 1;
     }
     (length / HALF_SPACE - 1) as u8
+}
+
+// The number of the page that a bank byte picks; 0 where there is nothing to pick. Without a division where it is the
+// bank byte itself: a run waits for it at each change of the page.
+pub fn page_number(length: usize, bank: u8) -> u8
+    ensures { λ r. ⌜ (isImage length ≡ true → r ≡ bank % spacesIn length) ⌝ }
+{
+    let spaces = spaces_in(length);
+    if spaces <= 1 {
+        return 0;
+    }
+    if bank < spaces {
+        return bank;
+    }
+    bank % spaces
 }
 
 // The page that a bank byte picks; none of an image of one half.

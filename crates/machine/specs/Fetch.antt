@@ -9,6 +9,7 @@ use Rattle.isa.specs.Decode.{Decoding, decodeOf}
 use Rattle.isa.specs.Decode as decode
 use Rattle.isa.specs.Lengths.{lengthOf}
 use Rattle.isa.specs.Predecoded.{instructionOfWord, cyclesOfWord, tagFor, tagOfWord}
+use Rattle.data.specs.Space.{programOf}
 use Rattle.machine.specs.declared.Fetched.{Fetched}
 use Rattle.machine.specs.declared.Fetched.the-variants.{Word, Refused}
 
@@ -23,3 +24,8 @@ abbrev pub Coherent : (image store : List ℕ) → Type 0
 Coherent image store =
     (k bank a : ℕ) → a < 4096 → tagOfWord (getD store k 0) ≡ tagFor bank a →
     fetchedAs (Word (getD store k 0)) ≡ decodeOf (spaceOf image bank) a
+
+-- the number of a page is a bank byte that picks what stands in program space: under it a run keeps what it decodes, so
+-- that bank bytes which pick the same page share it
+abbrev pub InPlace : (image bytes : List ℕ) → (page : ℕ) → Type 0
+InPlace image bytes page = spaceOf image page ≡ programOf image bytes

@@ -49,7 +49,7 @@ pub fn transferred(t: Transfer, flags: Flags) -> Executed
 }
 
 // An instruction that goes on at the next address.
-pub fn on_data(
+fn on_data(
     image: &[u8],
     bytes: &mut [u8; 256],
     c: Control,

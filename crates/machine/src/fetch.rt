@@ -14,19 +14,13 @@ ghost use Rattle.isa.specs.Rom.{IsImage, spaceOf};
 ghost use Rattle.isa.specs.Decode.{decodeOf};
 ghost use Rattle.machine.specs.Fetch.{fetchedAs, Coherent};
 
-// The slots of a long store, and of a short one.
-const SLOTS: usize = 4096;
-
-const FEW: usize = 64;
-
-// The slot of an address with a bank byte, in a store that may be short. The factor keeps the same address of two pages
-// in two slots.
+// The slot of an address with a bank byte: of a store whose length is a power of two all of them are used. The factor
+// keeps the same address of two pages in two slots.
 fn slot(store: &[u64], bank: u8, address: u16) -> usize
-    requires { ⌜ 64 ≤ length (now store) ⌝ }
+    requires { ⌜ 0 < length (now store) ⌝ }
     ensures { λ r. ⌜ r < length (now (store .entry)) ⌝ }
 {
-    let at = (address as usize + 397 * bank as usize) % SLOTS;
-    if at < store.len() { at } else { at % FEW }
+    (address as usize + 397 * bank as usize) & (store.len() - 1)
 }
 
 // Decodes the instruction at an address, and keeps its number in a slot.
@@ -60,7 +54,7 @@ fn decoded(
 // The instruction at an address.
 pub fn fetch(table: &[u8; 256], image: &[u8], store: &mut [u64], bank: u8, address: u16) -> Fetched
     requires { ⌜ Timings (now table) × IsImage (now image) × (address < 4096)
-        × (64 ≤ length (now store)) × Coherent (now image) (now store) ⌝ }
+        × (0 < length (now store)) × Coherent (now image) (now store) ⌝ }
     ensures { λ r. ⌜ (fetchedAs r ≡ decodeOf (spaceOf (now (image .entry)) bank) address)
         × Coherent (now (image .entry)) (now (store .exit)) ⌝ }
 {

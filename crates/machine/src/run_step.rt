@@ -12,11 +12,10 @@ use control::Control;
 use control::Requested;
 use control::Stop;
 use control::requests::requested;
-use data::space::BANK;
 use isa::Refusal;
 use isa::predecoded::cycles_in;
 ghost use mathlib.Core.Path.{_≡_};
-ghost use Prim.Native.Nat.{_<_, _≤_};
+ghost use Prim.Native.Nat.{_<_};
 ghost use lib.ListN.{length};
 ghost use Rattle.isa.specs.Table.{Timings};
 ghost use Rattle.isa.specs.Lengths.{lengthOf};
@@ -25,7 +24,7 @@ ghost use Rattle.isa.specs.Rom.{IsImage};
 ghost use Rattle.data.specs.Space.{programOf};
 ghost use Rattle.machine.specs.declared.FlagPairs.{FlagPairs};
 ghost use Rattle.machine.specs.Pairs.{withPairOf};
-ghost use Rattle.machine.specs.Fetch.{Coherent};
+ghost use Rattle.machine.specs.Fetch.{Coherent, InPlace};
 ghost use Rattle.machine.specs.State.{machineOf};
 ghost use Rattle.machine.specs.Advance.{advancedAs, executedOf, uninterruptedOf, advancedOf};
 
@@ -56,18 +55,20 @@ fn executed(
     }
 }
 
-// A step that takes no request: idle asleep, else the instruction at PC. Decoding's refusals are stops.
+// A step that takes no request, with the number of the page in place: idle asleep, else the instruction at PC.
+// Decoding's refusals are stops.
 fn uninterrupted(
     table: &[u8; 256],
     image: &[u8],
     store: &mut [u64],
+    page: u8,
     bytes: &mut [u8; 256],
     stack: &mut [u16; 6],
     c: Control,
     flags: Flags,
 ) -> Advanced
-    requires { ⌜ Timings (now table) × IsImage (now image) × (c .pc < 4096) × (64 ≤ length (now store))
-        × Coherent (now image) (now store) ⌝ }
+    requires { ⌜ Timings (now table) × IsImage (now image) × (c .pc < 4096) × (0 < length (now store))
+        × Coherent (now image) (now store) × InPlace (now image) (now bytes) page ⌝ }
     ensures { λ r. ⌜ ((pairs : FlagPairs) → advancedAs pairs (c .mode) (now (bytes .exit)) (now (stack .exit)) r
         ≡ uninterruptedOf (programOf (now (image .entry)) (now (bytes .entry)))
         (machineOf c (now (stack .entry)) (withPairOf pairs (c .mode) flags) (now (bytes .entry))))
@@ -76,7 +77,7 @@ fn uninterrupted(
     if c.asleep {
         return done(c, flags, 0);
     }
-    match fetch(table, image, store, bytes[BANK], c.pc) {
+    match fetch(table, image, store, page, c.pc) {
         Fetched::Refused(reason) => return stopped(c, flags, reason),
         Fetched::Word(word) => executed(image, bytes, stack, c, flags, word),
     }
@@ -87,14 +88,15 @@ pub fn advance(
     table: &[u8; 256],
     image: &[u8],
     store: &mut [u64],
+    page: u8,
     bytes: &mut [u8; 256],
     stack: &mut [u16; 6],
     c: Control,
     flags: Flags,
     request: u8,
 ) -> Advanced
-    requires { ⌜ Timings (now table) × IsImage (now image) × (c .pc < 4096) × (64 ≤ length (now store))
-        × Coherent (now image) (now store) ⌝ }
+    requires { ⌜ Timings (now table) × IsImage (now image) × (c .pc < 4096) × (0 < length (now store))
+        × Coherent (now image) (now store) × InPlace (now image) (now bytes) page ⌝ }
     ensures { λ r. ⌜ ((pairs : FlagPairs) → advancedAs pairs (c .mode) (now (bytes .exit)) (now (stack .exit)) r
         ≡ advancedOf (programOf (now (image .entry)) (now (bytes .entry)))
         (machineOf c (now (stack .entry)) (withPairOf pairs (c .mode) flags) (now (bytes .entry))) request)
@@ -103,6 +105,6 @@ pub fn advance(
     let mode = c.mode;
     match requested(mode, is_enabled(bytes), request) {
         Requested::Taken(source) => taken(stack, c, flags, source),
-        Requested::Nothing => uninterrupted(table, image, store, bytes, stack, c, flags),
+        Requested::Nothing => uninterrupted(table, image, store, page, bytes, stack, c, flags),
     }
 }

@@ -1,10 +1,8 @@
 // The steps of a run, with request byte i at step i.
 use crate::Ending;
 use crate::FlagPairs;
-use crate::Machine;
 use crate::Part;
 use crate::Progress;
-use crate::Ran;
 use crate::Report;
 use crate::StepAnswer;
 use crate::pairs::mode_number;
@@ -15,6 +13,8 @@ use alu::Flags;
 use control::Control;
 use control::Mode;
 use data::space::BANK;
+use isa::rom::page_number;
+use isa::table::timings;
 ghost use mathlib.Core.Path.{_≡_};
 ghost use mathlib.Core.List.{List};
 ghost use mathlib.Core.Bool.{true};
@@ -26,8 +26,9 @@ ghost use Rattle.isa.specs.Refusals.{done};
 ghost use Rattle.control.specs.WellFormed.{wellFormed};
 ghost use Rattle.machine.specs.Fetch.{Coherent};
 ghost use Rattle.machine.specs.Pairs.{modeNumber, withPairOf};
-ghost use Rattle.machine.specs.State.{machineOf, isWellFormed, endedOf};
-ghost use Rattle.machine.specs.Steps.{ranOf, progressAs, partAs, runAt, settled, requestsFit, stepsOf};
+ghost use Rattle.machine.specs.State.{machineOf, endedOf};
+ghost use Rattle.machine.specs.declared.Machine.{Machine};
+ghost use Rattle.machine.specs.Steps.{progressAs, partAs, runAt, settled, requestsFit, stepsOf};
 
 // From so many steps on a run has a long store: to clear it costs as much as some sixty steps.
 const LONG: u32 = 128;
@@ -73,7 +74,7 @@ fn part(control: Control, flags: Flags, steps: u32, cycles: u32, ending: Ending)
 
 // Whether the steps from the i-th on have the same bank byte and mode as those before.
 fn stays(bytes: &[u8; 256], bank: u8, mode: Mode, before: u8, i: u32, n: u32) -> bool
-    ensures { λ r. ⌜ (r ≡ true → (i < n) × (modeNumber mode ≡ before)) ⌝ }
+    ensures { λ r. ⌜ (r ≡ true → (i < n) × (modeNumber mode ≡ before) × (getD (now (bytes .entry)) 0xCA 0 ≡ bank)) ⌝ }
 {
     if n <= i {
         return false;
@@ -84,8 +85,8 @@ fn stays(bytes: &[u8; 256], bank: u8, mode: Mode, before: u8, i: u32, n: u32) ->
     mode_number(mode) == before
 }
 
-// Steps from the first on, at least one, as long as the bank byte and the mode stay: the bank byte is then a constant
-// of the loop, and one flag pair is in use.
+// Steps from the first on, at least one, as long as the bank byte and the mode stay: the page is then a constant of the
+// loop, and one flag pair is in use.
 fn steps_in_mode(
     table: &[u8; 256],
     image: &[u8],
@@ -100,7 +101,7 @@ fn steps_in_mode(
     n: u32,
 ) -> Part
     requires { ⌜ (n ≤ 65535) × (first < n) × (spent ≤ 255 * first) × Timings (now table) × IsImage (now image)
-        × (wellFormed (now stack) start ≡ true) × (requestsFit (now requests) n ≡ true) × (64 ≤ length (now store))
+        × (wellFormed (now stack) start ≡ true) × (requestsFit (now requests) n ≡ true) × (0 < length (now store))
         × Coherent (now image) (now store) ⌝ }
     ensures { λ r. ⌜ ((pairs : FlagPairs) (m : Machine)
         → runAt (machineOf start (now (stack .entry)) (withPairOf pairs (start .mode) pair) (now (bytes .entry)))
@@ -111,6 +112,7 @@ fn steps_in_mode(
         × (r .report .cycles ≤ 255 * settled (r .report) n) × Coherent (now (image .entry)) (now (store .exit)) ⌝ }
 {
     let bank = bytes[BANK];
+    let page = page_number(image.len(), bank);
     let start_mode = start.mode;
     let before = mode_number(start_mode);
     let mut c = start;
@@ -123,6 +125,7 @@ fn steps_in_mode(
             table,
             image,
             store,
+            page,
             bytes,
             stack,
             c,
@@ -158,7 +161,7 @@ fn all_steps(
     n: u32,
 ) -> Progress
     requires { ⌜ (n ≤ 65535) × Timings (now table) × IsImage (now image)
-        × (wellFormed (now stack) start ≡ true) × (requestsFit (now requests) n ≡ true) × (64 ≤ length (now store))
+        × (wellFormed (now stack) start ≡ true) × (requestsFit (now requests) n ≡ true) × (0 < length (now store))
         × Coherent (now image) (now store) ⌝ }
     ensures { λ r. ⌜ progressAs (now (bytes .exit)) (now (stack .exit)) r
         ≡ stepsOf (now (image .entry)) (now (requests .entry))
@@ -199,51 +202,37 @@ fn all_steps(
     progress(c, flags, n, cycles, Ending::Done)
 }
 
-// The steps of a run on a machine of its own.
-fn on_copy(image: &[u8], store: &mut [u64], m: Machine, requests: &[u8], n: u32) -> Ran
-    requires { ⌜ (n ≤ 65535) × IsImage (now image) × (isWellFormed m ≡ true) × (requestsFit (now requests) n ≡ true)
-        × (64 ≤ length (now store)) × Coherent (now image) (now store) ⌝ }
-    ensures { λ r. ⌜ ranOf r ≡ stepsOf (now (image .entry)) (now (requests .entry)) m n ⌝ }
+// The steps of a run on lent bytes and stack, with a store that has nothing yet.
+pub fn by_store(
+    image: &[u8],
+    bytes: &mut [u8; 256],
+    stack: &mut [u16; 6],
+    c: Control,
+    flags: FlagPairs,
+    requests: &[u8],
+    n: u32,
+) -> Progress
+    requires { ⌜ (n ≤ 65535) × IsImage (now image) × (wellFormed (now stack) c ≡ true)
+        × (requestsFit (now requests) n ≡ true) ⌝ }
+    ensures { λ r. ⌜ progressAs (now (bytes .exit)) (now (stack .exit)) r
+        ≡ stepsOf (now (image .entry)) (now (requests .entry))
+        (machineOf c (now (stack .entry)) flags (now (bytes .entry))) n ⌝ }
 {
-    let mut bytes = m.bytes;
-    let mut stack = m.stack;
-    let c = m.control;
-    let f = m.flags;
-    let table = isa::table::timings();
-    let after = all_steps(
-        &table,
-        image,
-        store,
-        &mut bytes,
-        &mut stack,
-        c,
-        f,
-        requests,
-        n,
-    );
-    let control = after.control;
-    let flags = after.flags;
-    let report = after.report;
-    Ran {
-        machine: Machine {
-            control,
-            stack,
-            flags,
-            bytes,
-        },
-        report,
-    }
-}
-
-// The steps of a run, with a store that has nothing yet.
-pub fn by_store(image: &[u8], m: Machine, requests: &[u8], n: u32) -> Ran
-    requires { ⌜ (n ≤ 65535) × IsImage (now image) × (isWellFormed m ≡ true) × (requestsFit (now requests) n ≡ true) ⌝ }
-    ensures { λ r. ⌜ ranOf r ≡ stepsOf (now (image .entry)) (now (requests .entry)) m n ⌝ }
-{
+    let table = timings();
     if n < LONG {
         let mut few = [0u64; 64];
-        return on_copy(image, &mut few, m, requests, n);
+        return all_steps(&table, image, &mut few, bytes, stack, c, flags, requests, n);
     }
     let mut store = [0u64; 4096];
-    on_copy(image, &mut store, m, requests, n)
+    all_steps(
+        &table,
+        image,
+        &mut store,
+        bytes,
+        stack,
+        c,
+        flags,
+        requests,
+        n,
+    )
 }

@@ -18,10 +18,13 @@ count WORK SIDE N
         run-fixed-1, run-fixed-9, run-page-1, run-page-9, run-changing-1, run-changing-9 (the
         loop in the fixed half, in the page, and changing pages; so many pages), run-picking-4,
         run-picking-16 (one of nine pages after another, every so many steps), step-9, decode-9,
-        check-20k, make-20k, make-program-20k; run-many-2k, run-many-9 (1000 steps of 64 loops
-        in turn, in 2K and with nine pages)
+        check-20k, make-20k, make-program-20k; run-many-2k, run-many-4k, run-many-9 (10000 steps
+        of 64 loops in turn), run-turning-2k, run-turning-9 (the same, changing the bank byte)
   SIDE  proved, second, packed
   N     how often";
+
+/// Steps of a run of many loops.
+const MANY: u32 = 10_000;
 
 fn work(name: &str) -> Option<Box<dyn Work>> {
     Some(match name {
@@ -33,8 +36,11 @@ fn work(name: &str) -> Option<Box<dyn Work>> {
         "play" => Box::new(Plays::default()),
         "play-run" => Box::new(PlayRuns::default()),
         "play-rows" => Box::new(Plays::rows()),
-        "run-many-2k" => Box::new(Runs::of_many(1, 1000)),
-        "run-many-9" => Box::new(Runs::of_many(MOST_HALVES, 1000)),
+        "run-many-2k" => Box::new(Runs::of_many(1, MANY)),
+        "run-many-4k" => Box::new(Runs::of_many(2, MANY)),
+        "run-many-9" => Box::new(Runs::of_many(MOST_HALVES, MANY)),
+        "run-turning-2k" => Box::new(Runs::of_many_turning(1, MANY)),
+        "run-turning-9" => Box::new(Runs::of_many_turning(MOST_HALVES, MANY)),
         _ => return runs(name).or_else(|| certificates(name)),
     })
 }

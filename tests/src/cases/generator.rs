@@ -151,6 +151,20 @@ fn loops_that_turn_pages_never_end() {
     }
 }
 
+/// The same loops with a byte of RAM in the bank byte's place.
+#[test]
+fn loops_that_stay_never_change_the_page() {
+    let mut rng = Rng::new(7);
+    for halves in 1..=MOST_HALVES {
+        for form in 0..TURNS.len() {
+            let mut machine = Machine::default();
+            let image = staying(&mut rng, halves, form);
+            assert_eq!(machine.run(&image, &[], 3000).unwrap().stop, None);
+            assert_eq!((machine.data[BANK as usize], machine.asleep), (0, false));
+        }
+    }
+}
+
 fn seams_never_end(rng: &mut Rng, halves: usize, form: usize) {
     let mut machine = super::machine(RESET_VECTOR, &[(X, BANK), (Y, BANK), (IOR, 0x10)]);
     let image = over_seams(rng, halves, form);
@@ -166,8 +180,10 @@ fn visits_share_what_they_are_to() {
         let page = |visit: &Visit| visit.0 as usize % pages;
         for places in [PLACES, FEW_PLACES] {
             let visits = visits(&mut rng, halves, Sharing::Place(places));
-            let place = kept_at(visits[0], places);
-            assert!(visits.iter().all(|&visit| kept_at(visit, places) == place));
+            let place = |visit: &Visit| kept_at(*visit, pages, places);
+            assert!(visits.iter().all(|visit| place(visit) == place(&visits[0])));
+            let differ = pages > 1 || places < PLACES;
+            assert!(visits[1..].iter().all(|visit| (visit.1 != visits[0].1) == differ));
         }
         let same = visits(&mut rng, halves, Sharing::Page);
         assert!(same[1..]
@@ -189,7 +205,7 @@ fn visits_are_sized() {
     let mut widths = Vec::new();
     for _ in 0..20 {
         for halves in [1, 2] {
-            let visits = visits(&mut rng, halves, Sharing::Place(PLACES));
+            let visits = visits(&mut rng, halves, Sharing::Place(FEW_PLACES));
             let p = sizing_visits(&mut rng, halves, &visits);
             widths.push(gauge(&p.image, &p.certificate, 5).unwrap().width);
         }

@@ -33,8 +33,8 @@ pub use sizing::sizing;
 pub use tangle::{tangle, Tangle};
 pub use timed::{soonest, timed};
 pub use turning::{
-    kept_at, over_seams, sizing_visits, turning, visiting, visits, Sharing, Visit, FEW_PLACES,
-    PLACES, TURNS,
+    kept_at, over_seams, sizing_visits, staying, turning, visiting, visits, Sharing, Visit,
+    FEW_PLACES, PLACES, TURNS,
 };
 
 use crate::chip::{HALF, MOST_HALVES, SPACE};

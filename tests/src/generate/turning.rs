@@ -49,26 +49,38 @@ struct Shapes {
 }
 
 /// How a program changes the page: by a form, and to which bank bytes, if the
-/// form can choose.
+/// form can choose. With another cell in the bank byte's place it stays.
 #[derive(Default)]
 struct Turner {
     form: usize,
     banks: Vec<u8>,
+    cell: u8,
 }
 
 /// Where the fixed half has its start and its loop, and its services.
 const START: u16 = 0xC00;
 const FIXED_SERVICES: u16 = 0xD00;
 const APART: u16 = 0x40;
-/// RAM that nothing but the loop's own counting uses.
+/// RAM that nothing but the loop's own counting uses, and RAM in the place of
+/// the bank byte.
 const COUNTER: u8 = 0x3F;
+const OTHER: u8 = 0x3E;
 
 /// An image of some halves with a loop through the page and the fixed half, a
 /// subroutine in the page, and services in both. All of them change the page by
 /// one form, and most pages have other code. It never stops or sleeps.
 pub fn turning(rng: &mut Rng, halves: usize, form: usize) -> Vec<u8> {
+    storing(rng, halves, form, BANK)
+}
+
+/// The same with stores to a byte of RAM, so that the page stays.
+pub fn staying(rng: &mut Rng, halves: usize, form: usize) -> Vec<u8> {
+    storing(rng, halves, form, OTHER)
+}
+
+fn storing(rng: &mut Rng, halves: usize, form: usize, cell: u8) -> Vec<u8> {
     let banks = (0..2 + rng.below(4)).map(|_| rng.byte()).collect();
-    let turner = Turner { form, banks };
+    let turner = Turner { form, banks, cell };
     let shapes = Shapes {
         main: shape(rng, 14, true),
         subroutine: shape(rng, 6, false),
@@ -121,12 +133,12 @@ const LOOP: u16 = START + 13;
 
 /// Start-up, the loop's half, and the services: each in the page or here.
 fn fixed_code(rng: &mut Rng, base: u16, shapes: &Shapes, turner: &Turner) -> Code {
-    let registers = [(IOR, 0x10), (X, BANK), (Y, BANK), (WINDOW, rng.byte() & 0x1F)];
+    let registers = [(IOR, 0x10), (X, turner.cell), (Y, turner.cell), (WINDOW, rng.byte() & 0x1F)];
     let mut start = registers.map(|(address, value)| Ldi { address, value }).to_vec();
     start.push(Reti);
     // RES and SET alone soon change nothing more.
     if turner.form < 2 || rng.chance(50) {
-        let count = [Inc(Direct(COUNTER)), LdA(Direct(COUNTER)), LdTo(Direct(BANK))];
+        let count = [Inc(Direct(COUNTER)), LdA(Direct(COUNTER)), LdTo(Direct(turner.cell))];
         start.extend(count);
     }
     start.extend(turner.code(rng, base, &shapes.fixed));
@@ -159,11 +171,11 @@ impl Turner {
     }
 
     fn turn(&self, rng: &mut Rng, code: &mut Vec<Instruction>) {
-        let (bit, address, value) = (rng.below(8) as u8, BANK, rng.pick(&self.banks));
+        let (bit, address, value) = (rng.below(8) as u8, self.cell, rng.pick(&self.banks));
         if (3..=5).contains(&self.form) {
             code.push(LdiA(value));
         }
-        let operand = [Direct(BANK), ByX, ByY][self.form % 3];
+        let operand = [Direct(self.cell), ByX, ByY][self.form % 3];
         code.push(match self.form {
             // The other one now and then: else no bit would be left.
             0 | 1 if rng.chance(25) => [Set { bit, address }, Res { bit, address }][self.form],
@@ -234,7 +246,7 @@ const LDI: u8 = 0x0D;
 /// changes the page by one form, and begins at FFEh. X and Y must point at the
 /// bank byte; services are one RETI.
 pub fn over_seams(rng: &mut Rng, halves: usize, form: usize) -> Vec<u8> {
-    let turner = Turner { form, banks: vec![rng.byte(), rng.byte(), rng.byte()] };
+    let turner = Turner { form, banks: vec![rng.byte(), rng.byte(), rng.byte()], cell: BANK };
     let (end, seam) = (rng.pick(&OVER_END), rng.pick(&OVER_SEAM));
     let after = (end.0 + end.1 - SPACE as usize) as u16;
     let slots = shape(rng, 6, false);
@@ -273,26 +285,26 @@ fn write_over(rng: &mut Rng, image: &mut [u8], end: (usize, usize), seam: (usize
 pub type Visit = (u8, u16);
 
 /// What visits of a loop have in common. The library keeps decoded
-/// instructions at places that it finds by address and bank byte.
+/// instructions at places that it finds by address and page.
 #[derive(Clone, Copy, PartialEq, Eq, Debug)]
 pub enum Sharing {
-    /// The same place of so many, for other addresses and bank bytes.
+    /// The same place of so many, for other addresses. With one page each
+    /// address has one of the many for itself: then it stays.
     Place(usize),
     /// The same page and address, for other bank bytes.
     Page,
     /// The same address, for other pages.
     Address,
-    /// The same address and the same of the few places, for other bank bytes.
-    Both,
 }
 
 /// The places of long runs, and of short ones.
 pub const PLACES: usize = 4096;
 pub const FEW_PLACES: usize = 64;
 
-/// Where a decoded instruction is kept, of so many places.
-pub fn kept_at((bank, address): Visit, places: usize) -> usize {
-    (address as usize + 397 * bank as usize) % PLACES % places
+/// Where a decoded instruction is kept, of so many places: by the page that the
+/// bank byte picks, of at least one.
+pub fn kept_at((bank, address): Visit, pages: usize, places: usize) -> usize {
+    (address as usize + 397 * (bank as usize % pages)) % places
 }
 
 /// The most bytes of what is visited.
@@ -326,17 +338,14 @@ impl Sharing {
             match self {
                 Sharing::Place(places) => {
                     let any = (bank, rng.below(SPACE as usize) as u16);
-                    let off = kept_at(first, places) + places - kept_at(any, places);
-                    return (bank, (any.1 + off as u16) % SPACE);
+                    let [to, from] = [first, any].map(|visit| kept_at(visit, pages, places));
+                    let address = (any.1 + (to + places - from) as u16) % SPACE;
+                    if address != first.1 || pages == 1 && places == PLACES {
+                        return (bank, address);
+                    }
                 }
                 Sharing::Page if same_page && bank != first.0 => return (bank, first.1),
                 Sharing::Address if !same_page || pages == 1 => return (bank, first.1),
-                Sharing::Both if bank != first.0 => {
-                    let visit = (bank, first.1);
-                    if kept_at(visit, FEW_PLACES) == kept_at(first, FEW_PLACES) {
-                        return visit;
-                    }
-                }
                 _ => {}
             }
         }

@@ -1,6 +1,6 @@
-//! Runs that keep what they have decoded, each at a place found by bank byte
-//! and address, with the fault; and runs that see the wrong page or flags after
-//! a change.
+//! Runs that keep what they have decoded, each at a place found by page and
+//! address, with the fault; and runs that see the wrong page or flags after a
+//! change.
 
 use super::bank::{bank, but_for_code, seen, HALF, SPACE};
 use super::fault;
@@ -13,6 +13,7 @@ const FEW_PLACES: usize = 64;
 
 /// What a run has seen so far.
 pub(super) struct Turns {
+    /// The page and the address of what is kept at each place.
     places: Vec<Option<(u8, usize)>>,
     /// The bank byte at the start of the run, and that of the page in place.
     first: u8,
@@ -56,8 +57,9 @@ impl Turns {
         if fault() == Some("turn-window") && seen_now.len() == SPACE {
             return but_for_code(&seen_now, pc, &seen(image, self.first)).into_owned();
         }
-        let mut shown = self.kept(image, seen_now.into_owned(), (self.in_place, pc));
-        if fault() == Some("turn-empty") && (now, pc) == (0, 0) && shown.len() == SPACE {
+        let page = self.in_place % pages;
+        let mut shown = self.kept(image, seen_now.into_owned(), (page, pc));
+        if fault() == Some("turn-empty") && (page, pc) == (0, 0) && shown.len() == SPACE {
             shown[..3].fill(0);
         }
         shown
@@ -69,21 +71,26 @@ impl Turns {
     }
 
     /// What is seen, with the code that is kept at the place of the one at PC.
-    fn kept(&mut self, image: &[u8], mut shown: Vec<u8>, (bank, pc): (u8, usize)) -> Vec<u8> {
-        let (count, fixed) = (self.places.len(), pc >= HALF && fault() == Some("turn-fixed"));
-        let turned = if fixed { 0 } else { 397 * bank as usize };
-        let place = &mut self.places[(pc + turned) % PLACES % count];
-        let taken = place.filter(|&(kept_bank, kept_pc)| match fault() {
+    fn kept(&mut self, image: &[u8], mut shown: Vec<u8>, (page, pc): (u8, usize)) -> Vec<u8> {
+        let (count, fixed) = (self.places.len(), pc >= HALF);
+        // By the rule no two pages share a place at the same address.
+        let turned = match fault() {
+            Some("turn-bank") => 0,
+            Some("turn-fixed") if fixed => 0,
+            _ => 397 * page as usize,
+        };
+        let place = &mut self.places[(pc + turned) % count];
+        let taken = place.filter(|&(kept_page, kept_pc)| match fault() {
             Some("turn-bank") => kept_pc == pc,
             Some("turn-fixed") => fixed && kept_pc == pc,
-            Some("turn-address") => kept_bank == bank,
+            Some("turn-address") => kept_page == page,
             Some("turn-place") => count == PLACES,
-            Some("width-place") => true,
             Some("turn-place-few") => count == FEW_PLACES,
+            Some("width-place-few") => true,
             _ => false,
         });
-        let (kept_bank, kept_pc) = *place.insert(taken.unwrap_or((bank, pc)));
-        let (code, base) = (seen(image, kept_bank), SPACE - shown.len());
+        let (kept_page, kept_pc) = *place.insert(taken.unwrap_or((page, pc)));
+        let (code, base) = (seen(image, kept_page), SPACE - shown.len());
         for offset in 0..3 {
             let [from, to] = [kept_pc, pc].map(|pc| ((pc + offset) % SPACE).wrapping_sub(base));
             if let (Some(&byte), Some(place)) = (code.get(from), shown.get_mut(to)) {
@@ -113,13 +120,13 @@ impl Turns {
     }
 }
 
-/// The width after so many steps of a gauge that takes whatever is kept at a
-/// place.
+/// The width after so many steps of a gauge that takes whatever is kept at one
+/// of the few places. Of the many, one page shares none.
 pub(super) fn width(image: &[u8], count: u8, steps: u16) -> u16 {
     let mut state = [0; STATE];
     boundary::reset(&mut state);
     state[0xC0] = count;
-    let mut turns = Turns::with(&state, PLACES);
+    let mut turns = Turns::with(&state, FEW_PLACES);
     for _ in 0..steps {
         let shown = turns.shown(image, &state);
         boundary::step(&shown, &mut state, 0);

@@ -7,7 +7,7 @@ mod widths;
 
 use crate::check::check;
 use crate::chip::{decode, Machine, HALF, SIZES};
-use crate::generate::{dense, sparse, turning, Program, Rng, TURNS};
+use crate::generate::{dense, sparse, staying, turning, Program, Rng, TURNS};
 use crate::{boundary, proved};
 use std::hint::black_box;
 
@@ -112,12 +112,31 @@ impl Runs {
         Runs::new(of, RUN)
     }
 
-    /// Different loops of some halves, so many that a processor cannot learn
-    /// the branches of them all. With pages they change them now and then.
+    /// Different loops of some halves, which stay in a page.
     pub fn of_many(halves: usize, steps: u32) -> Self {
+        Runs::of_each(halves, steps, staying)
+    }
+
+    /// Different loops of some halves, which store to the bank byte now and
+    /// then.
+    pub fn of_many_turning(halves: usize, steps: u32) -> Self {
+        Runs::of_each(halves, steps, turning)
+    }
+
+    fn of_each(halves: usize, steps: u32, of: fn(&mut Rng, usize, usize) -> Vec<u8>) -> Self {
         let mut rng = Rng::new(3);
-        let image = |number: usize| Loop::new(turning(&mut rng, halves, number % TURNS.len()));
+        let image = |number: usize| Loop::new(of(&mut rng, halves, number % TURNS.len()));
         Runs { loops: (0..IMAGES).map(image).collect(), steps }
+    }
+
+    /// How many a round has, of so many steps or of each loop once.
+    pub fn in_round(&self, steps: u32) -> usize {
+        self.loops.len().max((steps / self.steps) as usize)
+    }
+
+    /// The steps of so many runs.
+    pub fn steps(&self, count: usize) -> usize {
+        count * self.steps as usize
     }
 
     /// Whether the machines of both sides went the same way.

@@ -24,10 +24,9 @@ enum Met {
     OtherPage,
     Shared,
     SharedFew,
-    Both,
     OverEnd,
 }
-const MET: [&str; 11] = [
+const MET: [&str; 10] = [
     "page changed",
     "page that was left before",
     "page changed in a service",
@@ -37,11 +36,11 @@ const MET: [&str; 11] = [
     "other page, same address",
     "place shared in turn",
     "place shared in turn, short run",
-    "and by other pages at the same address",
     "other page, operand over the end",
 ];
-/// From how many halves on each can be.
-const FROM: [usize; MET.len()] = [3, 3, 3, 1, 1, 1, 3, 1, 1, 3, 3];
+/// From how many halves on each can be: in long runs each address of one page
+/// has a place of its own.
+const FROM: [usize; MET.len()] = [3, 3, 3, 1, 1, 1, 3, 3, 1, 3];
 
 pub struct TurnCounts {
     met: [[u64; MOST_HALVES + 1]; MET.len()],
@@ -58,10 +57,10 @@ pub struct TurnCounts {
 }
 
 /// What a run has executed: at each address with which bank byte last, and at
-/// each place the last two.
+/// each place the last two, by page and address.
 struct Kept {
     banks: Vec<Option<u8>>,
-    places: Vec<[Option<Visit>; 2]>,
+    places: Vec<[Option<(usize, u16)>; 2]>,
     left: [bool; MOST_HALVES],
 }
 
@@ -132,20 +131,19 @@ impl TurnCounts {
         let (bank, address) = visit;
         let pages = rom.pages().max(1);
         let last = kept.banks[address as usize].replace(bank).unwrap_or(bank);
-        let same_page = last as usize % pages == bank as usize % pages;
-        let other_page = !same_page && address < FIXED;
+        let page = bank as usize % pages;
+        let same_page = last as usize % pages == page;
         self.count(Met::OtherByte, rom, same_page && last != bank);
-        self.count(Met::OtherPage, rom, other_page);
+        self.count(Met::OtherPage, rom, !same_page && address < FIXED);
         self.count(Met::OverEnd, rom, !same_page && over_end);
         let places = kept.places.len();
-        let few = places == FEW_PLACES;
-        let place = &mut kept.places[kept_at(visit, places)];
-        if place[0] != Some(visit) {
-            let in_turn = place[1] == Some(visit);
-            let same_address = place[0].is_some_and(|(_, last)| last == address);
-            *place = [Some(visit), place[0]];
-            self.count(if few { Met::SharedFew } else { Met::Shared }, rom, in_turn);
-            self.count(Met::Both, rom, few && same_address && other_page);
+        let shared = if places == FEW_PLACES { Met::SharedFew } else { Met::Shared };
+        let place = &mut kept.places[kept_at(visit, pages, places)];
+        let now = Some((page, address));
+        if place[0] != now {
+            let in_turn = place[1] == now;
+            *place = [now, place[0]];
+            self.count(shared, rom, in_turn);
         }
     }
 
@@ -170,18 +168,13 @@ impl TurnCounts {
         println!("  {}", each.collect::<Vec<String>>().join(", "));
         let least = self.cut[1..].iter().min().expect("some");
         println!("runs of 1 to {LENGTHS} steps, whole, cut and step by step: {least} or more each");
-        println!("widths of programs that share places: {}", self.widths);
+        println!("widths of programs whose visits share something: {}", self.widths);
     }
 
     pub fn print_not_met(&self) {
         let mut missing = Vec::new();
         for ((name, from), counts) in MET.iter().zip(FROM).zip(&self.met) {
-            // Of two, four and eight pages the same place is the same page.
-            let possible = |halves: usize| {
-                *name != MET[Met::Both as usize] || !FEW_PLACES.is_multiple_of(halves - 1)
-            };
-            let halves =
-                (from..=MOST_HALVES).filter(|&halves| counts[halves] == 0 && possible(halves));
+            let halves = (from..=MOST_HALVES).filter(|&halves| counts[halves] == 0);
             missing.extend(halves.map(|halves| format!("{name} of {halves} halves")));
         }
         for (form, counts) in TURNS.iter().zip(&self.forms) {

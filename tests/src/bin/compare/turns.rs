@@ -15,13 +15,8 @@ use std::borrow::Cow::Borrowed;
 const EDGES: [usize; 16] = [62, 63, 64, 65, 66, 78, 79, 80, 81, 82, 127, 128, 129, 255, 256, 257];
 /// Every number up to this one is run.
 pub const LENGTHS: usize = 200;
-const SHARED: [Sharing; 5] = [
-    Sharing::Place(PLACES),
-    Sharing::Place(FEW_PLACES),
-    Sharing::Page,
-    Sharing::Address,
-    Sharing::Both,
-];
+const SHARED: [Sharing; 4] =
+    [Sharing::Place(PLACES), Sharing::Place(FEW_PLACES), Sharing::Page, Sharing::Address];
 
 pub fn turns(h: &mut Harness, rounds: usize) {
     for round in 0..rounds {
@@ -163,8 +158,8 @@ fn lengths(h: &mut Harness, halves: usize) {
     }
 }
 
-/// Every address as the first of a run, with the bank bytes that a place without
-/// an instruction may be mistaken for, and with others.
+/// Every address as the first of a run, with bank bytes for whose page a place
+/// without an instruction may be mistaken, and with others.
 fn every_first(h: &mut Harness, halves: usize) {
     let image = filled(&mut h.rng, HALF * halves);
     let mut course = Course::new(image);

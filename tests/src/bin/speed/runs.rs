@@ -15,19 +15,21 @@ pub fn all_runs() {
     }
     let name = format!("a straight loop of {LONG} instructions in 4K");
     of_length(&name, Runs::longest(Loop::long()), RUN);
-    for (name, halves) in [("2K", 1), ("nine pages", MOST_HALVES)] {
-        for steps in [100, 1000] {
-            let name = format!("{IMAGES} different loops in turn, {name}");
-            of_length(&name, Runs::of_many(halves, steps), steps);
+    for (name, halves) in [("2K", 1), ("4K", 2), ("nine pages", MOST_HALVES)] {
+        for steps in [10, 100, 1000, 10_000, RUN] {
+            let title = format!("{IMAGES} different loops in turn, {name}");
+            of_length(&title, Runs::of_many(halves, steps), steps);
+            let title = format!("{title}, changing the bank byte");
+            of_length(&title, Runs::of_many_turning(halves, steps), steps);
         }
     }
 }
 
 fn of_length(name: &str, mut runs: Runs, steps: u32) {
-    let per_round = STEPS / steps;
-    let times = race_sides(&mut runs, per_round as usize);
+    let per_round = runs.in_round(STEPS);
+    let times = race_sides(&mut runs, per_round);
     assert!(runs.agree(), "both machines went the same way");
-    let total = (per_round * steps) as f64;
+    let total = runs.steps(per_round) as f64;
     print(&format!("runs of {steps} steps of {name}"), "steps", total, &times);
     print_chip(total * runs.cycles_per_step(), &times);
 }
@@ -68,16 +70,24 @@ fn picking_runs() {
 /// Runs of several images, each with the ratio of times and the least times of
 /// a step in nanoseconds, for `benches/placements.py`.
 pub fn placed_runs() {
-    for (name, of) in [
-        ("2K", Loop::default()),
-        ("4K-fixed", Loop::paged(1, Place::Fixed)),
-        ("4K-page", Loop::paged(1, Place::Page)),
-        ("9-pages", Loop::paged(9, Place::Page)),
-        ("9-pages-every-16", Loop::picking(16)),
-        ("9-pages-every-4", Loop::picking(4)),
+    const MANY: u32 = 10_000;
+    for (name, mut runs) in [
+        ("2K", Runs::longest(Loop::default())),
+        ("4K-fixed", Runs::longest(Loop::paged(1, Place::Fixed))),
+        ("4K-page", Runs::longest(Loop::paged(1, Place::Page))),
+        ("9-pages", Runs::longest(Loop::paged(9, Place::Page))),
+        ("9-pages-every-16", Runs::longest(Loop::picking(16))),
+        ("9-pages-every-4", Runs::longest(Loop::picking(4))),
+        ("64-loops-2K", Runs::of_many(1, MANY)),
+        ("64-loops-4K", Runs::of_many(2, MANY)),
+        ("64-loops-9-pages", Runs::of_many(MOST_HALVES, MANY)),
+        ("64-turning-2K", Runs::of_many_turning(1, MANY)),
+        ("64-turning-9-pages", Runs::of_many_turning(MOST_HALVES, MANY)),
     ] {
-        let times = race_pairs(&mut [Runs::longest(of)], (STEPS / RUN) as usize);
-        let [proved, second] = [0, 1].map(|side| 1e9 / STEPS as f64 * least(&times[side]));
+        let count = runs.in_round(STEPS);
+        let total = runs.steps(count) as f64;
+        let times = race_pairs(std::slice::from_mut(&mut runs), count);
+        let [proved, second] = [0, 1].map(|side| 1e9 / total * least(&times[side]));
         let ratio = ratio(&times[0], &times[1]).median;
         println!("placed {name} {ratio:.4} {proved:.3} {second:.3}");
     }

@@ -22,9 +22,6 @@ returns c =
     let start = c .before .before .before .before in
     (λ pairs. c .done .ensures _ _ pairs (start .args .c .mode) ∙ idle _ _ (c .before .if1 .taken), start .pre .4)
 
-element-copy-out-fetch : tie.Need-element-copy-out-fetch
-element-copy-out-fetch c = search needs
-
 fetch-requires : tie.Need-fetch-requires
 fetch-requires c κs = search needs
 
@@ -41,14 +38,14 @@ returns-2 : tie.Need-returns-2
 unfolding decodedOf
 returns-2 c =
     let k = c .before .before .before .before .before .before in
-    let start = k .before .before .before .before .before .before in
+    let start = k .before .before .before .before .before in
     let program = programOf (start .args .image .now) (start .args .bytes .now) in
     let reason = c .before .before .reason .given in
     let decoded : decodeAt program (start .args .c .pc) ≡ refused (numbered (reason .0 .0)) =
-    sym (rw (reason .1) at (k .fetch .ensures .0)
+    sym (rw (reason .1, start .pre .5) at (k .fetch .ensures .0)
     ∙ in-range program _ (is-space (start .args .image .now) _ (start .pre .1)) (start .pre .2)) in (
       λ pairs. rw decoded (c .stopped .ensures _ _ pairs (start .args .c .mode)) ∙ awake program _
-          (k .before .before .before .if1 .left),
+          (k .before .before .if1 .left),
       k .fetch .ensures .1,
     )
 
@@ -65,15 +62,15 @@ returns-3 : tie.Need-returns-3
 unfolding decodedOf
 returns-3 c =
     let k = c .before .before .before .before .before .before .before .before in
-    let start = k .before .before .before .before .before .before in
+    let start = k .before .before .before .before .before in
     let program = programOf (start .args .image .now) (start .args .bytes .now) in
     let word = c .before .before .before .before .word .given in
     let w = word .0 .0 in
     let decoded : decodeAt program (start .args .c .pc)
     ≡ done (decode.instruction (instructionOfWord w) (lengthOf (instructionOfWord w)) (cyclesOfWord w)) =
-    sym (rw (word .1) at (k .fetch .ensures .0)
+    sym (rw (word .1, start .pre .5) at (k .fetch .ensures .0)
     ∙ in-range program _ (is-space (start .args .image .now) _ (start .pre .1)) (start .pre .2)) in (
-      λ pairs. rw decoded (c .executed .ensures pairs) ∙ awake program _ (k .before .before .before .if1 .left),
+      λ pairs. rw decoded (c .executed .ensures pairs) ∙ awake program _ (k .before .before .if1 .left),
       k .fetch .ensures .1,
     )
 
@@ -83,7 +80,6 @@ uninterrupted-spec =
     (tie.spec
     done-requires
     returns
-    element-copy-out-fetch
     fetch-requires
     enum-known-reason
     stopped-requires

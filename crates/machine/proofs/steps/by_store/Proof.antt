@@ -4,37 +4,40 @@ use Rattle.machine.proofs.Store.{coherent-none}
 use Rattle.machine.proofs.steps.by_store.Statement.{statement}
 use Rattle.machine.proofs.steps.by_store.Tie as tie
 
-slice-aggregate-on-copy : tie.Need-slice-aggregate-on-copy
-slice-aggregate-on-copy c = search needs
+timings-requires : tie.Need-timings-requires
+timings-requires c κs = search needs
 
-on-copy-requires : tie.Need-on-copy-requires
-on-copy-requires c κs =
-    let pre = c .before .before .before .before .pre in (
-      pre .0,
-      pre .1,
-      pre .2,
-      pre .3,
+slice-aggregate-all-steps : tie.Need-slice-aggregate-all-steps
+slice-aggregate-all-steps c = search needs
+
+all-steps-requires : tie.Need-all-steps-requires
+all-steps-requires c κs =
+    let start = c .before .before .before .before .before .before .before .before in (
+      start .pre .0,
+      c .before .before .before .before .before .timings .ensures,
+      start .pre .1,
+      start .pre .2,
+      start .pre .3,
       search needs,
-      coherent-none
-          (c .before .before .before .before .args .image .now) 64,
+      coherent-none (start .args .image .now) 64,
     )
 
 returns : tie.Need-returns
 returns c = search needs
 
-slice-aggregate-on-copy-2 : tie.Need-slice-aggregate-on-copy-2
-slice-aggregate-on-copy-2 c = search needs
+slice-aggregate-all-steps-2 : tie.Need-slice-aggregate-all-steps-2
+slice-aggregate-all-steps-2 c = search needs
 
-on-copy-requires-2 : tie.Need-on-copy-requires-2
-on-copy-requires-2 c κs =
-    let pre = c .before .before .before .before .pre in (
-      pre .0,
-      pre .1,
-      pre .2,
-      pre .3,
+all-steps-requires-2 : tie.Need-all-steps-requires-2
+all-steps-requires-2 c κs =
+    let start = c .before .before .before .before .before .before .before .before in (
+      start .pre .0,
+      c .before .before .before .before .before .timings .ensures,
+      start .pre .1,
+      start .pre .2,
+      start .pre .3,
       search needs,
-      coherent-none
-          (c .before .before .before .before .args .image .now) 4096,
+      coherent-none (start .args .image .now) 4096,
     )
 
 returns-2 : tie.Need-returns-2
@@ -44,9 +47,10 @@ pub by-store-spec : {M : Type 1} → statement M
 by-store-spec =
     tie.close
     (tie.spec
-    slice-aggregate-on-copy
-    on-copy-requires
+    timings-requires
+    slice-aggregate-all-steps
+    all-steps-requires
     returns
-    slice-aggregate-on-copy-2
-    on-copy-requires-2
+    slice-aggregate-all-steps-2
+    all-steps-requires-2
     returns-2)

@@ -20,7 +20,7 @@ mode-number-requires c κs = search needs
 
 returns-3 : tie.Need-returns-3
 returns-3 c = λ e.
-    (c .before .before .before .if1 .left, sym (c .mode-number .ensures) ∙ eqb-true _ _ e)
+    (c .before .before .before .if1 .left, sym (c .mode-number .ensures) ∙ eqb-true _ _ e, search needs)
 
 pub stays-spec : {M : Type 1} → statement M
 stays-spec =

@@ -1,13 +1,14 @@
 -- `steps::steps_in_mode` meets its contract. The loop's invariant: the steps up to i completed, whatever they
--- continue; the machine is well formed and the store coherent; as long as the loop goes on the mode is that of its
--- start, and when it ends a step was made.
+-- continue; the machine is well formed and the store coherent; as long as the loop goes on the mode and the bank byte
+-- are those of its start, and when it ends a step was made.
 use Prim.Native.Nat.{_≤_, _<_, _-_, _*_}
 use mathlib.Core.Path.{_≡_, refl, sym, ap, _∙_}
 use mathlib.Core.Bool.{true, false}
 use native.Mathlib.Omega.{arith}
 use borrow.Author.Needs.{needs}
-use lib.ListN.{length}
+use lib.ListN.{length, getD}
 use Rattle.isa.specs.Refusals.{done}
+use Rattle.isa.proofs.Halves.{same-space}
 use Rattle.control.specs.WellFormed.{wellFormed}
 use Rattle.control.proofs.StaysWellFormed.{formed-exactly}
 use Rattle.machine.specs.declared.FlagPairs.{FlagPairs}
@@ -23,33 +24,36 @@ use Rattle.machine.proofs.steps.steps_in_mode.Statement.{statement}
 use Rattle.machine.proofs.steps.steps_in_mode.Tie as tie
 
 abbrev Inv-loop : tie.InvT-loop
-Inv-loop table image store₀ bytes₀ stack₀ requests first spent n bank before c₀ flags₀ cycles₀ i₀ same₀ store bytes stack c flags cycles i same =
+Inv-loop table image store₀ bytes₀ stack₀ requests first spent n bank page before c₀ flags₀ cycles₀ i₀ same₀ store bytes stack c flags cycles i same =
     (first ≤ i) × (i ≤ n) × (cycles ≤ 255 * i) × (wellFormed stack c ≡ true) × (length store ≡ length store₀)
-    × Coherent image store × (same ≡ true → (i < n) × (c .mode ≡ c₀ .mode)) × (same ≡ false → first < i)
+    × Coherent image store × (same ≡ true → (i < n) × (c .mode ≡ c₀ .mode) × (getD bytes 0xCA 0 ≡ bank)) × (same ≡ false → first < i)
     × ((pairs : FlagPairs) (m : Machine) →
     runAt (machineOf c₀ stack₀ (withPairOf pairs (c₀ .mode) flags₀) bytes₀) first spent (done tt)
     ≡ stepsOf image requests m first →
     runAt (machineOf c stack (withPairOf pairs (c₀ .mode) flags) bytes) i cycles (done tt) ≡ stepsOf image requests m i)
 
 abbrev μ-loop : tie.MeasureT-loop
-μ-loop table image store₀ bytes₀ stack₀ requests first spent n bank before c₀ flags₀ cycles₀ i₀ same₀ store bytes stack c flags cycles i same = n - i
+μ-loop table image store₀ bytes₀ stack₀ requests first spent n bank page before c₀ flags₀ cycles₀ i₀ same₀ store bytes stack c flags cycles i same = n - i
 
 element-copy-out-bank : tie.Need-element-copy-out-bank Inv-loop μ-loop
 element-copy-out-bank c = search needs
+
+page-number-requires : tie.Need-page-number-requires Inv-loop μ-loop
+page-number-requires c κs = search needs
 
 mode-number-requires : tie.Need-mode-number-requires Inv-loop μ-loop
 mode-number-requires c κs = search needs
 
 loop-holds : tie.Need-loop-holds Inv-loop μ-loop
 loop-holds c =
-    let pre = c .before .before .before .before .before .pre in (
+    let pre = c .before .before .before .before .before .before .pre in (
       search needs,
       omega (arith, pre .1),
       pre .2,
       pre .5,
       refl,
       pre .8,
-      λ e. (pre .1, refl),
+      λ e. (pre .1, refl, refl),
       λ e. never e,
       λ pairs m e. e,
     )
@@ -59,13 +63,18 @@ request-at-requires c κs = search needs
 
 advance-requires : tie.Need-advance-requires Inv-loop μ-loop
 advance-requires c κs =
-    let start = c .before .before .before .before .before .before .before .before .before .before .before in
+    let start = c .before .before .before .before .before .before .before .before .before .before .before .before in
     let inv = c .before .before .before .before .before .loop .inv in (
       start .pre .3,
       start .pre .4,
       formed-exactly .facts _ _ (inv .3) .pc,
       omega (arith, inv .4, start .pre .7),
       inv .5,
+      rw (
+        inv .6 (c .before .before .before .before .loop-test .taken) .2,
+        c .before .before .before .before .before .before .before .page-number .ensures (start .pre .4),
+      )
+          (same-space (start .args .image .now) _),
     )
 
 enum-known-answer : tie.Need-enum-known-answer Inv-loop μ-loop
@@ -93,7 +102,7 @@ returns c =
     let at-advance = c .before .before .before .before .before .before .before .before in
     let at-test = at-advance .before .before .before .before .before in
     let loop = at-test .before .loop in
-    let start = at-test .before .before .before .before .before .before .before in
+    let start = at-test .before .before .before .before .before .before .before .before in
     let image = start .args .image .now in
     let requests = start .args .requests .now in
     let mode = start .args .start .mode in
@@ -134,13 +143,13 @@ loop-again c =
     let at-advance = c .before .before .before .before .before .before .before .before .before in
     let at-test = at-advance .before .before .before .before .before in
     let loop = at-test .before .loop in
-    let start = at-test .before .before .before .before .before .before .before in
+    let start = at-test .before .before .before .before .before .before .before .before in
     let image = start .args .image .now in
     let requests = start .args .requests .now in
     let mode = start .args .start .mode in
     let n = start .args .n in
     let goes = loop .inv .6 (at-test .loop-test .taken) in
-    let known = at-test .before .before .before .before .before .before .shared-slice-known in
+    let known = at-test .before .before .before .before .before .before .before .shared-slice-known in
     let at-mode = at-test .before .before in (
       omega (arith, loop .inv .0),
       omega (arith, goes .0),
@@ -151,8 +160,11 @@ loop-again c =
           (at-advance .advance .ensures .0 clearedPairs),
       search needs,
       at-advance .advance .ensures .1,
-      λ e.
-          (c .stays .ensures e .0, same-mode _ _ (c .stays .ensures e .1 ∙ at-mode .mode-number .ensures)),
+      λ e. (
+        c .stays .ensures e .0,
+        same-mode _ _ (c .stays .ensures e .1 ∙ at-mode .mode-number .ensures),
+        c .stays .ensures e .2,
+      ),
       λ e. omega (arith, loop .inv .0),
       λ pairs m e.
           rw (← goes .1)
@@ -174,7 +186,7 @@ same-length-2 c = search needs
 returns-2 : tie.Need-returns-2 Inv-loop μ-loop
 returns-2 c =
     let k = c .before .before in
-    let start = k .before .before .before .before .before .before in
+    let start = k .before .before .before .before .before .before .before in
     let inv = k .loop .inv in
     let all : settled (c .part2 .result .report) (start .args .n) ≡ k .loop .i = rw (c .part2 .ensures .3)
     (c .part2 .ensures .1) in (
@@ -194,6 +206,7 @@ steps-in-mode-spec =
     Inv-loop
     μ-loop
     element-copy-out-bank
+    page-number-requires
     mode-number-requires
     loop-holds
     request-at-requires
