@@ -203,7 +203,7 @@ uint64_t st62_run(const uint8_t *image, size_t image_length, uint8_t *state, siz
 
 /* Plays a session's record on a fresh machine into state and report. 1, 28, 27, 30, 29, 2 for a state of another
  * length, 9; then an entry's own refusal or stop, with the machine and the report before it. */
-uint64_t st62_play(const uint8_t *image, size_t image_length, const uint8_t *session, size_t session_length,
+uint64_t st62_play(const uint8_t *image, size_t image_length, const uint8_t *recording, size_t recording_length,
                    uint8_t *state, size_t state_length, uint8_t *report, size_t report_length);
 
 /* Checks a certificate for the wired sources; the value is the levels. 1, 13, 11; at each marked address, upward, 14,

@@ -24,8 +24,8 @@ pub p11-never-stops : P11NeverStops
 p11-never-stops = never-stops _ _ 0x01 2 (check-cases .p11)
 
 pub p11-uses-two : P11UsesTwo
-unfolding leaves levelsInUse runOf requestsFit stepsOf resetOf freshOf Step.stepOf Step.advancedOf Step.respondOf
-    Step.uninterruptedOf Step.decodedOf Step.executedOf Step.completedOf Step.takenOf Step.takenBy executeOf effectOf
+unfolding leaves levelsInUse runOf requestsFit stepsOf resetOf freshOf Step.stepOf Step.actionOf Step.dueOf
+    Step.unrequestedAction Step.actedOf Step.executedOf Step.completedOf Step.takenOf Step.takenBy executeOf effectOf
     WellFormed.addressesFit WellFormed.wellFormed Requests.requestedOf Requests.servingOf Requests.takeOf
     Transfers.callOf Transfers.returnFromInterruptOf Transfers.advanceOf Stack.pushOf Stack.popOf
     Map.entryOf Table.bytesOf Table.cyclesOf Map.formAs Map.formOf Rom.spaceOf Rom.pageOf Rom.fixedOf Rom.romAt Rom.operandAt

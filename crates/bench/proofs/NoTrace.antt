@@ -11,7 +11,6 @@ use Rattle.isa.specs.Refusals.{plain, done, refused, unless}
 use Rattle.isa.specs.Sources.{namesOnlySources}
 use Rattle.isa.specs.Displacement.{forwardOf}
 use Rattle.isa.specs.ControlFlow.{flowOf}
-use Rattle.isa.specs.Decode.{decodeAt}
 use Rattle.isa.specs.declared.Instruction.the-variants as I
 use Rattle.isa.specs.declared.Source.{Source}
 use Rattle.control.specs.declared.Mode.{Mode}
@@ -29,9 +28,9 @@ use Rattle.machine.specs.Execute.{executionBy, executeOf}
 use Rattle.machine.specs.declared.Machine.{Machine}
 use Rattle.machine.specs.State.{viewOf, HostStore, withByte, hostStoreOf, resetOf}
 use Rattle.machine.specs.Advance.{stoppedOf, servedOf, afterOf}
-use Rattle.machine.specs.Step.{doneOf, takenBy, takenOf, completedOf, executedOf, decodedOf, uninterruptedOf}
-use Rattle.machine.specs.Step.{respondOf, advancedOf, stepOf}
+use Rattle.machine.specs.Step.{doneOf, takenBy, takenOf, completedOf, executedOf, actedOf, advancedOf, stepOf}
 use Rattle.machine.specs.Refusals.{Takes}
+use Rattle.machine.proofs.Due.{takes-due, awake-due}
 use Rattle.machine.proofs.PairUse.{other-pairs-kept}
 use Rattle.machine.proofs.StepByStep.{step-advances}
 use Rattle.certificate.specs.Rules.{Rules}
@@ -69,8 +68,9 @@ use Rattle.bench.proofs.Reti.{reti-executed, reti-effect, request-effec
 -- taking a request keeps all flags
 taken-flags : (program : List ℕ) (m : Machine) (request : ℕ) (source : Source) → Takes m request source
     → advancedOf program m request .machine .flags ≡ m .flags
-unfolding advancedOf respondOf takenOf takenBy
-taken-flags program m request source e = rw e (by-stop (takeOf (m .stack) (m .control) source .stop))
+unfolding advancedOf actedOf takenOf takenBy
+taken-flags program m request source e =
+    rw (takes-due program m request source e) (by-stop (takeOf (m .stack) (m .control) source .stop))
   where
     by-stop : (s : Stop)
         → stoppedOf m s (doneOf (servedOf m (takeOf (m .stack) (m .control) source)) 1) .machine .flags ≡ m .flags
@@ -137,14 +137,14 @@ module _ (image certificate : List ℕ) (wired number : ℕ) (ok : Rules image c
 
   awake-after : (m : Machine) → MachineInvariant certificate wired m → (request : ℕ) {mode : Mode}
       → RetiIn image mode m request → stepOf image m request .machine .control .asleep ≡ false
-  unfolding advancedOf respondOf uninterruptedOf decodedOf executedOf completedOf executeOf flowOf advanceOf
+  unfolding advancedOf actedOf executedOf completedOf executeOf flowOf advanceOf
   awake-after m g request x =
       rw (
         step-advances image m request (ok .image-length) (well-formed image certificate wired number ok m g)
             (x .named),
-        x .none-taken,
+        awake-due program m request (x .none-taken) (x .awake) _ (x .at-pc),
       )
-      (by-sleep (m .control .asleep))
+      (by-stop (reti .stop))
     where
       program : List ℕ
       program = programOf image (m .bytes)
@@ -159,12 +159,6 @@ module _ (image certificate : List ℕ) (wired number : ℕ) (ok : Rules image c
       by-stop stop.None = reti-awake (m .stack) (m .control) (forwardOf (m .control .pc) (x .bytes)) ∙ x .awake
       by-stop stop.Full = x .awake
       by-stop stop.Empty = x .awake
-
-      by-sleep : (b : Bool)
-          → cond b (doneOf m 0) (decodedOf program m (decodeAt program (m .control .pc))) .machine .control .asleep
-          ≡ false
-      by-sleep true = x .awake
-      by-sleep false = rw (x .at-pc) (by-stop (reti .stop))
 
   module _ (m₀ : Machine) (M : Mode) (m : Machine) (g : MachineInvariant certificate wired m)
       (s : Serving certificate m₀ M m) where

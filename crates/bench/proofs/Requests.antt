@@ -1,7 +1,7 @@
 -- The request that a step takes: its byte asks for it, and the mode takes it.
 use Prim.Native.Nat.{ℕ, _+_}
 use mathlib.Core.Path.{_≡_, refl}
-use mathlib.Core.Bool.{Bool, true, false, cond, false≢true}
+use mathlib.Core.Bool.{Bool, true, false, cond, false≢true, and-eq-true-iff}
 use mathlib.Core.List.{List}
 use Rattle.isa.specs.Sources.{isNamed, vectorOf}
 use Rattle.isa.specs.declared.Source.{Source}
@@ -14,7 +14,6 @@ use Rattle.control.specs.Requests.{canTake, isTaken, requestedOf}
 use Rattle.certificate.specs.Marks.{needAt}
 use Rattle.certificate.specs.Levels.{levelsFor}
 use Rattle.certificate.specs.Rules.{Rules}
-use Rattle.certificate.proofs.Facts.{both-true}
 use Rattle.bench.specs.Calls.{AsksOnly}
 use Rattle.bench.proofs.Moves.{Takes, nmi, first, second, third, fourth, nested, Wired}
 
@@ -60,7 +59,7 @@ pub taken-takes : (mode : Mode) (enabled : Bool) (request : ℕ)
     → IfTaken (Takes mode) (requestedOf mode enabled request)
 taken-takes mode enabled request =
     if-taken (Takes mode) mode enabled request
-    (λ s e. mode-takes mode enabled s (both-true (isNamed request s) (canTake mode enabled s) e .1))
+    (λ s e. mode-takes mode enabled s (and-eq-true-iff (isNamed request s) (canTake mode enabled s) .0 e .1))
 
 -- a source that the mode takes, and that the certificate has wired
 pub record Allowed (certificate : List ℕ) (wired : ℕ) (mode : Mode) (source : Source) : Type 0 where
@@ -81,7 +80,7 @@ taken-allowed image certificate wired number ok mode enabled request asks =
   where
     allowed : (s : Source) → isTaken mode enabled request s ≡ true → Allowed certificate wired mode s
     allowed s e =
-        let p = both-true (isNamed request s) (canTake mode enabled s) e in
+        let p = and-eq-true-iff (isNamed request s) (canTake mode enabled s) .0 e in
         let w = asks s (p .0) in
         record {
           takes = mode-takes mode enabled s (p .1);

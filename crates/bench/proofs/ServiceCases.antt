@@ -2,7 +2,7 @@
 use Prim.Native.Nat.{ℕ, zero, suc}
 use native.Mathlib.Omega.{arith}
 use mathlib.Core.Path.{_≡_, refl, sym, ap, _∙_}
-use mathlib.Core.Bool.{Bool, true, false, _&&_, _||_, not}
+use mathlib.Core.Bool.{Bool, true, false, _&&_, _||_, not, and-eq-true-iff}
 use mathlib.Core.List.{List, [], _∷_, _++_}
 use lib.Dec.{eqb}
 use lib.ListN.{getD}
@@ -16,6 +16,7 @@ use Rattle.isa.specs.ControlFlow
 use Rattle.isa.specs.Sources.{isNamed, namesOnlySources}
 use Rattle.isa.specs.declared.Source.{Source}
 use Rattle.isa.specs.declared.Source.the-variants.{Nmi, First, Second, Third, Fourth}
+use Rattle.control.specs.Modes.{modeNumber}
 use Rattle.control.specs.declared.Mode.{Mode}
 use Rattle.control.specs.declared.Mode.the-variants.{Reset, Normal, Interrupt, NmiOverNormal, NmiOverInterrupt}
 use Rattle.control.specs.declared.Control.{Control}
@@ -39,7 +40,6 @@ use Rattle.certificate.specs.Levels
 use Rattle.certificate.specs.Vectors.{vectorsFound, sourceFound, vectorFound}
 use Rattle.certificate.specs.Check.{checkOf, accepted, marksFound, markFound, pagesFound, decodedFound, flowFound}
 use Rattle.certificate.specs.Cases.{image11, certificate11}
-use Rattle.certificate.proofs.Facts.{both-true}
 use Rattle.certificate.proofs.Cases.{check-cases}
 use Rattle.bench.specs.Calls.{Call, step, run, store, reset, leaves, leavesAll, unrolled}
 use Rattle.bench.specs.Calls.{AsksOnly, FirstAskOnly, CallAsksOnly, AllAskOnly}
@@ -66,10 +66,10 @@ implies false b e t = let z : _≡_ {A = ℕ} 0 1 = cc in absurd (omega arith)
 
 asks-by : (wired request : ℕ) → allFit wired request ≡ true → AsksOnly wired request
 asks-by wired request e s =
-    let one = both-true (fits wired request Nmi) _ e in
-    let two = both-true (fits wired request First) _ (one .1) in
-    let three = both-true (fits wired request Second) _ (two .1) in
-    let four = both-true (fits wired request Third) _ (three .1) in
+    let one = and-eq-true-iff (fits wired request Nmi) _ .0 e in
+    let two = and-eq-true-iff (fits wired request First) _ .0 (one .1) in
+    let three = and-eq-true-iff (fits wired request Second) _ .0 (two .1) in
+    let four = and-eq-true-iff (fits wired request Third) _ .0 (three .1) in
     implies (isNamed request s) (isNamed wired s) (by-source (one .0) (two .0) (three .0) (four .0) (four .1) s)
   where
     by-source : fits wired request Nmi ≡ true → fits wired request First ≡ true → fits wired request Second ≡ true
@@ -89,7 +89,7 @@ first-ask : (wired : ℕ) (requests : List ℕ) (n : ℕ) → firstFit wired req
     → FirstAskOnly wired requests n
 first-ask wired requests zero e i h = absurd (omega arith)
 first-ask wired requests (suc n) e i h =
-    let p = both-true (allFit wired (getD requests n 0)) (firstFit wired requests n) e in
+    let p = and-eq-true-iff (allFit wired (getD requests n 0)) (firstFit wired requests n) .0 e in
     below-more (λ j. AsksOnly wired (getD requests j 0)) n (first-ask wired requests n (p .1))
     (asks-by wired (getD requests n 0) (p .0)) i (omega arith)
 
@@ -112,7 +112,7 @@ call-asks wired reset e = tt
 all-ask : (wired : ℕ) (calls : List Call) → callsFit wired calls ≡ true → AllAskOnly wired calls
 all-ask wired [] e = tt
 all-ask wired (c ∷ calls) e =
-    let p = both-true (callFits wired c) (callsFit wired calls) e in
+    let p = and-eq-true-iff (callFits wired c) (callsFit wired calls) .0 e in
     (call-asks wired c (p .0), all-ask wired calls (p .1))
 
 -- calls that do not end a service, tested
@@ -123,13 +123,6 @@ isReti by-ret = false
 isReti by-reti = true
 isReti by-start-up = false
 isReti none = false
-
-abbrev modeNumber : Mode → ℕ
-modeNumber Reset = 0
-modeNumber Normal = 1
-modeNumber Interrupt = 2
-modeNumber NmiOverNormal = 3
-modeNumber NmiOverInterrupt = 4
 
 abbrev staysIn : (image : List ℕ) → Mode → Call → Machine → Bool
 staysIn image mode (step request) m =
@@ -146,7 +139,7 @@ none-ending : (image : List ℕ) (mode : Mode) → isReset mode ≡ false → (c
     → allStayIn image mode calls m ≡ true → NoneEnding image mode calls m
 none-ending image mode started [] m e = tt
 none-ending image mode started (step request ∷ calls) m e =
-    let p = both-true (staysIn image mode (step request) m) _ e in
+    let p = and-eq-true-iff (staysIn image mode (step request) m) _ .0 e in
     (λ x. not-here x (p .0), none-ending image mode started calls (leaves image (step request) m) (p .1))
   where
     not-here : RetiIn image mode m request → staysIn image mode (step request) m ≡ true → ⊥
@@ -287,14 +280,14 @@ unfolding checkOf marksFound markFound pagesFound decodedFound flowFound vectors
 both-accepted = (refl, refl)
 
 pub service-cases : ServiceCases
-unfolding leaves runOf requestsFit stepsOf resetOf freshOf hostStoreOf Step.stepOf Step.advancedOf Step.respondOf
-    Step.uninterruptedOf Step.decodedOf Step.executedOf Step.completedOf Step.takenOf Step.takenBy executeOf effectOf
+unfolding leaves runOf requestsFit stepsOf resetOf freshOf hostStoreOf Step.stepOf Step.actionOf Step.dueOf
+    Step.unrequestedAction Step.actedOf Step.executedOf Step.completedOf Step.takenOf Step.takenBy executeOf effectOf
     storeResultOf storeOf readOf operandOf addressOf
     WellFormed.addressesFit WellFormed.wellFormed Requests.requestedOf Requests.servingOf Requests.takeOf
     Transfers.callOf Transfers.returnFromInterruptOf Transfers.advanceOf Transfers.sleptOf Stack.pushOf Stack.popOf
     Map.entryOf Table.bytesOf Table.cyclesOf Map.formAs Map.formOf Rom.spaceOf Rom.pageOf Rom.fixedOf Rom.romAt
-    Rom.operandAt Decode.decodeAt ControlFlow.flowOf effect.stackEffectOf effect.respondEffect
-    effect.unrequestedEffect effect.decodedEffect effect.flowEffect
+    Rom.operandAt Decode.decodeAt ControlFlow.flowOf effect.stackEffectOf effect.actionEffect
+    effect.flowEffect
 service-cases =
     record {
       p11 =

@@ -20,7 +20,8 @@ use Rattle.certificate.specs.Rules.{Rules}
 use Rattle.certificate.proofs.Agreement.{agreement}
 use Rattle.bench.specs.Calls.{Call, step, run, store, reset, leaves, AsksOnly, FirstAskOnly, CallAsksOnly}
 use Rattle.bench.specs.Calls.{AllAskOnly}
-use Rattle.bench.specs.Session.{StepRefused, StepDone, RunRefused, RunDone, StoreRefused, StoreDone, Keeps}
+use Rattle.bench.specs.Session.{StepRefusedWith, StepDone, RunRefusedWith, RunDone}
+use Rattle.bench.specs.Session.{StoreRefusedWith, StoreDone, Keeps}
 use Rattle.bench.specs.Session.{AllKeep, Promised, NeverStops}
 use Rattle.bench.proofs.Invariant.{MachineInvariant, reset-invariant, levels-within, well-formed}
 use Rattle.bench.proofs.StepMoves.{invariant-after}
@@ -30,7 +31,7 @@ module _ (image certificate : List ℕ) (wired number : ℕ) (ok : Rules image c
   -- what a call answers keeps the promise, and the machine that it leaves has frames
   module _ (m : Machine) (g : MachineInvariant certificate wired m) where
     abbrev StepKept : Step → Type 0
-    StepKept s = (StepRefused m 11 s ⊎ StepDone s) × MachineInvariant certificate wired (s .machine)
+    StepKept s = (StepRefusedWith m 11 s ⊎ StepDone s) × MachineInvariant certificate wired (s .machine)
 
     step-kept : (request : ℕ) → AsksOnly wired request → StepKept (stepOf image m request)
     step-kept request asks = by-test (namesOnlySources request) refl
@@ -45,7 +46,7 @@ module _ (image certificate : List ℕ) (wired number : ℕ) (ok : Rules image c
 
     -- a host store leaves control and stack as they are
     abbrev StoreKept : HostStore → Type 0
-    StoreKept s = (StoreRefused m 10 s ⊎ StoreDone s) × MachineInvariant certificate wired (s .machine)
+    StoreKept s = (StoreRefusedWith m 10 s ⊎ StoreDone s) × MachineInvariant certificate wired (s .machine)
 
     store-kept : (address value : ℕ) → StoreKept (hostStoreOf m address value)
     unfolding hostStoreOf
@@ -61,7 +62,7 @@ module _ (image certificate : List ℕ) (wired number : ℕ) (ok : Rules image c
     module _ (requests : List ℕ) (n : ℕ) (asks : FirstAskOnly wired requests n) where
       abbrev RunKept : Run → Type 0
       RunKept r =
-          ((RunRefused m 12 r ⊎ RunRefused m 11 r) ⊎ RunDone image number requests m n r)
+          ((RunRefusedWith m 12 r ⊎ RunRefusedWith m 11 r) ⊎ RunDone image number requests m n r)
           × MachineInvariant certificate wired (r .machine)
 
       run-done : requestsFit requests n ≡ true → RunKept (stepsOf image requests m n)

@@ -5,6 +5,7 @@ use native.Mathlib.Omega.{arith}
 use mathlib.Core.Path.{_≡_}
 use mathlib.Core.List.{List, [], _∷_}
 use lib.ListN.{length}
+use Rattle.isa.specs.Sources.{resetVector}
 use Rattle.isa.specs.declared.Source.the-variants.{Nmi}
 use Rattle.control.specs.declared.Mode.{Mode}
 use Rattle.control.specs.declared.Mode.the-variants.{Reset, Normal, Interrupt, NmiOverNormal, NmiOverInterrupt}
@@ -13,12 +14,12 @@ use Rattle.certificate.specs.Levels.{sourceLevels, levelsFor, levelsOf}
 
 -- the levels that a mode may use
 unfoldable pub bound : (certificate : List ℕ) → (wired : ℕ) → Mode → ℕ
-bound certificate wired Reset = needAt certificate 0xFFE
-bound certificate wired Normal = needAt certificate 0xFFE
-bound certificate wired Interrupt = needAt certificate 0xFFE + sourceLevels certificate wired
-bound certificate wired NmiOverNormal = needAt certificate 0xFFE + levelsFor certificate wired Nmi
+bound certificate wired Reset = needAt certificate resetVector
+bound certificate wired Normal = needAt certificate resetVector
+bound certificate wired Interrupt = needAt certificate resetVector + sourceLevels certificate wired
+bound certificate wired NmiOverNormal = needAt certificate resetVector + levelsFor certificate wired Nmi
 bound certificate wired NmiOverInterrupt =
-    needAt certificate 0xFFE + sourceLevels certificate wired + levelsFor certificate wired Nmi
+    needAt certificate resetVector + sourceLevels certificate wired + levelsFor certificate wired Nmi
 
 bound-most : (certificate : List ℕ) (wired : ℕ) (m : Mode) → bound certificate wired m ≤ levelsOf certificate wired
 unfolding bound levelsOf
@@ -79,7 +80,7 @@ module _ {certificate : List ℕ} {wired : ℕ} where
   has-kind (service o f k h) = omega arith
 
   -- just reset
-  pub at-reset : kindAt certificate 0xFFE ≡ 1 → StackFrames certificate wired Reset 0xFFE []
+  pub at-reset : kindAt certificate resetVector ≡ 1 → StackFrames certificate wired Reset resetVector []
   unfolding bound
   at-reset k = start-up k (omega arith)
 

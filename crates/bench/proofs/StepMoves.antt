@@ -2,14 +2,13 @@
 -- and cycles are not looked at.
 use Prim.Native.Nat.{ℕ, zero, suc, _+_, _<_}
 use native.Mathlib.Omega.{arith}
-use mathlib.Core.Path.{_≡_, refl, _∙_}
+use mathlib.Core.Path.{_≡_, refl, sym, ap, subst, _∙_}
 use mathlib.Core.Logic.{inl, inr}
 use mathlib.Core.Bool.{Bool, true, false, cond}
 use mathlib.Core.List.{List, _∷_}
 use lib.Dec.{eqb·suc-zero}
 use lib.ListN.{length, getD, set, length-set}
 use borrow.Author.Tests.{lt-leb}
-use Rattle.isa.specs.Decode.{decodeAt}
 use Rattle.isa.specs.Displacement.{forwardOf}
 use Rattle.isa.specs.ControlFlow.{flowOf}
 use Rattle.isa.specs.declared.Flow.{Flow}
@@ -18,31 +17,30 @@ use Rattle.isa.specs.declared.Source.{Source}
 use Rattle.control.specs.declared.Mode.{Mode}
 use Rattle.control.specs.declared.Mode.the-variants.{Reset, Normal, Interrupt, NmiOverNormal, NmiOverInterrupt}
 use Rattle.control.specs.declared.Control.{Control}
-use Rattle.control.specs.declared.Requested.{Requested}
-use Rattle.control.specs.declared.Requested.the-variants.{Nothing, Taken}
 use Rattle.control.specs.declared.Stop.the-variants as stop
 use Rattle.control.specs.Stack.{Transferred, inUse, isFull, pushOf, popOf}
 use Rattle.control.specs.Transfers.{sleptOf, callOf, returnFromInterruptOf, advanceOf}
-use Rattle.control.specs.Requests.{requestedOf, servingOf, takeOf}
+use Rattle.control.specs.Requests.{servingOf, takeOf}
 use Rattle.data.specs.Space.{programOf}
 use Rattle.data.specs.Effect.{Data, effectOf}
 use Rattle.machine.specs.declared.Machine.{Machine}
 use Rattle.machine.specs.Execute.{executionBy, jumpsOf, executeOf}
 use Rattle.machine.specs.State.{viewOf}
-use Rattle.machine.specs.Step.{Step, doneOf, takenBy, takenOf, completedOf, executedOf, decodedOf, uninterruptedOf}
-use Rattle.machine.specs.Step.{respondOf, enabledOf, advancedOf}
+use Rattle.machine.specs.Actions.{StepAction, executes, decodedAction, enabledOf, dueOf}
+use Rattle.machine.specs.Step.{Step, takenBy, takenOf, completedOf, executedOf, actedOf, advancedOf}
+use Rattle.machine.proofs.Due.{Due, taking, idling, executing, undecoding, is-due}
 use Rattle.certificate.specs.Marks.{kindAt}
 use Rattle.certificate.specs.Rules.{Continues, EndsStartUp, FlowRule, Runs, Rules}
 use Rattle.bench.specs.Calls.{AsksOnly}
 use Rattle.bench.specs.Session.{returnAddresses, StepDone}
-use Rattle.bench.specs.StackEffect.{StackEffect, by-request, by-call, by-ret, none, flowEffect, decodedEffect}
-use Rattle.bench.specs.StackEffect.{unrequestedEffect, respondEffect, stackEffectOf}
+use Rattle.bench.specs.StackEffect.{StackEffect, by-request, by-call, by-ret, flowEffect, actionEffect}
+use Rattle.bench.specs.StackEffect.{stackEffectOf}
 use Rattle.bench.proofs.Stack.{length-inUse, inUse-push, controlAt, pop-is}
 use Rattle.bench.proofs.Marks.{marked}
 use Rattle.bench.proofs.StackFrames.{within-number, has-kind, ret-empty, reti-empty, at-start}
 use Rattle.bench.proofs.Moves as moves
 use Rattle.bench.proofs.Moves.{Moves, frames-kept}
-use Rattle.bench.proofs.Requests.{IfTaken, Allowed, taken-allowed}
+use Rattle.bench.proofs.Requests.{Allowed, taken-allowed}
 use Rattle.bench.proofs.Invariant.{Invariant, MachineInvariant}
 
 -- control and stack go on without a stop, by a move from where they were
@@ -193,33 +191,36 @@ module _ (image certificate : List ℕ) (wired number : ℕ) (ok : Rules image c
         ok .marked (m .control .pc) (marked certificate (m .control .pc) (has-kind (g .frames)))
         .runs (getD (m .bytes) 0xCA 0)
 
-    instruct : Advances certificate wired (decodedEffect (m .control) (decodeAt program (m .control .pc))) m
-        (decodedOf program m (decodeAt program (m .control .pc)))
-    unfolding decodedOf decodedEffect executedOf executeOf
+    -- it obeys its rule
+    abbrev Goes-on : StepAction → Type 0
+    Goes-on a = Advances certificate wired (actionEffect (m .control) a) m (actedOf program m a)
+
+    instruct : Goes-on (executes (runs .instruction) (runs .bytes) (runs .cycles))
+    unfolding actedOf actionEffect executedOf executeOf
     instruct =
         let f = flowOf (runs .instruction) (m .control .pc) in
-        rw (runs .decodes)
-        (completed m (runs .cycles) (flowEffect (m .control) f) (effectOf program (viewOf m) (runs .instruction)) _
+        completed m (runs .cycles) (flowEffect (m .control) f) (effectOf program (viewOf m) (runs .instruction)) _
         (obey (m .stack) (m .control) f (jumpsOf program (viewOf m) f) (forwardOf (m .control .pc) (runs .bytes))
-        (runs .rule) g))
+        (runs .rule) g)
 
-    unrequested : (asleep : Bool)
-        → Advances certificate wired (cond asleep none (decodedEffect (m .control) (decodeAt program (m .control .pc)))) m
-        (cond asleep (doneOf m 0) (decodedOf program m (decodeAt program (m .control .pc))))
-    unrequested true = record { done = record { cycles = 0; answer = refl }; six = g .six; moves = moves.idles }
-    unrequested false = instruct
-
-    respond : (r : Requested) → IfTaken (Allowed certificate wired (m .control .mode)) r
-        → Advances certificate wired (respondEffect program (m .control) r) m (respondOf program m r)
-    unfolding respondOf respondEffect uninterruptedOf unrequestedEffect takenOf
-    respond (Taken source) a =
-        served m (by-request source) (takeOf (m .stack) (m .control) source) (take (m .stack) (m .control) source a g)
-    respond Nothing a = unrequested (m .control .asleep)
+    acts : (request : ℕ) → AsksOnly wired request → (a : StepAction) → Due program m request a → Goes-on a
+    unfolding actedOf actionEffect takenOf
+    acts request asks _ (taking source is) =
+        served m (by-request source) (takeOf (m .stack) (m .control) source)
+        (take (m .stack) (m .control) source
+        (rw is at
+        (taken-allowed image certificate wired number ok (m .control .mode) (enabledOf (m .bytes)) request asks)) g)
+    acts request asks _ (idling nothing asleep) =
+        record { done = record { cycles = 0; answer = refl }; six = g .six; moves = moves.idles }
+    acts request asks a (executing i bytes cycles nothing awake at) =
+        subst Goes-on (ap decodedAction (sym (runs .decodes) ∙ at)) instruct
+    acts request asks _ (undecoding r nothing awake at) =
+        let x = sym at ∙ runs .decodes in
+        let z : _≡_ {A = ℕ} 0 1 = cc in
+        absurd (omega arith)
 
     -- a step whose requests are of wired sources goes on
     pub advances : (request : ℕ) → AsksOnly wired request
         → Advances certificate wired (stackEffectOf image m request) m (advancedOf program m request)
     unfolding advancedOf stackEffectOf
-    advances request asks =
-        respond (requestedOf (m .control .mode) (enabledOf (m .bytes)) request)
-        (taken-allowed image certificate wired number ok (m .control .mode) (enabledOf (m .bytes)) request asks)
+    advances request asks = acts request asks (dueOf program m request) (is-due program m request)

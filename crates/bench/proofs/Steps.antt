@@ -12,7 +12,7 @@ use Rattle.isa.specs.Refusals.{plain, done, unless}
 use Rattle.isa.specs.Sources.{namesOnlySources}
 use Rattle.machine.specs.declared.Machine.{Machine}
 use Rattle.machine.specs.State as state
-use Rattle.machine.specs.Step.{refusedOf, stepOf}
+use Rattle.machine.specs.Step.{refusedOf, actionOf, actedOf, stepOf}
 use Rattle.machine.specs.Run.{Run, refusedRun, continuedOf, stepsOf, requestsFit, runOf}
 use Rattle.machine.proofs.StepByStep.{step-advances}
 use Rattle.certificate.specs.Rules.{Rules}
@@ -45,7 +45,7 @@ module _ (image certificate : List ℕ) (wired number : ℕ) (ok : Rules image c
 
     pub step-refused : (request : ℕ) → namesOnlySources request ≡ false
         → stepOf image m request ≡ refusedOf m (plain 11)
-    unfolding stepOf
+    unfolding stepOf actionOf actedOf
     step-refused request unknown = rw (fits, well-formed image certificate wired number ok m g, unknown)
 
     -- a run without 1 and 2

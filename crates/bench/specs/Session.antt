@@ -26,7 +26,7 @@ unfoldable pub levelsInUse : Machine → ℕ
 levelsInUse m = length (returnAddresses m)
 
 -- a step is refused with a number: "a refused call leaves the machine as it was"
-pub record StepRefused (m : Machine) (number : ℕ) (s : Step) : Type 0 where
+pub record StepRefusedWith (m : Machine) (number : ℕ) (s : Step) : Type 0 where
   pub refusal : s .answer ≡ refused (plain number)
   pub same : s .machine ≡ m
 
@@ -36,7 +36,7 @@ pub record StepDone (s : Step) : Type 0 where
   pub answer : s .answer ≡ done cycles
 
 -- a run is refused with a number: "these report 0 steps, 0 cycles", and the machine is as it was
-pub record RunRefused (m : Machine) (number : ℕ) (r : Run) : Type 0 where
+pub record RunRefusedWith (m : Machine) (number : ℕ) (r : Run) : Type 0 where
   pub refusal : r .report .ending ≡ refused (plain number)
   pub no-steps : r .report .steps ≡ 0
   pub no-cycles : r .report .cycles ≡ 0
@@ -55,7 +55,7 @@ pub record RunDone (image : List ℕ) (number : ℕ) (requests : List ℕ) (m : 
   pub within : (j : ℕ) → j ≤ n → levelsInUse (stepsOf image requests m j .machine) ≤ number
 
 -- a host store is refused with a number, and leaves the machine as it was
-pub record StoreRefused (m : Machine) (number : ℕ) (s : HostStore) : Type 0 where
+pub record StoreRefusedWith (m : Machine) (number : ℕ) (s : HostStore) : Type 0 where
   pub refusal : s .ending ≡ refused (plain number)
   pub same : s .machine ≡ m
 
@@ -66,12 +66,12 @@ pub record StoreDone (s : HostStore) : Type 0 where
 -- "a step is refused only with 11, a run only with 12 or 11, a host store only with 10, and reset never"; else each is
 -- done
 abbrev pub Keeps : (image : List ℕ) → (number : ℕ) → Call → Machine → Type 0
-Keeps image number (step request) m = StepRefused m 11 (stepOf image m request) ⊎ StepDone (stepOf image m request)
+Keeps image number (step request) m = StepRefusedWith m 11 (stepOf image m request) ⊎ StepDone (stepOf image m request)
 Keeps image number (run requests n) m =
-    (RunRefused m 12 (runOf image m requests n) ⊎ RunRefused m 11 (runOf image m requests n))
+    (RunRefusedWith m 12 (runOf image m requests n) ⊎ RunRefusedWith m 11 (runOf image m requests n))
     ⊎ RunDone image number requests m n (runOf image m requests n)
 Keeps image number (store address value) m =
-    StoreRefused m 10 (hostStoreOf m address value) ⊎ StoreDone (hostStoreOf m address value)
+    StoreRefusedWith m 10 (hostStoreOf m address value) ⊎ StoreDone (hostStoreOf m address value)
 Keeps image number reset m = Unit {0}
 
 -- every call of the list keeps the promise, on the machine as the one before left it; "after every call [..] the levels

@@ -3,21 +3,15 @@
 use Prim.Native.Nat.{ℕ}
 use mathlib.Core.Bool.{cond}
 use mathlib.Core.List.{List}
-use Rattle.isa.specs.Refusals.{Answer, done, refused}
-use Rattle.isa.specs.Decode as decode
-use Rattle.isa.specs.Decode.{decodeAt}
 use Rattle.isa.specs.ControlFlow.{flowOf}
 use Rattle.isa.specs.declared.Flow.{Flow}
 use Rattle.isa.specs.declared.Flow.the-variants as flow
 use Rattle.isa.specs.declared.Source.{Source}
 use Rattle.control.specs.declared.Control.{Control}
-use Rattle.control.specs.declared.Requested.{Requested}
-use Rattle.control.specs.declared.Requested.the-variants.{Nothing, Taken}
 use Rattle.control.specs.Transfers.{endsStartUp}
-use Rattle.control.specs.Requests.{requestedOf}
 use Rattle.data.specs.Space.{programOf}
 use Rattle.machine.specs.declared.Machine.{Machine}
-use Rattle.machine.specs.Step.{enabledOf}
+use Rattle.machine.specs.Actions.{StepAction, takes, idles, executes, refuses, dueOf}
 
 -- all that pushes and pops (document 01, "Modes, stack, sleep")
 pub data StackEffect : Type 0 where
@@ -45,22 +39,13 @@ flowEffect c flow.Return = by-ret
 flowEffect c flow.ReturnFromInterrupt = cond (endsStartUp c) by-start-up by-reti
 flowEffect c flow.Sleep = none
 
--- "4 and 5 as in decoding": of what stands at PC
-unfoldable pub decodedEffect : Control → Answer decode.Decoding → StackEffect
-decodedEffect c (done (decode.instruction i bytes cycles)) = flowEffect c (flowOf i (c .pc))
-decodedEffect c (refused r) = none
-
--- "a sleeping step with nothing to take is idle"
-unfoldable pub unrequestedEffect : (image : List ℕ) → Control → StackEffect
-unrequestedEffect image c = cond (c .asleep) none (decodedEffect c (decodeAt image (c .pc)))
-
--- "Taking one [..] is a step by itself"
-unfoldable pub respondEffect : (image : List ℕ) → Control → Requested → StackEffect
-respondEffect image c (Taken source) = by-request source
-respondEffect image c Nothing = unrequestedEffect image c
+-- of what a step is about to do
+unfoldable pub actionEffect : Control → StepAction → StackEffect
+actionEffect c (takes source) = by-request source
+actionEffect c idles = none
+actionEffect c (executes i bytes cycles) = flowEffect c (flowOf i (c .pc))
+actionEffect c (refuses r) = none
 
 -- of a step, where it is not refused and does not stop
 unfoldable pub stackEffectOf : (image : List ℕ) → Machine → (request : ℕ) → StackEffect
-stackEffectOf image m request =
-    respondEffect (programOf image (m .bytes)) (m .control)
-    (requestedOf (m .control .mode) (enabledOf (m .bytes)) request)
+stackEffectOf image m request = actionEffect (m .control) (dueOf (programOf image (m .bytes)) m request)

@@ -11,14 +11,16 @@ use machine::state::reset;
 use machine::step::step;
 ghost use mathlib.Core.Path.{_≡_};
 ghost use Rattle.machine.specs.State.{resetOf, endedOf, hostStoreOf};
-ghost use Rattle.machine.specs.Step.{answerOf, stepOf};
+ghost use Rattle.machine.specs.Actions.{actionAs};
+ghost use Rattle.machine.specs.Step.{answerOf, actionOf, stepOf};
 ghost use Rattle.machine.specs.Run.{reportOf, runOf};
 ghost use Rattle.machine.specs.Operands.{stepReadOf};
 
 pub fn key_step(m: &mut Machine, image: &[u8], request: u8) -> StepReport
     ensures { λ r. ⌜ (record { machine = now (m .exit); answer = answerOf (r .answer) }
         ≡ stepOf (now (image .entry)) (now (m .entry)) request)
-        × (r .read ≡ stepReadOf (now (image .entry)) (now (m .entry)) request) ⌝ }
+        × (r .read ≡ stepReadOf (now (image .entry)) (now (m .entry)) request)
+        × (actionAs (r .action) ≡ actionOf (now (image .entry)) (now (m .entry)) request) ⌝ }
 {
     let after = step(image, *m, request);
     *m = after.machine;

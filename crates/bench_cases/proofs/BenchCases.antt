@@ -12,12 +12,12 @@ use Rattle.control.specs.Transfers.{callOf, advanceOf}
 use Rattle.control.specs.Requests.{requestedOf}
 use Rattle.control.specs.WellFormed.{addressesFit, wellFormed}
 use Rattle.machine.specs.Execute.{executeOf}
-use Rattle.machine.specs.Step.{completedOf, executedOf, decodedOf, uninterruptedOf, respondOf, advancedOf, stepOf}
+use Rattle.machine.specs.Step.{unrequestedAction, dueOf, actionOf, completedOf, executedOf, actedOf, stepOf}
 use Rattle.certificate.proofs.Cases.{check-cases}
 use Rattle.bench_cases.specs.BenchCases.{BenchCases}
 
 pub bench-cases : BenchCases
-unfolding stepOf advancedOf respondOf uninterruptedOf decodedOf executedOf completedOf executeOf wellFormed addressesFit
+unfolding stepOf actionOf dueOf unrequestedAction actedOf executedOf completedOf executeOf wellFormed addressesFit
     requestedOf advanceOf callOf pushOf effectOf storeResultOf operandOf addressOf storeOf readOf flowOf formOf formAs
     cyclesOf bytesOf entryOf decodeAt operandAt romAt spaceOf pageOf fixedOf
 bench-cases = record {

@@ -18,8 +18,8 @@ fn put_played(report: PlayReport) {
     put_ending(ending);
 }
 
-fn put_playing(what: &[u8], image: &[u8], session: &[u8]) {
-    let played = play(image, session);
+fn put_playing(what: &[u8], image: &[u8], recording: &[u8]) {
+    let played = play(image, recording);
     let after = played.machine;
     let answer = played.answer;
     put(what);
@@ -85,15 +85,15 @@ fn put_refused(image: &[u8]) {
 // Version 2 with the least number of bytes that it is for, and with one less.
 // Every byte is 2 at first: the version, and resets.
 fn put_long(image: &[u8]) {
-    let mut session = [2u8; 65540];
-    session[1] = 1;
-    session[2] = 0;
-    session[3] = 0;
-    put_playing(b"version 2, 65536 resets", image, &session);
-    session[1] = 0;
-    session[2] = 0xFF;
-    session[3] = 0xFF;
-    put_playing(b"version 2, 65535 resets", image, &session[..65539]);
+    let mut recording = [2u8; 65540];
+    recording[1] = 1;
+    recording[2] = 0;
+    recording[3] = 0;
+    put_playing(b"version 2, 65536 resets", image, &recording);
+    recording[1] = 0;
+    recording[2] = 0xFF;
+    recording[3] = 0xFF;
+    put_playing(b"version 2, 65535 resets", image, &recording[..65539]);
 }
 
 pub fn put_playings() {

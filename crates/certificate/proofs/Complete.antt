@@ -1,17 +1,14 @@
 -- Where the rules hold, the check accepts.
-use Prim.Native.Nat.{ℕ, zero, suc, _+_, _-_, _≤_, _<_}
-use native.Mathlib.Nat.{add-zero}
+use Prim.Native.Nat.{ℕ, zero, suc, _+_, _≤_, _<_}
 use native.Mathlib.Omega.{arith}
 use mathlib.Core.Path.{_≡_, refl, ap, sym}
-use mathlib.Core.Logic.{_⊎_, inl, inr}
-use mathlib.Core.Bool.{Bool, true, false, cond, or-true}
-use mathlib.Core.List.{List, [], _∷_}
-use lib.Dec.{eqb}
+use mathlib.Core.Bool.{Bool, true, false, cond}
+use mathlib.Core.List.{List}
 use lib.ListN.{length, getD}
 use borrow.Author.Tests.{le-leb, lt-ltb, eq-eqb}
 use Rattle.isa.specs.Rom.{spacesIn, spaceOf}
 use Rattle.isa.specs.Decode.{decodeAt}
-use Rattle.isa.specs.Sources.{isNamed, vectorOf}
+use Rattle.isa.specs.Sources.{isNamed, vectorOf, resetVector}
 use Rattle.isa.specs.Displacement.{forwardOf}
 use Rattle.isa.specs.ControlFlow.{flowOf}
 use Rattle.isa.specs.declared.Source.{Source}
@@ -73,7 +70,7 @@ module _ (image certificate : List ℕ) (wired levels : ℕ) (rules : Rules imag
   unfolding vectorsFound
   vectors-pass =
       rw (
-        vector-passes 0xFFE 1 (rules .start-up),
+        vector-passes resetVector 1 (rules .start-up),
         source-passes Nmi,
         source-passes First,
         source-passes Second,

@@ -1,15 +1,14 @@
 -- Facts that several proofs cite: marks, tests, an image's length.
 use Prim.Native.Nat.{ℕ, zero, suc, _+_, _-_, _≤_, _<_, _/_, _%_}
 use native.Mathlib.Omega.{arith}
-use mathlib.Core.Bool.{Bool, true, false, cond, _&&_, _||_, false≢true}
-use mathlib.Core.Logic.{_⊎_, inl, inr, _≢_}
-use borrow.Author.Tests.{leb-true, le-leb, lt-ltb, eqb-true, eq-eqb, ne-eqb}
+use mathlib.Core.Bool.{Bool, true, false, cond, _&&_}
+use mathlib.Core.Logic.{_≢_}
+use borrow.Author.Tests.{leb-true, le-leb, lt-ltb, eq-eqb, ne-eqb}
 use mathlib.Core.Path.{_≡_, refl, sym}
 use mathlib.Core.List.{List}
 use lib.Dec.{ltb, leb, eqb}
 use lib.ListN.{length, getD}
 use Rattle.isa.specs.Decode as decode
-use Rattle.isa.specs.Rom.{isImage}
 use Rattle.isa.specs.Decode.{Decoding, decodeAt}
 use Rattle.isa.specs.FlowAt as flowAt
 use Rattle.isa.specs.FlowAt.{Continuing, continuationFrom}
@@ -88,11 +87,6 @@ mark-is certificate i fits h =
     let above : 4096 ≤ lowest certificate + i + length certificate = omega arith in
     let back : lowest certificate + i + length certificate - 4096 ≡ i = omega arith in
     rw (lt-ltb _ _ below, le-leb _ _ above, back)
-
--- both tests pass
-pub both-true : (a b : Bool) → (a && b) ≡ true → (a ≡ true) × (b ≡ true)
-both-true true b e = (refl, e)
-both-true false b e = absurd (false≢true e)
 
 -- a certificate's length
 pub at-most-4096 : (n : ℕ) → marksIn n ≤ 4096

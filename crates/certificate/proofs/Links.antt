@@ -1,10 +1,10 @@
 -- An instruction's rule holds exactly when its links do, and its successors pass the check's tests exactly then too.
-use Prim.Native.Nat.{ℕ, _+_, _≤_}
+use Prim.Native.Nat.{ℕ, _≤_}
 use native.Mathlib.Nat.{add-zero}
 use native.Mathlib.Omega.{arith}
 use mathlib.Core.Path.{_≡_, refl}
 use mathlib.Core.Logic.{_⊎_, inl, inr}
-use mathlib.Core.Bool.{Bool, true, false, cond, _||_}
+use mathlib.Core.Bool.{Bool, true, false, cond, _||_, and-eq-true-iff}
 use mathlib.Core.List.{List, [], _∷_}
 use lib.Dec.{eqb}
 use borrow.Author.Tests.{leb-true, le-leb, eqb-true, eq-eqb, ne-eqb}
@@ -18,7 +18,7 @@ use Rattle.certificate.specs.Successors.{placed, continuesAt, successors
 use Rattle.certificate.specs.Successors.{successorsFound}
 use Rattle.certificate.specs.Rules.{Continues, EndsStartUp, FlowRule}
 use Rattle.certificate.specs.Links.{Link, Every, Linked, FlowRuleExactly}
-use Rattle.certificate.proofs.Facts.{both-true, unless-passes}
+use Rattle.certificate.proofs.Facts.{unless-passes}
 
 module _ (certificate : List ℕ) (a : ℕ) where
   link-to : (n kind : ℕ) → kindAt certificate n ≡ kind → needAt certificate n ≤ needAt certificate a
@@ -96,8 +96,8 @@ module _ (certificate : List ℕ) (a : ℕ) where
   unfolding allHaveKind coversAll
   links-of [] k l = tt
   links-of (s ∷ successors) k l =
-      let k₂ = both-true _ _ k in
-      let l₂ = both-true _ _ l in
+      let k₂ = and-eq-true-iff _ _ .0 k in
+      let l₂ = and-eq-true-iff _ _ .0 l in
       (record { kind = eqb-true _ _ (k₂ .0); need = leb-true _ _ (l₂ .0) }, links-of successors (k₂ .1) (l₂ .1))
 
   pub pass-links : (successors : List Successor)

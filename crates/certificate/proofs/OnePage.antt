@@ -2,24 +2,20 @@
 use Prim.Native.Nat.{ℕ, zero, suc}
 use mathlib.Core.Path.{_≡_, refl}
 use mathlib.Core.Bool.{true}
-use mathlib.Core.Logic.{⊎-elim}
 use mathlib.Core.List.{List, [], _∷_}
 use lib.ListN.{length}
 use Rattle.isa.specs.Rom.{isSpace, spacesIn}
-use Rattle.isa.proofs.Halves.{space-length, space-image, space-is-image}
+use Rattle.isa.proofs.Halves.{by-length, space-image, space-is-image}
 use Rattle.certificate.specs.Check.{pagesFound, markFound, marksFound, marksIn, checkOf}
 use Rattle.certificate.specs.Passes.{pageFound}
 use Rattle.certificate.specs.OnePage.{marksUnpaged, checkUnpaged, CheckAsBefore}
 
 module _ (image : List ℕ) (is : isSpace (length image) ≡ true) where
-  by-length : (P : ℕ → Type 0) → P 2048 → P 4096 → P (length image)
-  by-length P small large = ⊎-elim (λ e. rw e small) (λ e. rw e large) (space-length (length image) is)
-
   pub one-space : spacesIn (length image) ≡ 1
-  one-space = by-length (λ n. spacesIn n ≡ 1) refl refl
+  one-space = by-length (λ n. spacesIn n ≡ 1) refl refl (length image) is
 
   pub a-mark-each : marksIn (length image) ≡ length image
-  a-mark-each = by-length (λ n. marksIn n ≡ n) refl refl
+  a-mark-each = by-length (λ n. marksIn n ≡ n) refl refl (length image) is
 
   mark-is : (certificate : List ℕ) (a mark : ℕ) → markFound image certificate 1 a mark ≡ pageFound image certificate a mark
   unfolding markFound pageFound pagesFound

@@ -1,10 +1,10 @@
 -- The check gives the first refusal that applies, and accepts where none does.
-use Prim.Native.Nat.{ℕ, zero, suc, _+_, _-_, _<_}
+use Prim.Native.Nat.{ℕ, zero, suc, _+_, _<_}
 use native.Mathlib.Nat.{add-zero}
 use native.Mathlib.Omega.{arith}
 use mathlib.Core.Path.{_≡_, refl, ap, sym, _∙_}
-use mathlib.Core.Logic.{_⊎_, inl, inr, _≢_, ⊎-elim}
-use mathlib.Core.Bool.{Bool, true, false, cond, _&&_, _||_, false≢true, true≢false}
+use mathlib.Core.Logic.{_⊎_, inl, inr, ⊎-elim}
+use mathlib.Core.Bool.{Bool, true, false, cond, _&&_, _||_, false≢true, true≢false, and-eq-true-iff}
 use mathlib.Core.List.{List, [], _∷_}
 use lib.Dec.{leb, ltb, eqb}
 use lib.ListN.{length, getD}
@@ -15,7 +15,7 @@ use Rattle.isa.specs.Decode.{Decoding, decodeAt}
 use Rattle.isa.specs.Displacement.{forwardOf}
 use Rattle.isa.specs.ControlFlow.{flowOf}
 use Rattle.isa.specs.Refusals.{located, Answer, done, refused, unless}
-use Rattle.isa.specs.Sources.{isNamed, namesOnlySources, vectorOf}
+use Rattle.isa.specs.Sources.{isNamed, namesOnlySources, vectorOf, resetVector}
 use Rattle.isa.specs.declared.Flow.{Flow}
 use Rattle.isa.specs.declared.Flow.the-variants as flow
 use Rattle.isa.specs.declared.Source.{Source}
@@ -33,7 +33,7 @@ use Rattle.certificate.specs.Refusals.{Some, Misplaced, WrongKind, TooSm
 use Rattle.certificate.specs.Refusals.{undefinedOpcode, misplacedReturn, successorKind, needTooSmall}
 use Rattle.certificate.specs.Refusals.{atInstruction, atPages, atMark, atMarks, startUp, atSource, atVectors, imageLength}
 use Rattle.certificate.specs.Refusals.{certificateLength, unknownSource, tooManyLevels, AnswersFirst}
-use Rattle.certificate.proofs.Facts.{well-formed, kind-of, mark-is, both-true, at-most-4096}
+use Rattle.certificate.proofs.Facts.{well-formed, kind-of, mark-is, at-most-4096}
 use Rattle.isa.proofs.Halves.{is-space}
 use Rattle.isa.proofs.AtAddress.{AtAddress, at-address, defined}
 use Rattle.certificate.proofs.Deciding.{Decides, nothing, skip, ask, decides-then, describes}
@@ -75,9 +75,10 @@ one-false false b e = inl refl
 every-right : (test : Successor → Bool) (P : Successor → Type 0) → ((s : Successor) → test s ≡ true → P s → ⊥)
     → (successors : List Successor) → every test successors ≡ true → Some P successors → ⊥
 every-right test P right [] e some = some
-every-right test P right (s ∷ successors) e (inl p) = right s (both-true (test s) (every test successors) e .0) p
+every-right test P right (s ∷ successors) e (inl p) =
+    right s (and-eq-true-iff (test s) (every test successors) .0 e .0) p
 every-right test P right (s ∷ successors) e (inr some) =
-    every-right test P right successors (both-true (test s) (every test successors) e .1) some
+    every-right test P right successors (and-eq-true-iff (test s) (every test successors) .0 e .1) some
 
 every-wrong : (test : Successor → Bool) (P : Successor → Type 0) → ((s : Successor) → test s ≡ false → P s)
     → (successors : List Successor) → every test successors ≡ false → Some P successors
@@ -199,10 +200,10 @@ module _ (certificate : List ℕ) where
       shift i = omega arith
 
   -- 18
-  start-up-decides : Decides (startUp certificate ∷ []) (vectorFound certificate 0xFFE 1)
+  start-up-decides : Decides (startUp certificate ∷ []) (vectorFound certificate resetVector 1)
   unfolding vectorFound
   start-up-decides =
-      ask (startUp certificate) (eqb (kindAt certificate 0xFFE) 1) passes (λ t p. p (eqb-true _ 1 t))
+      ask (startUp certificate) (eqb (kindAt certificate resetVector) 1) passes (λ t p. p (eqb-true _ 1 t))
       (λ t. eqb-false _ 1 t) (λ _. nothing)
 
   source-decides : (wired : ℕ) (s : Source)

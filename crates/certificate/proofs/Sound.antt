@@ -13,13 +13,13 @@ use Rattle.isa.specs.Decode as decode
 use Rattle.isa.specs.Rom.{isImage, spacesIn, spaceOf}
 use Rattle.isa.specs.Decode.{Decoding, decodeAt}
 use Rattle.isa.specs.Refusals.{plain, located, Answer, done, refused}
-use Rattle.isa.specs.Sources.{isNamed, namesOnlySources, vectorOf}
+use Rattle.isa.specs.Sources.{isNamed, namesOnlySources, vectorOf, resetVector}
 use Rattle.isa.specs.Displacement.{forwardOf}
 use Rattle.isa.specs.ControlFlow.{flowOf}
 use Rattle.isa.specs.declared.Flow.{Flow}
 use Rattle.isa.specs.declared.Source.{Source}
 use Rattle.isa.specs.declared.Source.the-variants.{Nmi, First, Second, Third, Fourth}
-use Rattle.certificate.specs.Marks.{markAt, Marked, WellFormed, kindOf, kindAt, needAt, lowest}
+use Rattle.certificate.specs.Marks.{markAt, Marked, kindOf, kindAt, needAt, lowest}
 use Rattle.certificate.specs.Findings.{Found, passes, fault, andThen}
 use Rattle.certificate.specs.Successors.{placed}
 use Rattle.certificate.specs.Vectors.{vectorFound, sourceFound, vectorsFound}
@@ -131,10 +131,10 @@ by-source P n a b c d Third = c
 by-source P n a b c d Fourth = d
 
 vectors-pass : (certificate : List ℕ) (wired : ℕ) → vectorsFound certificate wired ≡ passes
-    → (vectorFound certificate 0xFFE 1 ≡ passes) × ((s : Source) → sourceFound certificate wired s ≡ passes)
+    → (vectorFound certificate resetVector 1 ≡ passes) × ((s : Source) → sourceFound certificate wired s ≡ passes)
 unfolding vectorsFound
 vectors-pass certificate wired e =
-    let r = both-pass (vectorFound certificate 0xFFE 1) _ e in
+    let r = both-pass (vectorFound certificate resetVector 1) _ e in
     let n = both-pass (sourceFound certificate wired Nmi) _ (r .1) in
     let a = both-pass (sourceFound certificate wired First) _ (n .1) in
     let b = both-pass (sourceFound certificate wired Second) _ (a .1) in
@@ -170,7 +170,7 @@ check-sound image certificate wired levels e =
       sources = c₃ .0;
       marked = λ a n. lawful image certificate a (c₁ .0) n
           (mark-passes image certificate (spacesIn (length image)) fits (found .0) a n);
-      start-up = vector-kind certificate 0xFFE 1 (vectors .0);
+      start-up = vector-kind certificate resetVector 1 (vectors .0);
       vectors = λ s w. source-kind certificate wired s (vectors .1 s) w;
       counted = v .1;
       at-most-six = omega (arith, v .1);

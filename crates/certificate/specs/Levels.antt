@@ -2,7 +2,7 @@
 use Prim.Native.Nat.{ℕ, _+_, max}
 use mathlib.Core.Bool.{cond}
 use mathlib.Core.List.{List, [], _∷_}
-use Rattle.isa.specs.Sources.{isNamed, vectorOf}
+use Rattle.isa.specs.Sources.{isNamed, vectorOf, resetVector}
 use Rattle.isa.specs.declared.Source.{Source}
 use Rattle.isa.specs.declared.Source.the-variants.{Nmi, First, Second, Third, Fourth}
 use Rattle.certificate.specs.Marks.{needAt}
@@ -35,4 +35,5 @@ levelsFor certificate wired s = cond (isNamed wired s) (1 + needAt certificate (
 -- "Levels = need at FFEh, plus (1 + greatest need among the wired sources 1 to 4) if any, plus (1 + need at FFCh) if
 -- NMI is wired."
 unfoldable pub levelsOf : List ℕ → (wired : ℕ) → ℕ
-levelsOf certificate wired = needAt certificate 0xFFE + sourceLevels certificate wired + levelsFor certificate wired Nmi
+levelsOf certificate wired =
+    needAt certificate resetVector + sourceLevels certificate wired + levelsFor certificate wired Nmi

@@ -1,5 +1,5 @@
 -- The check's refusals as questions, in document 01's order ("What each operation turns down", "Check").
-use Prim.Native.Nat.{ℕ, zero, suc, _+_, _-_, _<_}
+use Prim.Native.Nat.{ℕ, zero, suc, _+_, _<_}
 use mathlib.Core.Path.{_≡_}
 use mathlib.Core.Logic.{_⊎_, _≢_}
 use mathlib.Core.Bool.{true, false}
@@ -11,7 +11,7 @@ use Rattle.isa.specs.Displacement.{forwardOf}
 use Rattle.isa.specs.ControlFlow.{flowOf}
 use Rattle.isa.specs.Rom.{isImage, spacesIn, spaceOf}
 use Rattle.isa.specs.Refusals.{Numbered, plain, located, Answer, done, refused}
-use Rattle.isa.specs.Sources.{isNamed, namesOnlySources, vectorOf}
+use Rattle.isa.specs.Sources.{isNamed, namesOnlySources, vectorOf, resetVector}
 use Rattle.isa.specs.declared.Flow.{Flow}
 use Rattle.isa.specs.declared.Flow.the-variants as flow
 use Rattle.isa.specs.declared.Source.{Source}
@@ -20,7 +20,7 @@ use Rattle.certificate.specs.declared.successors.Successor.{Successor}
 use Rattle.certificate.specs.Marks.{markAt, Marked, WellFormed, kindAt, needAt, lowest}
 use Rattle.certificate.specs.Successors.{successorsOf}
 use Rattle.certificate.specs.Levels.{levelsOf}
-use Rattle.certificate.specs.Check.{Verdict, accepted, marksIn, checkOf}
+use Rattle.certificate.specs.Check.{Verdict, marksIn, checkOf}
 
 -- a refusal, and what makes it apply
 pub record Question : Type 1 where
@@ -122,7 +122,7 @@ module _ (certificate : List ℕ) where
 
   -- "FFEh has kind 1."
   abbrev pub startUp : Question
-  startUp = asks (located 18 0xFFE) (kindAt certificate 0xFFE ≢ 1)
+  startUp = asks (located 18 resetVector) (kindAt certificate resetVector ≢ 1)
 
   -- "Each wired source's vector has kind 3."
   abbrev pub atSource : (wired : ℕ) → Source → Question

@@ -11,7 +11,7 @@ use Rattle.isa.specs.Decode as decode
 use Rattle.isa.specs.Decode.{decodeAt}
 use Rattle.isa.specs.Displacement.{forwardOf}
 use Rattle.isa.specs.ControlFlow.{flowOf}
-use Rattle.isa.specs.Sources.{isNamed, namesOnlySources, vectorOf}
+use Rattle.isa.specs.Sources.{isNamed, namesOnlySources, vectorOf, resetVector}
 use Rattle.isa.specs.declared.Instruction.{Instruction}
 use Rattle.isa.specs.declared.Flow.{Flow}
 use Rattle.isa.specs.declared.Flow.the-variants as flow
@@ -74,7 +74,7 @@ pub record Rules (image certificate : List ℕ) (wired levels : ℕ) : Type 0 wh
   -- "Every marked address .."
   pub marked : (a : ℕ) → Marked certificate a → Lawful image certificate a
   -- "FFEh has kind 1."
-  pub start-up : kindAt certificate 0xFFE ≡ 1
+  pub start-up : kindAt certificate resetVector ≡ 1
   -- "Each wired source's vector has kind 3."
   pub vectors : (s : Source) → isNamed wired s ≡ true → kindAt certificate (vectorOf s) ≡ 3
   -- "Levels = .."

@@ -4,7 +4,7 @@ use mathlib.Core.Bool.{cond}
 use mathlib.Core.List.{List}
 use lib.Dec.{eqb}
 use Rattle.isa.specs.Refusals.{located, unless}
-use Rattle.isa.specs.Sources.{isNamed, vectorOf}
+use Rattle.isa.specs.Sources.{isNamed, vectorOf, resetVector}
 use Rattle.isa.specs.declared.Source.{Source}
 use Rattle.isa.specs.declared.Source.the-variants.{Nmi, First, Second, Third, Fourth}
 use Rattle.certificate.specs.Findings.{Found, passes, fault, andThen}
@@ -21,7 +21,7 @@ sourceFound certificate wired s = cond (isNamed wired s) (vectorFound certificat
 -- "Then 18 vector kind, FFEh first, then sources upward"
 unfoldable pub vectorsFound : List ℕ → (wired : ℕ) → Found
 vectorsFound certificate wired =
-    andThen (vectorFound certificate 0xFFE 1)
+    andThen (vectorFound certificate resetVector 1)
     (andThen (sourceFound certificate wired Nmi)
     (andThen (sourceFound certificate wired First)
     (andThen (sourceFound certificate wired Second)

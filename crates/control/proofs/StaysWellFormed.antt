@@ -1,7 +1,7 @@
 -- Control and stack stay well formed.
 use Prim.Native.Nat.{ℕ, zero, suc, _+_, _-_, _<_, _≤_}
-use mathlib.Core.Path.{_≡_, refl, sym}
-use mathlib.Core.Bool.{Bool, true, false, cond, _&&_}
+use mathlib.Core.Path.{_≡_, refl}
+use mathlib.Core.Bool.{Bool, true, false, cond, and-eq-true-iff}
 use mathlib.Core.List.{List, [], _∷_}
 use native.Mathlib.Omega.{arith}
 use lib.ListN.{getD, set}
@@ -19,7 +19,7 @@ use Rattle.control.specs.declared.Control.{Control}
 use Rattle.control.specs.declared.Stop.the-variants as stop
 use Rattle.control.specs.Update.{withPc, withLevels, withMode}
 use Rattle.control.specs.Modes.{modeBeneath}
-use Rattle.control.specs.Stack.{Transferred, goesOn, stops, isFull, pushOf, popOf}
+use Rattle.control.specs.Stack.{goesOn, stops, isFull, pushOf, popOf}
 use Rattle.control.specs.Transfers.{
   sleptOf,
   branchOf,
@@ -32,15 +32,11 @@ use Rattle.control.specs.Transfers.{
 use Rattle.control.specs.Requests.{servingOf, takeOf}
 use Rattle.control.specs.WellFormed.{addressesFit, wellFormed, Formed, FormedExactly, FormedAfter, StaysFormed}
 
-both : (a b : Bool) → (a && b) ≡ true → (a ≡ true) × (b ≡ true)
-both true b e = (refl, e)
-both false b e = let z : _≡_ {A = ℕ} 0 1 = cc in absurd (omega arith)
-
 addresses-below : (stack : List ℕ) (n : ℕ) → addressesFit stack n ≡ true → (k : ℕ) → k < n → getD stack k 0 < 0x1000
 unfolding addressesFit
 addresses-below stack zero e k h = absurd (omega arith)
 addresses-below stack (suc n) e k h =
-    let p = both (ltb (getD stack n 0) 0x1000) (addressesFit stack n) e in
+    let p = and-eq-true-iff (ltb (getD stack n 0) 0x1000) (addressesFit stack n) .0 e in
     below-more (λ j. getD stack j 0 < 0x1000) n (addresses-below stack n (p .1))
     (ltb-true (getD stack n 0) 0x1000 (p .0)) k (omega arith)
 
@@ -60,8 +56,8 @@ pub formed-exactly : FormedExactly
 unfolding wellFormed
 formed-exactly = record {
   facts = λ stack c e.
-      let p = both (ltb (c .pc) 0x1000) _ e in
-      let q = both (leb (c .levels) 6) _ (p .1) in
+      let p = and-eq-true-iff (ltb (c .pc) 0x1000) _ .0 e in
+      let q = and-eq-true-iff (leb (c .levels) 6) _ .0 (p .1) in
       record {
         pc = ltb-true (c .pc) 0x1000 (p .0);
         levels = leb-true (c .levels) 6 (q .0);

@@ -1,4 +1,5 @@
 -- Modes (document 01, "Modes, stack, sleep").
+use Prim.Native.Nat.{ℕ}
 use mathlib.Core.Bool.{Bool, true, false}
 use Rattle.control.specs.declared.Mode.{Mode}
 use Rattle.control.specs.declared.Mode.the-variants.{Reset, Normal, Interrupt, NmiOverNormal, NmiOverInterrupt}
@@ -17,3 +18,11 @@ isReset Normal = false
 isReset Interrupt = false
 isReset NmiOverNormal = false
 isReset NmiOverInterrupt = false
+
+-- a mode as a number, by which two are compared, and in a machine's state
+abbrev pub modeNumber : Mode → ℕ
+modeNumber Reset = 0
+modeNumber Normal = 1
+modeNumber Interrupt = 2
+modeNumber NmiOverNormal = 3
+modeNumber NmiOverInterrupt = 4

@@ -1,3 +1,4 @@
 pub mod Window
 pub mod WriteOnly
 pub mod Origins
+pub mod UnderWindow

@@ -12,12 +12,14 @@ use Rattle.isa.specs.Refusals.{plain, Answer, done, refused, unless}
 use Rattle.isa.specs.Rom.{isImage}
 use Rattle.isa.specs.Sources.{namesOnlySources}
 use Rattle.isa.specs.Decode.{decodeAt, decodeIn}
+use Rattle.data.specs.Space.{programOf}
 use Rattle.data.specs.declared.OriginRead.{OriginRead}
 use Rattle.data.specs.declared.OriginRead.the-variants.{Nothing}
 use Rattle.machine.specs.declared.Machine.{Machine}
 use Rattle.machine.specs.State.{isWellFormed}
-use Rattle.machine.specs.Step.{Step, refusedOf, stepOf}
-use Rattle.machine.specs.Operands.{readWith, stepReadOf}
+use Rattle.machine.specs.Actions.{refuses, actionOf}
+use Rattle.machine.specs.Step.{Step, actedOf, stepOf}
+use Rattle.machine.specs.Operands.{readIfDone, stepReadOf}
 use Rattle.certificate.specs.Levels.{levelsOf}
 use Rattle.certificate.specs.Findings.{fault}
 use Rattle.certificate.specs.Check.{marksIn, verdict, checkOf}
@@ -26,7 +28,7 @@ use Rattle.exports.specs.Lent.{Lent, steppedLent, MakeLent}
 
 step-by : (image : List ℕ) (m : Machine) (n : ℕ) (b : Bool) → ltb n 256 ≡ b
     → stepOf image m (cond b n 255) ≡ stepOf image m n
-unfolding stepOf
+unfolding stepOf actionOf
 step-by image m n true e = refl
 step-by image m n false e = rw (le-ltb n 32 (omega (arith, ltb-false n 256 e)))
 
@@ -36,17 +38,20 @@ step-clamped image m n = step-by image m n (ltb n 256) refl
 -- a step that is refused reads none, whatever the request
 module _ (image : List ℕ) (m : Machine) where
   by-refusal :
-      (q : ℕ) (i w : Bool) →
-      readWith image m q
-      (unless i (refusedOf m (plain 1)) (unless w (refusedOf m (plain 2)) (refusedOf m (plain 11))) .answer)
+      (read : OriginRead) (i w : Bool) →
+      readIfDone
+      (actedOf (programOf image (m .bytes)) m
+      (unless i (refuses (plain 1)) (unless w (refuses (plain 2)) (refuses (plain 11)))) .answer)
+      read
       ≡ Nothing
-  by-refusal q true true = refl
-  by-refusal q true false = refl
-  by-refusal q false w = refl
+  unfolding actedOf
+  by-refusal read true true = refl
+  by-refusal read true false = refl
+  by-refusal read false w = refl
 
   none-read : (q : ℕ) → namesOnlySources q ≡ false → stepReadOf image m q ≡ Nothing
-  unfolding stepReadOf stepOf
-  none-read q e = rw e (by-refusal q (isImage (length image)) (isWellFormed m))
+  unfolding stepReadOf stepOf actionOf
+  none-read q e = rw e (by-refusal _ (isImage (length image)) (isWellFormed m))
 
   read-by : (n : ℕ) (b : Bool) → ltb n 256 ≡ b → stepReadOf image m (cond b n 255) ≡ stepReadOf image m n
   read-by n true e = refl

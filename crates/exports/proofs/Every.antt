@@ -3,9 +3,8 @@ use Prim.Native.Nat.{ℕ, zero, suc, _+_, _<_}
 use native.Mathlib.Omega.{arith}
 use native.Mathlib.Numerals.{add-one}
 use mathlib.Core.Path.{_≡_, refl, sym, _∙_}
-use mathlib.Core.Bool.{Bool, true, false}
+use mathlib.Core.Bool.{Bool, true, false, and-eq-true-iff}
 use borrow.Author.Count.{below-more}
-use Rattle.certificate.proofs.Facts.{both-true}
 use Rattle.exports.specs.Every.{every}
 
 module _ (test : ℕ → Bool) where
@@ -23,7 +22,7 @@ module _ (test : ℕ → Bool) where
   unfolding every
   every-holds zero all k h = absurd (omega arith)
   every-holds (suc n) all k h =
-      let p : (test n ≡ true) × (every test n ≡ true) = both-true (test n) (every test n) all in
+      let p : (test n ≡ true) × (every test n ≡ true) = and-eq-true-iff (test n) (every test n) .0 all in
       below-more (λ j. test j ≡ true) n (every-holds n (p .1)) (p .0) k (omega arith)
 
   -- a search that meets a misfit has its answer

@@ -1,7 +1,7 @@
 -- Packing and unpacking undo each other; an answer's parts can be read back.
 use Prim.Native.Nat.{ℕ, zero, suc, _+_, _*_, _/_, _%_, _<_, _≤_}
 use mathlib.Core.Path.{_≡_, refl, sym, ap, _∙_}
-use mathlib.Core.Bool.{Bool, true, false, cond, _&&_}
+use mathlib.Core.Bool.{Bool, true, false, cond, _&&_, and-eq-true-iff}
 use mathlib.Core.List.{List, [], _∷_, _++_, append-assoc}
 use native.Mathlib.Omega.{arith}
 use borrow.Author.Tests.{ltb-true, leb-true, eqb-true}
@@ -15,9 +15,9 @@ use Rattle.data.specs.declared.Origin.the-variants.{Ram, Register, Rom, NoRom}
 use Rattle.data.specs.declared.OriginRead.{OriginRead}
 use Rattle.data.specs.declared.OriginRead.the-variants.{Nothing, From}
 use Rattle.machine.specs.declared.Machine.{Machine}
-use Rattle.certificate.proofs.Facts.{both-true}
 use Rattle.exports.specs.Every.{every}
-use Rattle.exports.specs.States.{isFlag, isValid, lowByte, highByte, flagByte, modeOf, modeNumber, controlAt}
+use Rattle.control.specs.Modes.{modeNumber}
+use Rattle.exports.specs.States.{isFlag, isValid, lowByte, highByte, flagByte, modeOf, controlAt}
 use Rattle.exports.specs.States.{stackAt, pairsAt, machineAt, valid, invalid, unpacked, controlBytes, stackBytes}
 use Rattle.exports.specs.States.{packed}
 use Rattle.exports.specs.Answers.{originNumber, romAddress, originWord}
@@ -91,10 +91,10 @@ valid-facts : (s : List ℕ) → isValid s ≡ true → Valid s
 unfolding isValid
 valid-facts s e =
     let p : (eqb (length s) 280 ≡ true)
-    × (leb (getD s 259 0) 4 && (eqb (getD s 267 0) 0 && every (isFlag s) 7) ≡ true) = both-true _ _ e in
+    × (leb (getD s 259 0) 4 && (eqb (getD s 267 0) 0 && every (isFlag s) 7) ≡ true) = and-eq-true-iff _ _ .0 e in
     let q : (leb (getD s 259 0) 4 ≡ true) × (eqb (getD s 267 0) 0 && every (isFlag s) 7 ≡ true) =
-    both-true _ _ (p .1) in
-    let r : (eqb (getD s 267 0) 0 ≡ true) × (every (isFlag s) 7 ≡ true) = both-true _ _ (q .1) in
+    and-eq-true-iff _ _ .0 (p .1) in
+    let r : (eqb (getD s 267 0) 0 ≡ true) × (every (isFlag s) 7 ≡ true) = and-eq-true-iff _ _ .0 (q .1) in
     record {
       mode = leb-true (getD s 259 0) 4 (q .0);
       nought = eqb-true (getD s 267 0) 0 (r .0);

@@ -1,7 +1,7 @@
 -- States in and out: what `pack` and the exported functions need of lists.
 use Prim.Native.Nat.{ℕ, _≤_}
 use mathlib.Core.Path.{_≡_, refl, _∙_}
-use mathlib.Core.Bool.{true}
+use mathlib.Core.Bool.{true, and-eq-true-iff}
 use mathlib.Core.List.{List, [], _++_, append-nil}
 use native.Mathlib.Omega.{arith}
 use native.Mathlib.Nat.{le-refl}
@@ -10,12 +10,11 @@ use lib.ListN.{length, drop, length-append, length-drop, drop-of-length-le}
 use lib.Seq.{paste, take-all, take-at, drop-append-add}
 use Rattle.control.specs.declared.Control.{Control}
 use Rattle.machine.specs.declared.FlagPairs.{FlagPairs}
-use Rattle.certificate.proofs.Facts.{both-true}
 use Rattle.exports.specs.States.{isValid, controlBytes, stackBytes}
 
 pub valid-length : (s : List ℕ) → isValid s ≡ true → length s ≡ 280
 unfolding isValid
-valid-length s e = eqb-true (length s) 280 (both-true _ _ e .0)
+valid-length s e = eqb-true (length s) 280 (and-eq-true-iff _ _ .0 e .0)
 
 -- a part pasted in where what stands before it ends
 paste-next :

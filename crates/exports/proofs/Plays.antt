@@ -9,6 +9,7 @@ use lib.Dec.{leb, eqb}
 use lib.ListN.{length, drop}
 use Rattle.isa.specs.Refusals.{Numbered, plain, located, Answer, Ended, done, refused, unless}
 use Rattle.isa.specs.RoundTrip.{Bytes}
+use Rattle.machine.specs.declared.Machine.{Machine}
 use Rattle.playback.specs.declared.Entry.{Entry}
 use Rattle.playback.specs.Play.{Playing, playOf}
 use Rattle.playback.specs.Refusals.{HeaderRefused, PlayRefused}
@@ -35,9 +36,9 @@ apart number (entry.stop _ is) =
 apart _ entry.store = record { least = omega arith; most = omega arith; not-9 = λ e. omega (arith, e) }
 apart _ entry.step = record { least = omega arith; most = omega arith; not-9 = λ e. omega (arith, e) }
 
-module _ (image session s before : List ℕ) where
+module _ (image recording s before : List ℕ) where
   abbrev Left : LentRun → Type 0
-  Left = PlayLeaves image session s before
+  Left = PlayLeaves image recording s before
 
   -- both buffers are left
   left :
@@ -56,7 +57,7 @@ module _ (image session s before : List ℕ) where
   above number least most =
       left number (omega (arith, least)) (omega (arith, most)) (λ is. omega (arith, apart number is .most, least))
 
-  by-header : (n : Numbered) → HeaderRefused session n → Left (lentRun (refusalWord n) s before)
+  by-header : (n : Numbered) → HeaderRefused recording n → Left (lentRun (refusalWord n) s before)
   by-header _ (why.under-three _) = above 28 (omega arith) (omega arith)
   by-header _ (why.other-version _ _ _) = above 27 (omega arith) (omega arith)
   by-header _ (why.wrong-count _ _ _) = above 28 (omega arith) (omega arith)
@@ -65,32 +66,32 @@ module _ (image session s before : List ℕ) where
   by-header _ (why.too-few _ _ _) = above 28 (omega arith) (omega arith)
   by-header _ (why.too-many _ _ _) = above 30 (omega arith) (omega arith)
 
-  refusing : (n : Numbered) → PlayRefused image session n → Left (lentRun (refusalWord n) s before)
+  refusing : (n : Numbered) → PlayRefused image recording n → Left (lentRun (refusalWord n) s before)
   refusing _ (why.image-length _) = left 1 (omega arith) (omega arith) (λ is. omega (arith, apart 1 is .least))
   refusing _ (why.header n _ which) = by-header n which
   refusing _ (why.no-entries _ _ _ _) = above 29 (omega arith) (omega arith)
 
   -- how a playing ended is 0 or an entry's number
   numbered :
-      (entries : List Entry) (n : ℕ) (ending : Ended) → EndsOrStops entries n ending →
+      (m : Machine) (entries : List Entry) (n : ℕ) (ending : Ended) → EndsOrStops m entries n ending →
       (numberOf (endedWord ending) ≡ 0) ⊎ EntryNumber (numberOf (endedWord ending))
-  numbered entries _ _ (ends.safely _ _ ends.all-played) = inl refl
-  numbered entries _ _ (ends.safely _ _ (ends.step-refused _ _ _)) = inr entry.step
-  numbered entries _ _ (ends.safely _ _ (ends.store-refused _ _ _ _)) = inr entry.store
-  numbered entries _ _ (ends.step-stops _ _ reason _ stop) =
-      let number = numberOf (refusalWord (located (stop .number) (stop .address))) in
-      let least : 4 ≤ number = omega (arith, stop .least, stop .most) in
-      let most : number ≤ 7 = omega (arith, stop .most) in
+  numbered m entries _ _ (ends.safely _ _ ends.all-played) = inl refl
+  numbered m entries _ _ (ends.safely _ _ (ends.step-refused _ _ _)) = inr entry.step
+  numbered m entries _ _ (ends.safely _ _ (ends.store-refused _ _ _ _)) = inr entry.store
+  numbered m entries _ _ (ends.step-stops _ _ reason _ stop) =
+      let number = numberOf (refusalWord (located (stop .number) (m .control .pc))) in
+      let least : 4 ≤ number = omega (arith, stop .stops .least, stop .stops .most) in
+      let most : number ≤ 7 = omega (arith, stop .stops .most) in
       rw (stop .is) (inr (entry.stop number (record { least = least; most = most })))
 
-  module _ (p : Playing) (plays : playOf image session ≡ done p) where
+  module _ (p : Playing) (plays : playOf image recording ≡ done p) where
     abbrev played : LentRun
     played =
         lentRun (endedWord (p .ending)) (packed (p .machine)) (reportBytes (p .entries) (p .cycles) ++ drop 8 before)
 
     kept : (numberOf (played .answer) ≡ 0) ⊎ EntryNumber (numberOf (played .answer)) → Left played
     kept by =
-        let is : KeepsPlayed image session before played =
+        let is : KeepsPlayed image recording before played =
         record { playing = p; plays = plays; state = refl; report = refl } in
         record { refused = λ nonzero none. absurd (neither by nonzero none); whole = λ _. is; ended = λ _. is }
       where
@@ -109,17 +110,17 @@ module _ (image session s before : List ℕ) where
     with-room true false k = left 9 (omega arith) (omega arith) (λ is. apart 9 is .not-9 refl)
     with-room true true k = k
 
-  by-answer : Bytes image → (a : Answer Playing) → playOf image session ≡ a → Left (playedLent s before a)
+  by-answer : Bytes image → (a : Answer Playing) → playOf image recording ≡ a → Left (playedLent s before a)
   unfolding playedLent
-  by-answer all (refused n) plays = refusing n (play-refusals .only image session n plays)
+  by-answer all (refused n) plays = refusing n (play-refusals .only image recording n plays)
   by-answer all (done p) plays =
-      let has = has-entries image session p plays in
-      let ending = ends-by-entry image all session (has .entries) (has .reads) p plays in
+      let has = has-entries image recording p plays in
+      let ending = ends-by-entry image all recording (has .entries) (has .reads) p plays in
       with-room p plays (eqb (length s) 280) (leb 8 (length before))
-      (kept p plays (numbered (has .entries) (p .entries) (p .ending) ending))
+      (kept p plays (numbered (p .machine) (has .entries) (p .entries) (p .ending) ending))
 
 pub play-leaves :
-    (image session s report : List ℕ) → Bytes image →
-    PlayLeaves image session s report (playLent image session s report)
+    (image recording s report : List ℕ) → Bytes image →
+    PlayLeaves image recording s report (playLent image recording s report)
 unfolding playLent
-play-leaves image session s report all = by-answer image session s report all (playOf image session) refl
+play-leaves image recording s report all = by-answer image recording s report all (playOf image recording) refl

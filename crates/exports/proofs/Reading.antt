@@ -1,7 +1,7 @@
 -- Fields are read as the one instruction whose row they are.
 use Prim.Native.Nat.{ℕ, _<_, _≤_}
 use mathlib.Core.Path.{_≡_, refl, sym, _∙_}
-use mathlib.Core.Bool.{Bool, true, false, cond, _&&_}
+use mathlib.Core.Bool.{Bool, true, false, cond, _&&_, and-eq-true-iff}
 use mathlib.Core.List.{List, _++_}
 use native.Mathlib.Omega.{arith}
 use borrow.Author.Tests.{ltb-true, leb-true, eqb-true, eq-eqb, le-leb}
@@ -17,8 +17,7 @@ use Rattle.isa.specs.declared.Operand.the-variants.{Direct, Short, ThroughX, Th
 use Rattle.isa.specs.declared.Instruction.{Instruction}
 use Rattle.isa.specs.declared.Instruction.the-variants as I
 use Rattle.isa.proofs.Finite.{eqZ, atSigned, eqZ→eq}
-use Rattle.exports.specs.declared.fields.Reading.the-variants.{Is, Unreadable}
-use Rattle.certificate.proofs.Facts.{both-true}
+use Rattle.exports.specs.declared.fields.InstructionRead.the-variants.{Is, Unreadable}
 use Rattle.exports.specs.Every.{every}
 use Rattle.exports.specs.Fields.{
   operandRow,
@@ -168,6 +167,6 @@ fields-invert = record {
       let p : (leb 7 (length s) && every (agree s (packedInstruction (instructionAt s))) 7 ≡ true)
       × (instructionAt s ≡ i) = is-read _ _ _ e in
       let q : (leb 7 (length s) ≡ true) × (every (agree s (packedInstruction (instructionAt s))) 7 ≡ true) =
-      both-true _ _ (p .0) in
+      and-eq-true-iff _ _ .0 (p .0) in
       row-read s i (leb-true 7 (length s) (q .0)) (rw (p .1) at (q .1));
 }

@@ -24,8 +24,8 @@ use Rattle.maker.specs.Make.{Makes}
 use Rattle.jobs.specs.CheckJob.{jobOf}
 use Rattle.jobs.specs.Line.{lineOf}
 use Rattle.jobs.specs.Answer.{fits}
-use Rattle.exports.specs.declared.fields.Reading.{Reading}
-use Rattle.exports.specs.declared.fields.Reading.the-variants.{Is, Unreadable}
+use Rattle.exports.specs.declared.fields.InstructionRead.{InstructionRead}
+use Rattle.exports.specs.declared.fields.InstructionRead.the-variants.{Is, Unreadable}
 use Rattle.exports.specs.Answers.{word, refusalWord, answerWord, stepWord}
 use Rattle.exports.specs.States.{Unpacked, valid, invalid, unpacked, packed}
 use Rattle.exports.specs.Fields.{unpackedInstruction}
@@ -61,7 +61,7 @@ module _ (out : List ℕ) where
   written e (done n) is k = absurd (k (done-number n))
   written e (refused r) is k = write-effects .untouched e out r is
 
-  read : (r : Reading) → Leaves out (writeBy out r)
+  read : (r : InstructionRead) → Leaves out (writeBy out r)
   read (Is i) k = written (encodeOf i) (outcome (encodeOf i) (length out)) refl k
   read Unreadable k = refl
 

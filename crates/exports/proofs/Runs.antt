@@ -1,5 +1,5 @@
 -- Steps and runs that are refused or stop, and what they leave.
-use Prim.Native.Nat.{ℕ, zero, suc, _≤_}
+use Prim.Native.Nat.{ℕ, zero, suc, _<_}
 use mathlib.Core.Path.{_≡_, refl, ap}
 use mathlib.Core.Bool.{Bool, true, false, cond, not, _&&_}
 use mathlib.Core.List.{List, _++_}
@@ -9,36 +9,24 @@ use lib.ListN.{length, getD, drop}
 use Rattle.isa.specs.Refusals.{Numbered, plain, located, Answer, Ended, done, refused, unless}
 use Rattle.isa.specs.RoundTrip.{Bytes}
 use Rattle.isa.specs.Rom.{isImage}
-use Rattle.isa.proofs.Halves.{is-space}
-use Rattle.data.specs.Space.{programOf}
 use Rattle.machine.specs.declared.Machine.{Machine}
 use Rattle.machine.specs.State.{isWellFormed}
 use Rattle.machine.specs.Step.{Step, stepOf}
-use Rattle.machine.specs.Step as step
 use Rattle.machine.specs.Run.{Run, joinedBy, continuedBy, refusedRun, stepsOf, requestsFit, runOf}
-use Rattle.machine.specs.Laws.{Does, stops, takes, idles, executes, StopsOnly}
-use Rattle.machine.proofs.StepDoes.{step-does, Tested, refuses, passes, step-tested}
+use Rattle.machine.specs.Laws.{StopNumber, StopsOnly}
+use Rattle.machine.proofs.Refusals.{step-refusals}
 use Rattle.machine.proofs.Laws.{run-ends-by-stop}
 use Rattle.exports.specs.Answers.{word, refusalWord, endedWord, isRefusedRun}
 use Rattle.exports.specs.States.{Unpacked, valid, invalid, unpacked, packed}
 use Rattle.exports.specs.Lent.{LentRun, lentRun, reportBytes, ranLent, runBy, runLent}
-use Rattle.exports.specs.Laws.{RefusedRuns, numberOf, StopNumber, KeepsSteps, RunLeaves}
+use Rattle.exports.specs.Laws.{RefusedRuns, numberOf, RunLeaves}
 
 -- a step that is refused or stops keeps the machine
 module _ (image : List ℕ) (m : Machine) (request : ℕ) where
-  does-keep : (t : Step) → Does (programOf image (m .bytes)) m request t → (r : Numbered) → t .answer ≡ refused r → t .machine ≡ m
-  does-keep t (stops n is) r e = refl
-  does-keep t (takes source asked room) r e = let z : _≡_ {A = ℕ} 0 1 = cc in absurd (omega arith)
-  does-keep t (idles none asleep) r e = let z : _≡_ {A = ℕ} 0 1 = cc in absurd (omega arith)
-  does-keep t (executes i bytes cycles none awake at room) r e = let z : _≡_ {A = ℕ} 0 1 = cc in absurd (omega arith)
-
-  tested-keep : (t : Step) → Tested image m request t → (r : Numbered) → t .answer ≡ refused r → t .machine ≡ m
-  tested-keep t (refuses n why) r e = refl
-  tested-keep t (passes size formed sources) r e = does-keep t
-      (step-does (programOf image (m .bytes)) m request (is-space image (getD (m .bytes) 0xCA 0) size) formed) r e
-
   pub step-keeps : (r : Numbered) → stepOf image m request .answer ≡ refused r → stepOf image m request .machine ≡ m
-  step-keeps = tested-keep (stepOf image m request) (step-tested image m request)
+  step-keeps r e =
+      ap (λ (s : Step). s .machine)
+      (step-refusals .given image m request r (step-refusals .only image m request r e))
 
 -- a run is refused, with none of a stop's numbers, or it is its steps
 data RunTested (image : List ℕ) (m : Machine) (requests : List ℕ) (n : ℕ) : Bool → Run → Type 0 where
@@ -71,23 +59,25 @@ module _ (image : List ℕ) (m : Machine) (requests : List ℕ) (n : ℕ) where
       by-tests true size true formed true true fit = run-passes size formed fit
 
 -- a stop has an address
-not-refused : (e : Ended) → StopsOnly e → isRefusedRun e ≡ false
-not-refused (done tt) s = refl
-not-refused (refused r) s = rw (s .is)
+not-refused : (n : Machine) (e : Ended) → StopsOnly n e → isRefusedRun e ≡ false
+not-refused n (done tt) s = refl
+not-refused n (refused r) s = rw (s .is)
 
 module _ (image : List ℕ) (all : Bytes image) (m : Machine) (requests : List ℕ) (n : ℕ) where
   refused-exactly : (b : Bool) (r : Run) → RunTested image m requests n b r → isRefusedRun (r .report .ending) ≡ not b
   refused-exactly _ _ (run-refuses number apart) = refl
   refused-exactly _ _ (run-passes size formed fit) =
-      not-refused (stepsOf image requests m n .report .ending) (run-ends-by-stop image all size requests n fit m formed)
+      not-refused (stepsOf image requests m n .machine) (stepsOf image requests m n .report .ending)
+      (run-ends-by-stop image all size requests n fit m formed)
 
 pub refused-runs : RefusedRuns
 refused-runs image all m requests n = refused-exactly image all m requests n _ _ (run-tested image m requests n)
 
 module _ (image requests : List ℕ) (m : Machine) where
   -- a run that stopped after so many steps: it is those steps, and how it ended is the answer of the step after them
-  record Stopped (r : Run) : Type 0 where
+  record Stopped (n : ℕ) (r : Run) : Type 0 where
     pub steps : ℕ
+    pub fewer : steps < n
     pub completed : stepsOf image requests m steps .report .ending ≡ done tt
     pub counted : stepsOf image requests m steps .report .steps ≡ steps
     pub machine : r .machine ≡ stepsOf image requests m steps .machine
@@ -100,14 +90,25 @@ module _ (image requests : List ℕ) (m : Machine) where
   -- a run of n steps: all are completed, or it stopped
   abbrev Ends : (n : ℕ) → Run → Ended → Type 0
   Ends n r (done tt) = r .report .steps ≡ n
-  Ends n r (refused x) = Stopped r
+  Ends n r (refused x) = Stopped n r
 
   one-more :
       (n : ℕ) (e : Ended) → stepsOf image requests m n .report .ending ≡ e → Ends n (stepsOf image requests m n) e →
       Ends (suc n) (continuedBy image (stepsOf image requests m n) (getD requests n 0) e)
       (continuedBy image (stepsOf image requests m n) (getD requests n 0) e .report .ending)
   unfolding stepsOf
-  one-more n (refused x) is k = rw is k
+  one-more n (refused x) is k = rw is (record {
+    steps = k .steps;
+    fewer = omega (arith, k .fewer);
+    completed = k .completed;
+    counted = k .counted;
+    machine = k .machine;
+    reported = k .reported;
+    cycles = k .cycles;
+    number = k .number;
+    ended = k .ended;
+    stop = k .stop;
+  })
   one-more n (done tt) is k = by-answer (next .answer) refl
     where
       before : Run
@@ -123,6 +124,7 @@ module _ (image requests : List ℕ) (m : Machine) where
       by-answer (refused r) e =
           record {
             steps = n;
+            fewer = omega arith;
             completed = is;
             counted = k;
             machine = step-keeps image (before .machine) (getD requests n 0) r e;
@@ -138,9 +140,9 @@ module _ (image requests : List ℕ) (m : Machine) where
   steps-end zero = refl
   steps-end (suc n) = one-more n (stepsOf image requests m n .report .ending) refl (steps-end n)
 
-module _ (image s requests before : List ℕ) where
+module _ (image s requests : List ℕ) (n : ℕ) (before : List ℕ) where
   abbrev Left : LentRun → Type 0
-  Left = RunLeaves image s requests before
+  Left = RunLeaves image s requests n before
 
   left : (answer : ℕ) → (StopNumber (numberOf answer) → ⊥) → Left (lentRun answer s before)
   left answer apart = record { refused = λ some none. (refl, refl); stopped = λ is. absurd (apart is) }
@@ -156,19 +158,21 @@ module _ (image s requests before : List ℕ) where
     -- a stop of a run
     after-stop :
         (r : Run) (number address : ℕ) → r .report .ending ≡ refused (located number address) →
-        4 ≤ number → number ≤ 7 → Stopped image requests m r →
+        StopNumber number → Stopped image requests m n r →
         Left
         (lentRun (refusalWord (located number address)) (packed (r .machine))
         (reportBytes (r .report .steps) (r .report .cycles) ++ drop 8 before))
-    after-stop r number address ended least most k =
+    after-stop r number address ended is k =
         let same : k .number ≡ located number address = cc (k .ended) in
         record {
-          refused = λ some none. absurd (none (record { least = omega arith; most = omega arith }));
-          stopped = λ is.
+          refused = λ some none.
+              absurd (none (record { least = omega (arith, is .least); most = omega (arith, is .most) }));
+          stopped = λ told.
               record {
                 machine = m;
                 unpacks = u;
                 steps = k .steps;
+                fewer = k .fewer;
                 completed = k .completed;
                 counted = k .counted;
                 state = ap packed (k .machine);
@@ -178,24 +182,24 @@ module _ (image s requests before : List ℕ) where
         }
 
     by-ending :
-        (n : ℕ) (r : Run) (e : Ended) → r .report .ending ≡ e → StopsOnly e → Ends image requests m n r e
+        (r : Run) (e : Ended) → r .report .ending ≡ e → StopsOnly (r .machine) e → Ends image requests m n r e
         → Left (ranLent s before r)
     unfolding ranLent
-    by-ending n r (done tt) is only k = rw is (with-room (leb 8 (length before)) _ (all-done _ _))
-    by-ending n r (refused x) is only k =
-        let stopped = after-stop r (only .number) (only .address) (rw (only .is) at is) (only .least) (only .most) k in
+    by-ending r (done tt) is only k = rw is (with-room (leb 8 (length before)) _ (all-done _ _))
+    by-ending r (refused x) is only k =
+        let stopped = after-stop r (only .number) (r .machine .control .pc) (rw (only .is) at is) (only .stops) k in
         rw (is, only .is) (with-room (leb 8 (length before)) _ stopped)
 
-    by-test : Bytes image → (n : ℕ) (b : Bool) (r : Run) → RunTested image m requests n b r → Left (ranLent s before r)
+    by-test : Bytes image → (b : Bool) (r : Run) → RunTested image m requests n b r → Left (ranLent s before r)
     unfolding ranLent
-    by-test all n _ _ (run-refuses number apart) = left (word number 0 0) apart
-    by-test all n _ _ (run-passes size formed fit) =
-        by-ending n (stepsOf image requests m n) (stepsOf image requests m n .report .ending) refl
+    by-test all _ _ (run-refuses number apart) = left (word number 0 0) apart
+    by-test all _ _ (run-passes size formed fit) =
+        by-ending (stepsOf image requests m n) (stepsOf image requests m n .report .ending) refl
         (run-ends-by-stop image all size requests n fit m formed) (steps-end image requests m n)
 
-  by-state : Bytes image → (n : ℕ) (u : Unpacked) → unpacked s ≡ u → Left (runBy image s requests n before u)
-  by-state all n (valid m) e = by-test m e all n _ _ (run-tested image m requests n)
-  by-state all n invalid e = by-image (isImage (length image))
+  by-state : Bytes image → (u : Unpacked) → unpacked s ≡ u → Left (runBy image s requests n before u)
+  by-state all (valid m) e = by-test m e all _ _ (run-tested image m requests n)
+  by-state all invalid e = by-image (isImage (length image))
     where
       by-image : (b : Bool) → Left (lentRun (refusalWord (cond b (plain 2) (plain 1))) s before)
       by-image true = left (refusalWord (plain 2)) (λ is. omega arith)
@@ -203,6 +207,6 @@ module _ (image s requests before : List ℕ) where
 
 pub run-leaves :
     (image s requests report : List ℕ) → Bytes image → (n : ℕ)
-    → RunLeaves image s requests report (runLent image s requests n report)
+    → RunLeaves image s requests n report (runLent image s requests n report)
 unfolding runLent
-run-leaves image s requests report all n = by-state image s requests report all n (unpacked s) refl
+run-leaves image s requests report all n = by-state image s requests n report all (unpacked s) refl

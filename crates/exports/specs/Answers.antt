@@ -22,7 +22,7 @@ abbrev pub refusalWord : Numbered → ℕ
 refusalWord (plain n) = word n 0 0
 refusalWord (located n a) = word n a 0
 
--- step and run on an invalid state: 2, after 1
+-- step, run and reading on an invalid state: 2, after 1
 abbrev pub invalidWord : (image : List ℕ) → ℕ
 invalidWord image = refusalWord (cond (isImage (length image)) (plain 2) (plain 1))
 

@@ -13,8 +13,8 @@ use Rattle.isa.specs.declared.Instruction.{Instruction}
 use Rattle.isa.specs.declared.Instruction.the-variants as I
 use Rattle.exports.specs.Every.{every}
 use Rattle.exports.specs.States.{lowByte, highByte}
-use Rattle.exports.specs.declared.fields.Reading.{Reading}
-use Rattle.exports.specs.declared.fields.Reading.the-variants.{Is, Unreadable}
+use Rattle.exports.specs.declared.fields.InstructionRead.{InstructionRead}
+use Rattle.exports.specs.declared.fields.InstructionRead.the-variants.{Is, Unreadable}
 
 abbrev pub rowOf : (form kind low high second bit displacement : ℕ) → List ℕ
 rowOf form kind low high second bit displacement = form ∷ kind ∷ low ∷ high ∷ second ∷ bit ∷ displacement ∷ []
@@ -111,6 +111,6 @@ agree s t k = eqb (getD s k 0) (getD t k 0)
 
 -- Fields are an instruction's where they are exactly its row: there are seven, the form and the kind exist, and a field
 -- that the form does not use is 0.
-unfoldable pub unpackedInstruction : List ℕ → Reading
+unfoldable pub unpackedInstruction : List ℕ → InstructionRead
 unpackedInstruction s =
     cond (leb 7 (length s) && every (agree s (packedInstruction (instructionAt s))) 7) (Is (instructionAt s)) Unreadable

@@ -1,6 +1,6 @@
 -- What callers may rely on: packing and unpacking undo each other, an answer's parts can be read back, and a refusal
 -- leaves what was lent.
-use Prim.Native.Nat.{ℕ, _≤_, _<_, _/_, _%_}
+use Prim.Native.Nat.{ℕ, _<_, _/_, _%_}
 use mathlib.Core.Path.{_≡_}
 use mathlib.Core.Logic.{_≢_}
 use mathlib.Core.Bool.{true, not, _&&_}
@@ -18,13 +18,14 @@ use Rattle.machine.specs.declared.Machine.{Machine}
 use Rattle.machine.specs.State.{isWellFormed}
 use Rattle.machine.specs.Step.{stepOf}
 use Rattle.machine.specs.Run.{stepsOf, requestsFit, runOf}
+use Rattle.machine.specs.Laws.{StopNumber}
 use Rattle.data.specs.declared.OriginRead.{OriginRead}
 use Rattle.gauge.specs.Sleep.{sizeAs}
 use Rattle.playback.specs.Play.{Playing, playOf}
 use Rattle.exports.specs.Answers.{word, answerWord, originNumber, romAddress, originWord, sizeWord, isRefusedRun}
 use Rattle.exports.specs.States.{valid, unpacked, packed}
 use Rattle.exports.specs.Fields.{packedInstruction, unpackedInstruction}
-use Rattle.exports.specs.declared.fields.Reading.the-variants.{Is}
+use Rattle.exports.specs.declared.fields.InstructionRead.the-variants.{Is}
 use Rattle.exports.specs.Lent.{
   Lent,
   LentRun,
@@ -128,17 +129,14 @@ numberOf answer = answer % 0x100
 abbrev pub Leaves : List ℕ → Lent → Type 0
 Leaves before l = numberOf (l .answer) ≢ 0 → l .buffer ≡ before
 
--- "A stop is a step's 4, 5, 6 or 7"
-pub record StopNumber (number : ℕ) : Type 0 where
-  pub least : 4 ≤ number
-  pub most : number ≤ 7
-
 -- "A stop in a run keeps the steps before it": state and report are those of the steps completed, and the answer is
 -- that of the step after them, which stops
-pub record KeepsSteps (image s requests before : List ℕ) (l : LentRun) : Type 0 where
+pub record KeepsSteps (image s requests : List ℕ) (n : ℕ) (before : List ℕ) (l : LentRun) : Type 0 where
   pub machine : Machine
   pub unpacks : unpacked s ≡ valid machine
   pub steps : ℕ
+  -- "It ends early"
+  pub fewer : steps < n
   pub completed : stepsOf image requests machine steps .report .ending ≡ done tt
   pub counted : stepsOf image requests machine steps .report .steps ≡ steps
   pub state : l .state ≡ packed (stepsOf image requests machine steps .machine)
@@ -149,10 +147,10 @@ pub record KeepsSteps (image s requests before : List ℕ) (l : LentRun) : Type 
 
 -- a refused run, 1, 2, 12 or 11, and one without room for its report, 9, leave state and report; a stop, 4 to 7, keeps
 -- the steps before it
-pub record RunLeaves (image s requests before : List ℕ) (l : LentRun) : Type 0 where
+pub record RunLeaves (image s requests : List ℕ) (n : ℕ) (before : List ℕ) (l : LentRun) : Type 0 where
   pub refused : numberOf (l .answer) ≢ 0 → (StopNumber (numberOf (l .answer)) → ⊥)
       → (l .state ≡ s) × (l .report ≡ before)
-  pub stopped : StopNumber (numberOf (l .answer)) → KeepsSteps image s requests before l
+  pub stopped : StopNumber (numberOf (l .answer)) → KeepsSteps image s requests n before l
 
 -- W-206: the numbers of an entry that ends a playing, 4 to 7, 10 and 11; the playing's own and the buffers' are 1, 2, 9
 -- and 27 to 30
@@ -162,19 +160,19 @@ pub data EntryNumber : (number : ℕ) → Type 0 where
   step : EntryNumber 11
 
 -- the record was played: state and report are the machine, the entries and the cycles answered
-pub record KeepsPlayed (image session before : List ℕ) (l : LentRun) : Type 0 where
+pub record KeepsPlayed (image recording before : List ℕ) (l : LentRun) : Type 0 where
   pub playing : Playing
-  pub plays : playOf image session ≡ done playing
+  pub plays : playOf image recording ≡ done playing
   pub state : l .state ≡ packed (playing .machine)
   pub report : l .report ≡ reportBytes (playing .entries) (playing .cycles) ++ drop 8 before
 
 -- a record that is not played, 1 and 27 to 30, a state of another length, 2, and a short report, 9, leave state and
 -- report; a whole record, 0, and one that an entry ended leave what was played
-pub record PlayLeaves (image session s before : List ℕ) (l : LentRun) : Type 0 where
+pub record PlayLeaves (image recording s before : List ℕ) (l : LentRun) : Type 0 where
   pub refused :
       numberOf (l .answer) ≢ 0 → (EntryNumber (numberOf (l .answer)) → ⊥) → (l .state ≡ s) × (l .report ≡ before)
-  pub whole : numberOf (l .answer) ≡ 0 → KeepsPlayed image session before l
-  pub ended : EntryNumber (numberOf (l .answer)) → KeepsPlayed image session before l
+  pub whole : numberOf (l .answer) ≡ 0 → KeepsPlayed image recording before l
+  pub ended : EntryNumber (numberOf (l .answer)) → KeepsPlayed image recording before l
 
 -- "A refusal is a number, and leaves buffers and machine untouched", of every function that is lent a buffer. A job's
 -- own refusals, 20 to 22 and the check's, are lines that are written; what is refused is a buffer too short for the
@@ -188,10 +186,10 @@ pub record RefusalsLeave : Type 0 where
   pub by-step : (image s : List ℕ) → Bytes s → (request : ℕ) → Leaves s (stepLent image s request)
   pub by-run :
       (image s requests report : List ℕ) → Bytes image → (n : ℕ) →
-      RunLeaves image s requests report (runLent image s requests n report)
+      RunLeaves image s requests n report (runLent image s requests n report)
   pub by-play :
-      (image session s report : List ℕ) → Bytes image →
-      PlayLeaves image session s report (playLent image session s report)
+      (image recording s report : List ℕ) → Bytes image →
+      PlayLeaves image recording s report (playLent image recording s report)
   pub by-job : (job line : List ℕ) → Leaves line (jobLent job line)
   pub by-make :
       (image : List ℕ) (wired : ℕ) (out : List ℕ) (l : Lent) → MakeLent image wired out l → Leaves out l

@@ -25,8 +25,8 @@ use Rattle.exports.specs.Answers.{word, refusalWord, invalidWord, answer
 use Rattle.exports.specs.Answers.{endedWord, isRefusedRun}
 use Rattle.exports.specs.States.{Unpacked, valid, invalid, unpacked, packed}
 use Rattle.exports.specs.Fields.{decodedRow, unpackedInstruction}
-use Rattle.exports.specs.declared.fields.Reading.{Reading}
-use Rattle.exports.specs.declared.fields.Reading.the-variants.{Is, Unreadable}
+use Rattle.exports.specs.declared.fields.InstructionRead.{InstructionRead}
+use Rattle.exports.specs.declared.fields.InstructionRead.the-variants.{Is, Unreadable}
 
 -- an answer, and the buffer after it
 pub record Lent : Type 0 where
@@ -117,8 +117,8 @@ playedLent s report (done p) =
     (reportBytes (p .entries) (p .cycles) ++ drop 8 report)))
 playedLent s report (refused n) = lentRun (refusalWord n) s report
 
-unfoldable pub playLent : (image session s report : List ℕ) → LentRun
-playLent image session s report = playedLent s report (playOf image session)
+unfoldable pub playLent : (image recording s report : List ℕ) → LentRun
+playLent image recording s report = playedLent s report (playOf image recording)
 
 -- decoding's own refusals come first, then 9
 unfoldable pub decodedLent : List ℕ → Answer decode.Decoding → Lent
@@ -133,7 +133,7 @@ decodeLent image address bank out =
     cond (leb bank 255) (decodedLent out (decodeIn image bank address)) (lent (refusalWord (plain 8)) out)
 
 -- fields that are no instruction's are refused with 8
-abbrev pub writeBy : List ℕ → Reading → Lent
+abbrev pub writeBy : List ℕ → InstructionRead → Lent
 writeBy out (Is i) = lent (answerWord (outcome (encodeOf i) (length out))) (bufferAfter (encodeOf i) out)
 writeBy out Unreadable = lent (refusalWord (plain 8)) out
 

@@ -9,6 +9,7 @@ use Rattle.alu.specs.declared.Flags.{Flags}
 use Rattle.control.specs.declared.Mode.{Mode}
 use Rattle.control.specs.declared.Mode.the-variants.{Reset, Normal, Interrupt, NmiOverNormal, NmiOverInterrupt}
 use Rattle.control.specs.declared.Control.{Control}
+use Rattle.control.specs.Modes.{modeNumber}
 use Rattle.machine.specs.declared.FlagPairs.{FlagPairs}
 use Rattle.machine.specs.declared.Machine.{Machine}
 use Rattle.machine.specs.State.{machineOf}
@@ -60,13 +61,6 @@ pub data Unpacked : Type 0 where
 
 unfoldable pub unpacked : List ℕ → Unpacked
 unpacked s = cond (isValid s) (valid (machineAt s)) invalid
-
-abbrev pub modeNumber : Mode → ℕ
-modeNumber Reset = 0
-modeNumber Normal = 1
-modeNumber Interrupt = 2
-modeNumber NmiOverNormal = 3
-modeNumber NmiOverInterrupt = 4
 
 abbrev pub flagByte : Bool → ℕ
 flagByte is = cond is 1 0

@@ -28,7 +28,7 @@ ghost use Rattle.exports.specs.Fields.{
 };
 
 // The instruction of a row, or that the row is no instruction's.
-pub enum Reading {
+pub enum InstructionRead {
     Is(Instruction),
     Unreadable,
 }
@@ -220,18 +220,18 @@ fn begins_with(fields: &[u8], own: &[u8; 10]) -> bool
 
 // Reads an instruction. A row that is not exactly that of its instruction, as one with a byte in a field that the form
 // does not use, is no instruction's.
-pub fn read(fields: &[u8]) -> Reading
+pub fn read(fields: &[u8]) -> InstructionRead
     ensures { λ r. ⌜ r ≡ unpackedInstruction (now (fields .entry)) ⌝ }
 {
     if fields.len() < 7 {
-        return Reading::Unreadable;
+        return InstructionRead::Unreadable;
     }
     let i = candidate(fields);
     let mut own = [0u8; 10];
     put_row(&mut own, i, 0, 0);
     if begins_with(fields, &own) {
-        Reading::Is(i)
+        InstructionRead::Is(i)
     } else {
-        Reading::Unreadable
+        InstructionRead::Unreadable
     }
 }

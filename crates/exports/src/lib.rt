@@ -22,7 +22,7 @@ use certificate::check::check;
 use clamp::clamp_address;
 use clamp::clamp_byte;
 use copying::put;
-use fields::Reading;
+use fields::InstructionRead;
 use fields::put_row;
 use fields::read;
 use gauge::width::width;
@@ -94,8 +94,8 @@ pub extern "C" fn st62_write(fields: &[u8], out: &mut [u8]) -> u64
     ensures { λ r. ⌜ lent r (now (out .exit)) ≡ writeLent (now (fields .entry)) (now (out .entry)) ⌝ }
 {
     match read(fields) {
-        Reading::Is(instruction) => write_word(write(instruction, out)),
-        Reading::Unreadable => refused(Refusal::OperandRange),
+        InstructionRead::Is(instruction) => write_word(write(instruction, out)),
+        InstructionRead::Unreadable => refused(Refusal::OperandRange),
     }
 }
 
@@ -206,14 +206,14 @@ pub extern "C" fn st62_run(
 #[no_mangle]
 pub extern "C" fn st62_play(
     image: &[u8],
-    session: &[u8],
+    recording: &[u8],
     state: &mut [u8],
     report: &mut [u8],
 ) -> u64
     ensures { λ r. ⌜ lentRun r (now (state .exit)) (now (report .exit))
-        ≡ playLent (now (image .entry)) (now (session .entry)) (now (state .entry)) (now (report .entry)) ⌝ }
+        ≡ playLent (now (image .entry)) (now (recording .entry)) (now (state .entry)) (now (report .entry)) ⌝ }
 {
-    let played = play(image, session);
+    let played = play(image, recording);
     let m = played.machine;
     let answer = played.answer;
     match answer {

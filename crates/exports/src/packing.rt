@@ -2,27 +2,15 @@
 use crate::copying::put;
 use alu::Flags;
 use control::Control;
-use control::Mode;
+use control::modes::mode_number;
 use machine::FlagPairs;
 use machine::Machine;
 ghost use mathlib.Core.Path.{_≡_};
 ghost use Prim.Native.Nat.{_<_, _/_, _%_};
 ghost use lib.ListN.{length};
 ghost use Rattle.machine.specs.State.{machineOf};
-ghost use Rattle.exports.specs.States.{modeNumber, flagByte, lowByte, highByte, controlBytes, stackBytes, packed};
+ghost use Rattle.exports.specs.States.{flagByte, lowByte, highByte, controlBytes, stackBytes, packed};
 ghost use Rattle.exports.specs.Lent.{reportBytes};
-
-fn mode_number(mode: Mode) -> u8
-    ensures { λ r. ⌜ r ≡ modeNumber mode ⌝ }
-{
-    match mode {
-        Mode::Reset => 0,
-        Mode::Normal => 1,
-        Mode::Interrupt => 2,
-        Mode::NmiOverNormal => 3,
-        Mode::NmiOverInterrupt => 4,
-    }
-}
 
 fn flag(is: bool) -> u8
     ensures { λ r. ⌜ r ≡ flagByte is ⌝ }

@@ -25,12 +25,12 @@ use Rattle.certificate.specs.Marks
 use Rattle.certificate.specs.Successors
 use Rattle.certificate.specs.Levels
 use Rattle.certificate.specs.Vectors.{vectorsFound, sourceFound, vectorFound}
+use Rattle.certificate.specs.Cases.{blank}
 use Rattle.certificate.specs.Check.{checkOf, marksFound, markFound, pagesFound, decodedFound, flowFound}
 use Rattle.gauge.specs.Sleep.{machineAfter, AwakeAfter, AsleepAfter, Ready}
 use Rattle.gauge.specs.Width.{startOf}
 use Rattle.gauge.specs.Outcomes.{Accepted, NotChecked, Measured, NeverSlept}
 use Rattle.gauge.specs.Cases.{
-  blank,
   copyingImage,
   copyingCertificate,
   endlessImage,
@@ -67,8 +67,9 @@ record Copies (count : ℕ) : Type 0 where
   low : getD (machineAfter copyingImage (startOf count) 4 .bytes) 0x85 0 ≡ count
 
 copies : (count : ℕ) → Copies count
-unfolding startOf hostStoreOf resetOf freshOf stepsOf Step.stepOf Step.advancedOf Step.respondOf Step.uninterruptedOf
-    Step.decodedOf Step.executedOf Step.completedOf executeOf Effect.effectOf Effect.storeResultOf Space.operandOf
+unfolding startOf hostStoreOf resetOf freshOf stepsOf Step.stepOf Step.actionOf Step.dueOf
+    Step.unrequestedAction Step.actedOf Step.executedOf Step.completedOf executeOf Effect.effectOf
+    Effect.storeResultOf Space.operandOf
     Space.addressOf Space.readOf Space.storeOf WellFormed.addressesFit WellFormed.wellFormed Requests.requestedOf
     Transfers.advanceOf Transfers.sleptOf Map.entryOf Table.bytesOf Table.cyclesOf Map.formAs Map.formOf Rom.romAt
     Rom.spaceOf Rom.pageOf Rom.fixedOf Rom.operandAt Decode.decodeAt ControlFlow.flowOf
@@ -97,8 +98,9 @@ copied count =
 
 -- a step of the other program leaves the machine as it was
 stays : (count : ℕ) → stepOf endlessImage (startOf count) 0 .machine ≡ startOf count
-unfolding startOf hostStoreOf Space.storeOf resetOf freshOf Step.stepOf Step.advancedOf Step.respondOf Step.uninterruptedOf
-    Step.decodedOf Step.executedOf Step.completedOf executeOf Effect.effectOf WellFormed.addressesFit
+unfolding startOf hostStoreOf Space.storeOf resetOf freshOf Step.stepOf Step.actionOf Step.dueOf
+    Step.unrequestedAction Step.actedOf Step.executedOf Step.completedOf executeOf Effect.effectOf
+    WellFormed.addressesFit
     WellFormed.wellFormed Requests.requestedOf Transfers.advanceOf Map.entryOf Table.bytesOf Table.cyclesOf Map.formAs
     Map.formOf Rom.romAt Rom.spaceOf Rom.pageOf Rom.fixedOf Rom.operandAt Decode.decodeAt ControlFlow.flowOf
 stays count = refl

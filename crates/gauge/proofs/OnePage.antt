@@ -1,16 +1,14 @@
 -- The gauge answers what it answered, of every image.
-use Prim.Native.Nat.{ℕ, zero, suc, _≤_}
-use native.Mathlib.Omega.{arith}
+use Prim.Native.Nat.{ℕ, zero, suc}
 use mathlib.Core.Path.{_≡_, refl, sym, ap, _∙_}
-use mathlib.Core.Bool.{Bool, true, false, cond}
-use mathlib.Core.Logic.{⊎-elim}
+use mathlib.Core.Bool.{Bool, true, false, cond, true≢false}
 use mathlib.Core.List.{List, []}
 use borrow.Author.Tests.{le-leb, leb-true}
 use lib.Dec.{leb}
 use lib.ListN.{length}
 use Rattle.isa.specs.Refusals.{plain, Answer, done, refused}
 use Rattle.isa.specs.Rom.{isSpace, isImage}
-use Rattle.isa.proofs.Halves.{space-length, image-space}
+use Rattle.isa.proofs.Halves.{space-most, image-space}
 use Rattle.machine.specs.declared.Machine.{Machine}
 use Rattle.machine.specs.Run.{Run}
 use Rattle.machine.specs.OnePage.{stepsUnpaged}
@@ -43,10 +41,7 @@ module _ (image certificate : List ℕ) (count : ℕ) where
   unpaged : isSpace (length image) ≡ true → widthOf image certificate count ≡ widthUnpaged image certificate count
   unfolding widthOf
   unpaged is =
-      let small : length image ≤ 4096 =
-      ⊎-elim (λ (e : length image ≡ 2048). omega arith) (λ (e : length image ≡ 4096). omega arith)
-      (space-length (length image) is) in
-      rw (le-leb (length image) 4096 small, check-as-before image is certificate 0)
+      rw (le-leb (length image) 4096 (space-most (length image) is), check-as-before image is certificate 0)
       (by-verdict is (checkUnpaged image certificate 0))
 
   -- any other length is refused by both
@@ -57,9 +52,7 @@ module _ (image certificate : List ℕ) (count : ℕ) where
       by-size : (b : Bool) → leb (length image) 4096 ≡ b → (is : Bool) → isImage (length image) ≡ is
           → widthBy image count (unpagedCheck image certificate) ≡ refused (plain 23)
       by-size true e true f =
-          let space : isSpace (length image) ≡ true = image-space (length image) (leb-true (length image) 4096 e) f in
-          let z : true ≡ false = sym space ∙ not in
-          let y : _≡_ {A = ℕ} 0 1 = cc in absurd (omega arith)
+          absurd (true≢false (sym (image-space (length image) (leb-true (length image) 4096 e) f) ∙ not))
       by-size true e false f = rw (e, f)
       by-size false e is f = rw e
 

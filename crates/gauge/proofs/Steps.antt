@@ -18,11 +18,11 @@ use Rattle.machine.specs.Refusals as why
 use Rattle.machine.specs.Laws.{IsStop}
 use Rattle.machine.proofs.Refusals.{step-refusals, run-refusals}
 use Rattle.machine.proofs.StepDoes.{stops-numbered}
-use Rattle.bench.specs.Session.{StepRefused, StepDone}
+use Rattle.bench.specs.Session.{StepRefusedWith, StepDone}
 
 -- demand 3's promise of a step without requests
 abbrev pub StepKept : (image : List ℕ) → Machine → Type 0
-StepKept image m = StepRefused m 11 (stepOf image m 0) ⊎ StepDone (stepOf image m 0)
+StepKept image m = StepRefusedWith m 11 (stepOf image m 0) ⊎ StepDone (stepOf image m 0)
 
 -- a step that is refused with 1 or 2 is neither done nor refused with 11
 neither : (image : List ℕ) (m : Machine) (n : ℕ) → n ≤ 2 → why.StepRefused image m 0 (plain n) → StepKept image m → ⊥
@@ -61,8 +61,9 @@ is-done image m (inl r) =
     by-reason _ e (why.ill-formed i w) = let y : _≡_ {A = ℕ} 2 11 = cc in omega arith
     by-reason _ e (why.unknown-source i w names) = false≢true (sym names)
     by-reason n e (why.stops _ i w names stop) =
-        let s : IsStop n = stops-numbered (programOf image (m .bytes)) m 0 (is-space image (getD (m .bytes) 0xCA 0) i) w n stop in
-        let x : plain 11 ≡ located (s .number) (s .address) = sym e ∙ s .is in
+        let s : IsStop m n =
+        stops-numbered (programOf image (m .bytes)) m 0 (is-space image (getD (m .bytes) 0xCA 0) i) w n stop in
+        let x : plain 11 ≡ located (s .number) (m .control .pc) = sym e ∙ s .is in
         let y : _≡_ {A = ℕ} 0 1 = cc in
         omega arith
 

@@ -3,15 +3,10 @@
 use Prim.Native.Nat.{ℕ}
 use mathlib.Core.Path.{_≡_}
 use mathlib.Core.List.{List, [], _∷_}
-use lib.ListN.{replicate}
 use Rattle.isa.specs.Refusals.{plain, done, refused}
-use Rattle.certificate.specs.Cases.{put}
+use Rattle.certificate.specs.Cases.{blank, put}
 use Rattle.gauge.specs.Sleep.{sizeAs}
 use Rattle.gauge.specs.Width.{widthOf}
-
--- a 2K image or certificate of 00h
-abbrev pub blank : List ℕ
-blank = replicate 2048 0x00
 
 -- FFEh JP 880h; 880h LD A,0C0h; 882h LD 085h,A; 884h STOP; 885h JP 884h
 abbrev pub copyingImage : List ℕ

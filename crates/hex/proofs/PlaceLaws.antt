@@ -3,7 +3,7 @@ use Prim.Native.Nat.{ℕ, suc, _+_, _*_, _≤_, _<_}
 use native.Mathlib.Omega.{arith}
 use native.Mathlib.Numerals.{add-one}
 use mathlib.Core.Path.{_≡_, sym, _∙_}
-use mathlib.Core.Bool.{Bool, true, false, _&&_}
+use mathlib.Core.Bool.{true, false, and-eq-true-iff}
 use mathlib.Core.List.{List}
 use lib.Dec.{leb, ltb}
 use lib.ListN.{length, drop, getD, set, length-take, length-drop, drop-of-length-le}
@@ -13,10 +13,6 @@ use Rattle.hex.specs.declared.Fault.the-variants.{OutsideImage, Differin
 use Rattle.hex.specs.Digits.{byteAt, bytesOf}
 use Rattle.hex.specs.Place.{faulty, goes, agrees, dataOf, isInside, placed}
 use Rattle.hex.proofs.DigitLaws.{pairs}
-
-second : (a b : Bool) → (a && b) ≡ true → b ≡ true
-second true b e = e
-second false b e = absurd (let z : _≡_ {A = ℕ} 0 1 = cc in omega arith)
 
 -- the data of a record as long as its count says
 pub data-length :
@@ -89,4 +85,4 @@ turns-end first address memory digits count k whole end =
 
 -- an address inside is one of program space
 pub inside-below : (first address : ℕ) → isInside first address ≡ true → address < 4096
-inside-below first address e = ltb-true address 4096 (second (leb first address) (ltb address 4096) e)
+inside-below first address e = ltb-true address 4096 (and-eq-true-iff (leb first address) (ltb address 4096) .0 e .1)

@@ -3,24 +3,22 @@ use Prim.Native.Nat.{ℕ, suc, _+_, _-_, _≤_, _<_}
 use native.Mathlib.Omega.{arith}
 use native.Mathlib.Numerals.{add-one}
 use mathlib.Core.Path.{_≡_, refl, sym, ap, _∙_}
-use mathlib.Core.Bool.{Bool, true, false, _||_}
+use mathlib.Core.Bool.{Bool, true, false}
 use mathlib.Core.List.{List, [], _∷_}
-use lib.Dec.{eqb}
 use lib.ListN.{length, take, drop}
-use borrow.Author.Tests.{eqb-true}
 use Rattle.isa.specs.Rom.{isSpace}
 use Rattle.hex.specs.declared.Fault.{Fault}
 use Rattle.hex.specs.declared.Fault.the-variants.{NoEnd}
 use Rattle.hex.specs.declared.HexAnswer.the-variants.{Read, Refused, ImageLength}
-use Rattle.hex.specs.declared.lines.Reading.{Reading}
-use Rattle.hex.specs.declared.lines.Reading.the-variants as reading
+use Rattle.hex.specs.declared.lines.LinesRead.{LinesRead}
+use Rattle.hex.specs.declared.lines.LinesRead.the-variants as reading
 use Rattle.hex.specs.declared.place.Taken.{Taken}
 use Rattle.hex.specs.declared.place.Taken.the-variants.{On, Faulty}
-use Rattle.hex.specs.Place.{goes, faulty, blank}
+use Rattle.hex.specs.Place.{goes, faulty, noneNamed}
 use Rattle.hex.specs.Take.{afterLine, stepOf}
 use Rattle.hex.specs.Lines.{linesOf, lineSize, contentOf, withoutLast}
 use Rattle.hex.specs.Image.{filled, lowestIn}
-use Rattle.hex.specs.Read.{Reads, whole, refusedAt, thenNext, afterLines, firstOf, outcomeOf, readingOf}
+use Rattle.hex.specs.Read.{Reads, whole, refusedAt, thenNext, afterLines, firstOf, outcomeOf, linesReadOf}
 use Rattle.hex.proofs.LineLaws.{first-line, size-within, to-end}
 
 -- the first line and the lines after it
@@ -99,16 +97,6 @@ text-breaks first number memory (c ∷ rest) h = absurd (omega arith)
 pub number-next : (number left rest text : ℕ) → left < rest → number + rest ≤ text + 1 → number + 1 + left ≤ text + 1
 number-next number left rest text h k = omega arith
 
--- an image is within program space
-within-by : (a b n : ℕ) → a ≤ 4096 → b ≤ 4096 → (s t : Bool) → (s ≡ true → n ≡ a) → (t ≡ true → n ≡ b)
-    → (s || t) ≡ true → n ≤ 4096
-within-by a b n x y true t f g e = omega (arith, f refl)
-within-by a b n x y false t f g e = omega (arith, g e)
-
-pub image-within : (n : ℕ) → isSpace n ≡ true → n ≤ 4096
-image-within n e =
-    within-by 2048 4096 n (omega arith) (omega arith) (eqb n 2048) (eqb n 4096) (eqb-true n 2048) (eqb-true n 4096) e
-
 -- the answers of a reading
 module _ (text : List ℕ) (fill : ℕ) (lent : List ℕ) where
   pub reads-nothing : isSpace (length lent) ≡ false → Reads text fill lent lent ImageLength
@@ -116,9 +104,9 @@ module _ (text : List ℕ) (fill : ℕ) (lent : List ℕ) where
   reads-nothing e = record { answer = rw e; image = rw e }
 
   module _
-      (is : isSpace (length lent) ≡ true) (answer : Reading) (memory : List ℕ)
-      (read : readingOf answer memory ≡ afterLines (firstOf (length lent)) false 1 blank (linesOf text)) where
-    outcome : outcomeOf text (length lent) ≡ readingOf answer memory
+      (is : isSpace (length lent) ≡ true) (answer : LinesRead) (memory : List ℕ)
+      (read : linesReadOf answer memory ≡ afterLines (firstOf (length lent)) false 1 noneNamed (linesOf text)) where
+    outcome : outcomeOf text (length lent) ≡ linesReadOf answer memory
     unfolding outcomeOf
     outcome = rw is (sym read)
 
@@ -127,7 +115,7 @@ module _ (text : List ℕ) (fill : ℕ) (lent : List ℕ) where
         → Reads text fill lent lent (Refused line fault)
     reads-refused line fault e =
         let all : outcomeOf text (length lent) ≡ refusedAt line fault = outcome ∙ ap
-        (λ (r : Reading). readingOf r memory) e in
+        (λ (r : LinesRead). linesReadOf r memory) e in
         record { answer = rw all; image = rw all }
 
     pub reads-whole :
@@ -135,5 +123,6 @@ module _ (text : List ℕ) (fill : ℕ) (lent : List ℕ) where
         → after ≡ filled fill memory (firstOf (length lent)) (length lent) → lowest ≡ lowestIn memory
         → Reads text fill lent after (Read lowest)
     reads-whole e after lowest f l =
-        let all : outcomeOf text (length lent) ≡ whole memory = outcome ∙ ap (λ (r : Reading). readingOf r memory) e in
+        let all : outcomeOf text (length lent)
+        ≡ whole memory = outcome ∙ ap (λ (r : LinesRead). linesReadOf r memory) e in
         record { answer = rw (all, l); image = rw all f }

@@ -1,42 +1,35 @@
 -- An image of either length, written as HEX, is read as that image.
-use Prim.Native.Nat.{ℕ, zero, suc, _+_, _-_, _*_, _/_, _<_}
+use Prim.Native.Nat.{ℕ, zero, suc, _+_, _*_, _/_, _<_}
 use native.Mathlib.Omega.{arith}
 use native.Mathlib.Nat.{add-zero}
 use mathlib.Core.Path.{_≡_, refl, sym, ap, _∙_}
-use mathlib.Core.Bool.{Bool, true, false, _||_}
+use mathlib.Core.Bool.{true}
 use mathlib.Core.List.{List, _++_}
-use lib.Dec.{eqb}
 use lib.ListN.{length, getD, replicate, length-replicate, getD-replicate, replicate-append-replicate, List·getD-append}
 use lib.Seq.{getD-append-add, ext-getD}
-use borrow.Author.Tests.{eqb-true, lt-ltb}
+use borrow.Author.Tests.{lt-ltb}
 use Rattle.isa.specs.Rom.{isSpace}
 use Rattle.isa.specs.RoundTrip.{Bytes}
+use Rattle.isa.proofs.Halves.{by-length, space-most}
 use Rattle.hex.specs.Image.{filled, lowestFrom, lowestIn, valueOf}
-use Rattle.hex.specs.Place.{blank}
+use Rattle.hex.specs.Place.{noneNamed}
 use Rattle.hex.specs.Read.{whole, firstOf, outcomeOf, imageAfter}
 use Rattle.hex.specs.Write.{hexOf, WrittenIsRead}
 use Rattle.hex.proofs.ImageLaws.{filled-length, filled-at, named-here}
-use Rattle.hex.proofs.ReadLaws.{image-within}
 use Rattle.hex.proofs.WrittenRows.{rows-read, unnamed}
 
 -- an image is whole rows of 16 bytes, and not empty
-rows-by :
-    (n : ℕ) (s t : Bool) → (s ≡ true → n ≡ 2048) → (t ≡ true → n ≡ 4096) → (s || t) ≡ true
-    → (n ≡ n / 16 * 16) × (0 < n)
-rows-by n true t f g e = let is = f refl in (omega (arith, is), omega (arith, is))
-rows-by n false t f g e = let is = g e in (omega (arith, is), omega (arith, is))
-
 rows-of : (n : ℕ) → isSpace n ≡ true → (n ≡ n / 16 * 16) × (0 < n)
-rows-of n e = rows-by n (eqb n 2048) (eqb n 4096) (eqb-true n 2048) (eqb-true n 4096) e
+rows-of = by-length (λ n. (n ≡ n / 16 * 16) × (0 < n)) (refl, omega arith) (refl, omega arith)
 
 -- cells that are not named
 unnamed-length : (n : ℕ) → length (unnamed n) ≡ n
 unnamed-length n = length-replicate {A = ℕ} n 256
 
 -- the memory before the first row: nothing below the image's first address, nothing from there on
-blank-split : (below size : ℕ) → below + size ≡ 4096 → blank ≡ unnamed below ++ unnamed size
-unfolding blank
-blank-split below size e =
+none-named-split : (below size : ℕ) → below + size ≡ 4096 → noneNamed ≡ unnamed below ++ unnamed size
+unfolding noneNamed
+none-named-split below size e =
     sym (replicate-append-replicate below size 256 ∙ ap (λ (n : ℕ). replicate n 256) e)
 
 -- cells that are not named are passed over
@@ -58,7 +51,7 @@ pass-over memory (suc k) a n h =
 
 module _ (image : List ℕ) (bytes : Bytes image) (is : isSpace (length image) ≡ true) where
   below : firstOf (length image) + length image ≡ 4096
-  below = omega (arith, image-within (length image) is)
+  below = omega (arith, space-most (length image) is)
 
   -- what the rows leave
   memory : List ℕ
@@ -71,7 +64,7 @@ module _ (image : List ℕ) (bytes : Bytes image) (is : isSpace (length image) �
       let all =
       rows-read (length image / 16) (firstOf (length image)) 1 (unnamed (firstOf (length image))) image bytes
       (rows-of (length image) is .0) (omega arith) (omega (arith, below)) in
-      rw (is, blank-split (firstOf (length image)) (length image) below) (rw front at all)
+      rw (is, none-named-split (firstOf (length image)) (length image) below) (rw front at all)
 
   at-image : (j : ℕ) → getD memory (firstOf (length image) + j) 0 ≡ getD image j 0
   unfolding memory

@@ -15,8 +15,8 @@ pub data Step : Type 0 where
   faulty : Fault → Step
 
 -- a memory of which nothing is named
-unfoldable pub blank : List ℕ
-blank = replicate 4096 256
+unfoldable pub noneNamed : List ℕ
+noneNamed = replicate 4096 256
 
 -- the address of a record stands after the count, its high byte first
 abbrev pub addressOf : (bytes : List ℕ) → ℕ

@@ -10,9 +10,9 @@ use Rattle.hex.specs.declared.Fault.{Fault}
 use Rattle.hex.specs.declared.Fault.the-variants.{NoEnd}
 use Rattle.hex.specs.declared.HexAnswer.{HexAnswer}
 use Rattle.hex.specs.declared.HexAnswer.the-variants as answer
-use Rattle.hex.specs.declared.lines.Reading.{Reading}
-use Rattle.hex.specs.declared.lines.Reading.the-variants as reading
-use Rattle.hex.specs.Place.{Step, goes, faulty, blank}
+use Rattle.hex.specs.declared.lines.LinesRead.{LinesRead}
+use Rattle.hex.specs.declared.lines.LinesRead.the-variants as reading
+use Rattle.hex.specs.Place.{Step, goes, faulty, noneNamed}
 use Rattle.hex.specs.Take.{afterLine}
 use Rattle.hex.specs.Lines.{linesOf, contentOf}
 use Rattle.hex.specs.Image.{filled, lowestIn}
@@ -44,7 +44,7 @@ firstOf size = 4096 - size
 -- a text read for an image of so many bytes
 unfoldable pub outcomeOf : (text : List ℕ) → (size : ℕ) → Outcome
 outcomeOf text size =
-    unless (isSpace size) noImage (afterLines (firstOf size) false 1 blank (linesOf text))
+    unless (isSpace size) noImage (afterLines (firstOf size) false 1 noneNamed (linesOf text))
 
 -- the answer to it
 abbrev pub answerOf : Outcome → HexAnswer
@@ -64,6 +64,6 @@ pub record Reads (text : List ℕ) (fill : ℕ) (lent after : List ℕ) (r : Hex
   pub image : after ≡ imageAfter fill lent (outcomeOf text (length lent))
 
 -- the program's answer to all lines, with the memory that they leave
-abbrev pub readingOf : Reading → (memory : List ℕ) → Outcome
-readingOf reading.Whole memory = whole memory
-readingOf (reading.Refused line fault) memory = refusedAt line fault
+abbrev pub linesReadOf : LinesRead → (memory : List ℕ) → Outcome
+linesReadOf reading.Whole memory = whole memory
+linesReadOf (reading.Refused line fault) memory = refusedAt line fault

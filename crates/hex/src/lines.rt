@@ -5,10 +5,10 @@ use crate::take::take_line;
 ghost use mathlib.Core.Path.{_≡_};
 ghost use mathlib.Core.Bool.{false};
 ghost use Rattle.hex.specs.Lines.{lineSize, linesOf, withoutLast};
-ghost use Rattle.hex.specs.Read.{afterLines, readingOf};
+ghost use Rattle.hex.specs.Read.{afterLines, linesReadOf};
 
 // What all lines lead to: the memory holds what they name, or the number of the line at fault.
-pub enum Reading {
+pub enum LinesRead {
     Whole,
     Refused { line: usize, fault: Fault },
 }
@@ -43,8 +43,8 @@ fn without_last(bytes: &[u8], last: u8) -> &[u8]
 }
 
 // Takes every line, in order; the first that is refused ends it.
-pub fn read_lines(text: &[u8], first: usize, memory: &mut [u16; 4096]) -> Reading
-    ensures { λ r. ⌜ readingOf r (now (memory .exit))
+pub fn read_lines(text: &[u8], first: usize, memory: &mut [u16; 4096]) -> LinesRead
+    ensures { λ r. ⌜ linesReadOf r (now (memory .exit))
         ≡ afterLines first false 1 (now (memory .entry)) (linesOf (now (text .entry))) ⌝ }
 {
     let mut rest = text;
@@ -56,7 +56,7 @@ pub fn read_lines(text: &[u8], first: usize, memory: &mut [u16; 4096]) -> Readin
         let taken = take_line(line, ended, first, memory);
         match taken {
             Taken::Faulty(fault) => {
-                return Reading::Refused {
+                return LinesRead::Refused {
                     line: number,
                     fault,
                 };
@@ -69,10 +69,10 @@ pub fn read_lines(text: &[u8], first: usize, memory: &mut [u16; 4096]) -> Readin
         rest = &rest[size..];
     }
     if !ended {
-        return Reading::Refused {
+        return LinesRead::Refused {
             line: number,
             fault: Fault::NoEnd,
         };
     }
-    Reading::Whole
+    LinesRead::Whole
 }

@@ -2,7 +2,7 @@
 use crate::HexAnswer;
 use crate::image::fill_image;
 use crate::image::lowest_of;
-use crate::lines::Reading;
+use crate::lines::LinesRead;
 use crate::lines::read_lines;
 use isa::rom::is_space_length;
 ghost use Rattle.hex.specs.Read.{Reads};
@@ -20,8 +20,8 @@ pub fn read(text: &[u8], fill: u8, image: &mut [u8]) -> HexAnswer
     let mut memory = [256u16; 4096];
     let reading = read_lines(text, first, &mut memory);
     match reading {
-        Reading::Refused { line, fault } => HexAnswer::Refused { line, fault },
-        Reading::Whole => {
+        LinesRead::Refused { line, fault } => HexAnswer::Refused { line, fault },
+        LinesRead::Whole => {
             fill_image(&memory, first, fill, image);
             HexAnswer::Read {
                 lowest: lowest_of(&memory),

@@ -1,6 +1,6 @@
 -- Program space by its halves: where a byte of it stands, and what an image's page and fixed half are.
-use mathlib.Core.Path.{_≡_, refl, sym, _∙_, ap, subst}
-use mathlib.Core.Bool.{Bool, true, false, cond, _&&_, _||_}
+use mathlib.Core.Path.{_≡_, refl, _∙_, ap, subst}
+use mathlib.Core.Bool.{Bool, true, false, cond, _||_, and-eq-true-iff}
 use mathlib.Core.List.{List, [], _∷_, _++_}
 use mathlib.Core.Logic.{_⊎_, inl, inr, ⊎-elim}
 use Prim.Native.Nat.{ℕ, zero, suc, _+_, _-_, _*_, _/_, _%_, _<_, _≤_}
@@ -15,21 +15,20 @@ use Rattle.isa.specs.Displacement.{forwardOf}
 use Rattle.isa.specs.RoundTrip.{Bytes}
 use Rattle.isa.specs.Rom.{isSpace, isImage, IsImage, spacesIn, pageOf, fixedOf, spaceOf, Halves, halfOf, romAt}
 
-both-left : (a b : Bool) → (a && b) ≡ true → a ≡ true
-both-left true b e = refl
-both-left false b e = e
-
-both-right : (a b : Bool) → (a && b) ≡ true → b ≡ true
-both-right true b e = e
-both-right false b e = let z : _≡_ {A = ℕ} 0 1 = cc in absurd (omega arith)
-
--- the two lengths of program space
+-- the two lengths of program space: the test as a sum
 pub space-length : (n : ℕ) → isSpace n ≡ true → (n ≡ 2048) ⊎ (n ≡ 4096)
 space-length n e = by-first (eqb n 2048) refl e
   where
     by-first : (b : Bool) → eqb n 2048 ≡ b → (b || eqb n 4096) ≡ true → (n ≡ 2048) ⊎ (n ≡ 4096)
     by-first true t e = inl (eqb-true n 2048 t)
     by-first false t e = inr (eqb-true n 4096 e)
+
+-- what holds of both lengths holds of one that passes the test
+pub by-length : (P : ℕ → Type 0) → P 2048 → P 4096 → (n : ℕ) → isSpace n ≡ true → P n
+by-length P small large n is = ⊎-elim (λ e. rw e small) (λ e. rw e large) (space-length n is)
+
+pub space-most : (n : ℕ) → isSpace n ≡ true → n ≤ 4096
+space-most = by-length (λ n. n ≤ 4096) (omega arith) (omega arith)
 
 -- what is known of an image's length
 pub record Sized (n : ℕ) : Type 0 where
@@ -39,11 +38,12 @@ pub record Sized (n : ℕ) : Type 0 where
 
 pub sized : (n : ℕ) → isImage n ≡ true → Sized n
 sized n e =
-    let rest : (leb 2048 n && leb n 20480) ≡ true = both-right (eqb (n % 2048) 0) _ e in
+    let p = and-eq-true-iff (eqb (n % 2048) 0) _ .0 e in
+    let q = and-eq-true-iff (leb 2048 n) (leb n 20480) .0 (p .1) in
     record {
-      whole = eqb-true (n % 2048) 0 (both-left (eqb (n % 2048) 0) _ e);
-      least = leb-true 2048 n (both-left (leb 2048 n) (leb n 20480) rest);
-      most = leb-true n 20480 (both-right (leb 2048 n) (leb n 20480) rest);
+      whole = eqb-true (n % 2048) 0 (p .0);
+      least = leb-true 2048 n (q .0);
+      most = leb-true n 20480 (q .1);
     }
 
 module _ (page fixed : List ℕ) (h : Halves page fixed) where
@@ -226,9 +226,7 @@ space-is-image image bank e = ⊎-elim small large (space-length (length image) 
 
 -- such an image may be one
 pub space-image : (image : List ℕ) → isSpace (length image) ≡ true → IsImage image
-space-image image e =
-    ⊎-elim (λ (size : length image ≡ 2048). rw size) (λ (size : length image ≡ 4096). rw size)
-    (space-length (length image) e)
+space-image image = by-length (λ n. isImage n ≡ true) refl refl (length image)
 
 -- .. and an image of at most 4096 bytes is program space
 pub image-space : (n : ℕ) → n ≤ 4096 → isImage n ≡ true → isSpace n ≡ true

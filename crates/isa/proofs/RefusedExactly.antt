@@ -1,7 +1,7 @@
 -- Writing refuses with 8 exactly the instructions that no image holds.
 use mathlib.Core.Path.{_≡_, refl, sym, ap, _∙_}
 use mathlib.Core.Logic.{_⊎_, inl, inr, ⊎-elim}
-use mathlib.Core.Bool.{Bool, true, false, cond, _&&_}
+use mathlib.Core.Bool.{Bool, true, false, cond, _&&_, and-eq-true-iff}
 use mathlib.Core.List.{List, [], _∷_, _++_}
 use Prim.Native.Nat.{ℕ, zero, suc, _+_, _-_, _*_, _/_, _%_, _<_, _≤_}
 use native.Mathlib.Omega.{arith}
@@ -31,7 +31,6 @@ use Rattle.isa.proofs.AtAddress.{from-space}
 use Rattle.isa.proofs.Halves.{space-image, space-is-image, space-bytes}
 use Rattle.isa.proofs.Finite.{at}
 use Rattle.isa.proofs.Reading.{Read, reading, rom-byte}
-use Rattle.isa.proofs.RoundTrip.{and-left, and-right}
 use Rattle.isa.proofs.InImage.{written-decodes, decoded-writes}
 
 -- an opcode of no bytes is undefined, whatever follows
@@ -73,9 +72,9 @@ with-byte k f h = chosen-bytes (ltb f 256) (Two k f) (λ t. cons-bytes k (f ∷ 
 with-bytes : (k f s : ℕ) → k < 256 → Bytes (bytes (withBytes k f s))
 with-bytes k f s h =
     chosen-bytes (ltb f 256 && ltb s 256) (Three k f s)
-    (λ t. cons-bytes k (f ∷ s ∷ []) h
-    (cons-bytes f (s ∷ []) (ltb-true f 256 (and-left (ltb f 256) (ltb s 256) t))
-    (one-byte s (ltb-true s 256 (and-right (ltb f 256) (ltb s 256) t)))))
+    (λ t. let tests = and-eq-true-iff (ltb f 256) (ltb s 256) .0 t in
+    cons-bytes k (f ∷ s ∷ []) h
+    (cons-bytes f (s ∷ []) (ltb-true f 256 (tests .0)) (one-byte s (ltb-true s 256 (tests .1)))))
 
 short-jump : (base : ℕ) (d : ℤ) → base < 8 → Bytes (bytes (shortJump base d))
 short-jump base d h =
@@ -95,7 +94,7 @@ bit-jump : (base bit address : ℕ) (d : ℤ) → base < 32 → Bytes (bytes (bi
 bit-jump base bit address d h =
     chosen-bytes (ltb bit 8 && inField 8 d) (withBytes (withBit base bit) address (modulo 256 d))
     (λ t. with-bytes (withBit base bit) address (modulo 256 d)
-    (with-bit base bit h (ltb-true bit 8 (and-left (ltb bit 8) (inField 8 d) t))))
+    (with-bit base bit h (ltb-true bit 8 (and-eq-true-iff (ltb bit 8) (inField 8 d) .0 t .0))))
 
 bit-direct : (base bit address : ℕ) → base < 32 → Bytes (bytes (bitDirect base bit address))
 bit-direct base bit address h =

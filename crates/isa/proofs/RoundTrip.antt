@@ -1,7 +1,7 @@
 -- Writing and decoding undo one another, over an opcode and the two bytes that follow.
 use mathlib.Core.Path.{_≡_, refl, ap, _∙_}
 use mathlib.Core.Logic.{_⊎_, inl, inr, ⊎-elim}
-use mathlib.Core.Bool.{Bool, true, false, cond, _&&_}
+use mathlib.Core.Bool.{Bool, true, false, cond, _&&_, and-eq-true-iff}
 use mathlib.Core.List.{List, [], _∷_}
 use Prim.Native.Nat.{ℕ, _+_, _*_, _/_, _%_, _<_}
 use native.Mathlib.Omega.{arith}
@@ -43,14 +43,6 @@ Back e i = (e ≡ Unencodable → ⊥) → Says e i
 chosen : (b : Bool) (e : Encoded) (i : Instruction) → (b ≡ true → Back e i) → Back (cond b e Unencodable) i
 chosen true e i h n = h refl n
 chosen false e i h n = absurd (n refl)
-
-pub and-left : (a b : Bool) → (a && b) ≡ true → a ≡ true
-and-left true b e = refl
-and-left false b e = e
-
-pub and-right : (a b : Bool) → (a && b) ≡ true → b ≡ true
-and-right true b e = e
-and-right false b e = let z : _≡_ {A = Bool} false true = e in cc
 
 -- a displacement of a field of five bits, and of eight, is what its field reads as
 short-back : (d : ℤ) → inField 5 d ≡ true → signed 5 (modulo 32 d) ≡ d
@@ -115,11 +107,12 @@ bit-jump :
     (bit address : ℕ) (d : ℤ) → Back (bitJump base bit address d) (mk bit address d)
 bit-jump mk base column bit address d =
     chosen (ltb bit 8 && inField 8 d) (withBytes (withBit base bit) address (modulo 256 d)) (mk bit address d)
-    (λ h. let below : bit < 8 = ltb-true bit 8 (and-left (ltb bit 8) (inField 8 d) h) in
+    (λ h. let tests = and-eq-true-iff (ltb bit 8) (inField 8 d) .0 h in
+    let below : bit < 8 = ltb-true bit 8 (tests .0) in
     let made : Makes (withBit base bit) address (modulo 256 d) (mk bit address (longDisplacement (modulo 256 d))) 3 =
     column bit below address (modulo 256 d) in
     two-bytes (withBit base bit) address (modulo 256 d) (mk bit address d)
-    (made .0 ∙ ap (λ z. Is (mk bit address z)) (long-back d (and-right (ltb bit 8) (inField 8 d) h)), made .1))
+    (made .0 ∙ ap (λ z. Is (mk bit address z)) (long-back d (tests .1)), made .1))
 
 -- RES or SET
 bit-direct :

@@ -6,16 +6,16 @@ use Rattle.isa.specs.declared.Source.{Source}
 use Rattle.isa.specs.declared.Source.the-variants.{Nmi, First, Second, Third, Fourth}
 
 -- "A request byte has bits 0 to 4 for NMI and sources 1 to 4."
-abbrev pub bitOf : Source → ℕ
-bitOf Nmi = 0
-bitOf First = 1
-bitOf Second = 2
-bitOf Third = 3
-bitOf Fourth = 4
+abbrev pub requestBit : Source → ℕ
+requestBit Nmi = 0
+requestBit First = 1
+requestBit Second = 2
+requestBit Third = 3
+requestBit Fourth = 4
 
 -- the byte has the source's bit
 abbrev pub isNamed : ℕ → Source → Bool
-isNamed byte source = eqb (byte / 2 ^ bitOf source % 2) 1
+isNamed byte source = eqb (byte / 2 ^ requestBit source % 2) 1
 
 -- "11 (bit 5, 6 or 7 set in a request byte)": the byte has none of them
 abbrev pub namesOnlySources : ℕ → Bool

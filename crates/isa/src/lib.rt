@@ -71,7 +71,7 @@ pub enum Form {
     Undefined,
 }
 
-// Why an operation was refused or stopped, in the order of the papers' numbers 1 to 26, with the address where they
+// Why an operation was refused or stopped, in the order of the papers' numbers 1 to 30, with the address where they
 // give one.
 pub enum Refusal {
     ImageLength,

@@ -97,15 +97,16 @@ fn column_d(opcode: u8, first: u8, second: u8) -> Form
     }
 }
 
-// Column F: operands through Y in the even rows, and direct in the odd ones.
+// Column F: operands through Y in the even rows, and direct in the others.
 fn column_f(opcode: u8, first: u8) -> Form
     requires { ⌜ opcode % 16 ≡ 15 ⌝ }
     ensures { λ r. ⌜ ((second : ℕ) → r ≡ formOf opcode first second) ⌝ }
 {
-    if opcode / 16 % 2 == 0 {
-        Form::Is(on_operand(opcode, Operand::ThroughY))
-    } else {
-        Form::Is(on_operand(opcode, Operand::Direct(first)))
+    match opcode {
+        0x0F | 0x2F | 0x4F | 0x6F | 0x8F | 0xAF | 0xCF | 0xEF => {
+            Form::Is(on_operand(opcode, Operand::ThroughY))
+        }
+        _ => Form::Is(on_operand(opcode, Operand::Direct(first))),
     }
 }
 

@@ -1,6 +1,5 @@
 -- P11 and P12, printed: the check's answer, and the line of it.
 use mathlib.Core.Path.{refl, ap, _∙_}
-use mathlib.Core.Logic.{inl}
 use mathlib.Core.List.{[], _∷_}
 use Rattle.certificate.specs.Cases.{image11, certificate11, put}
 use Rattle.certificate.proofs.Cases.{check-cases}
@@ -12,10 +11,10 @@ pub printed-cases : PrintedCases
 unfolding lineOf decimalOf
 printed-cases =
     record {
-      p11 = ap lineOf (jobs-are-checked 0x01 image11 certificate11 (inl refl) refl ∙ check-cases .p11);
+      p11 = ap lineOf (jobs-are-checked 0x01 image11 certificate11 refl refl ∙ check-cases .p11);
       p12 =
           ap lineOf
-          (jobs-are-checked 0x01 image11 (put 0x883 (0x20 ∷ []) certificate11) (inl refl) refl ∙ check-cases .p12);
+          (jobs-are-checked 0x01 image11 (put 0x883 (0x20 ∷ []) certificate11) refl refl ∙ check-cases .p12);
       without-address = refl;
       upper-case = refl;
     }

@@ -5,12 +5,12 @@ use native.Mathlib.Omega.{arith}
 use native.Mathlib.Nat.{div-add-mod'}
 use mathlib.Core.Path.{_≡_, refl}
 use mathlib.Core.Bool.{Bool, true, false, _||_, false≢true}
-use mathlib.Core.Logic.{inl, inr}
 use mathlib.Core.List.{List, _++_}
 use lib.Dec.{eqb}
 use lib.ListN.{length, take, drop, length-append}
 use lib.Seq.{take-at, drop-at, take-all, drop-drop}
 use borrow.Author.Tests.{eq-eqb, eqb-true, le-leb}
+use Rattle.isa.proofs.Halves.{by-length}
 use Rattle.certificate.specs.Check.{checkOf}
 use Rattle.jobs.specs.CheckJob.{isCount, countOf, jobOf, jobFor, JobsAreChecked}
 
@@ -45,5 +45,6 @@ module _ (wired : ℕ) (image certificate : List ℕ) (same : length certificate
       rw (le-leb _ _ long, counted, known, eq-eqb _ _ whole, half, ← drop-drop n 4 job, first, rest, last)
 
 pub jobs-are-checked : JobsAreChecked
-jobs-are-checked wired image certificate (inl e) same = checked wired image certificate same (rw (same, e))
-jobs-are-checked wired image certificate (inr e) same = checked wired image certificate same (rw (same, e))
+jobs-are-checked wired image certificate is same =
+    checked wired image certificate same
+    (rw same (by-length (λ n. isCount (1 + (n + n)) ≡ true) refl refl (length image) is))

@@ -1,12 +1,12 @@
 -- What a job answers, by number (document 01, "Job program").
 use Prim.Native.Nat.{ℕ, _+_, _*_, _-_, _/_, _%_}
 use mathlib.Core.Path.{_≡_}
-use mathlib.Core.Logic.{_⊎_}
-use mathlib.Core.Bool.{Bool, _&&_, _||_}
+use mathlib.Core.Bool.{Bool, true, _&&_, _||_}
 use mathlib.Core.List.{List, _∷_, _++_}
 use lib.Dec.{leb, eqb}
 use lib.ListN.{length, take, drop, getD}
 use Rattle.isa.specs.Refusals.{plain, refused, unless}
+use Rattle.isa.specs.Rom.{isSpace}
 use Rattle.certificate.specs.Check.{Verdict, checkOf}
 
 -- "a two-byte big-endian count of the bytes after it": it stands after the version
@@ -53,6 +53,6 @@ jobFor wired image certificate =
 abbrev pub JobsAreChecked : Type 0
 JobsAreChecked =
     (wired : ℕ) (image certificate : List ℕ)
-    → (length image ≡ 2048) ⊎ (length image ≡ 4096)
+    → isSpace (length image) ≡ true
     → length certificate ≡ length image
     → jobOf (jobFor wired image certificate) ≡ checkOf image certificate wired

@@ -1,18 +1,15 @@
 -- Laws of steps and runs that callers use.
-use Prim.Native.Nat.{ℕ, zero, suc, _+_, _≤_, _<_}
+use Prim.Native.Nat.{ℕ, zero, suc, _+_, _≤_}
 use mathlib.Core.Path.{_≡_, refl, sym, ap, _∙_}
-use mathlib.Core.Bool.{Bool, true, false, _&&_}
-use mathlib.Core.List.{List, [], _∷_}
+use mathlib.Core.Bool.{Bool, true}
+use mathlib.Core.List.{List, []}
 use native.Mathlib.Omega.{arith}
 use native.Mathlib.Nat.{zero-add, add-zero, add-suc, add-assoc}
 use native.Mathlib.Numerals.{add-one}
 use lib.ListN.{length, getD, drop}
 use lib.Seq.{getD-drop}
-use Rattle.data.specs.Effect.{effectOf}
 use Rattle.isa.specs.Refusals.{Numbered, Answer, Ended, done, refused}
 use Rattle.isa.specs.RoundTrip.{Bytes}
-use Rattle.isa.specs.Displacement.{forwardOf}
-use Rattle.isa.specs.ControlFlow.{flowOf}
 use Rattle.isa.specs.Sources.{namesOnlySources}
 use Rattle.isa.specs.Rom.{isImage}
 use Rattle.isa.specs.declared.Instruction.{Instruction}
@@ -24,11 +21,11 @@ use Rattle.isa.proofs.Halves.{is-space}
 use Rattle.machine.specs.declared.Machine.{Machine}
 use Rattle.machine.specs.Execute.{executeOf}
 use Rattle.machine.specs.State.{isWellFormed}
-use Rattle.machine.specs.Advance.{Step, doneOf, refusedOf, completedOf, executedOf, respondOf, advancedOf}
+use Rattle.machine.specs.Advance.{Step, doneOf, completedOf, executedOf, actedOf}
+use Rattle.machine.specs.Refusals.{TakesNone}
 use Rattle.machine.specs.Step.{stepOf}
 use Rattle.machine.specs.Steps.{Run, runAt, joinedBy, joinedOf, continuedBy, continuedOf, stepsOf, requestsFit}
 use Rattle.machine.specs.Laws.{
-  IsStop,
   Does,
   stops,
   takes,
@@ -42,8 +39,9 @@ use Rattle.machine.specs.Laws.{
   RunIsSteps,
   SleeperStays,
 }
-use Rattle.machine.proofs.StepDoes.{step-does, numbered-stop}
-use Rattle.machine.proofs.StepByStep.{step-advances, idle, fits-at, next-step}
+use Rattle.machine.proofs.StepDoes.{step-does, stops-numbered}
+use Rattle.machine.proofs.StepByStep.{fits-at, next-step}
+use Rattle.machine.proofs.Due.{idles-due, action-due}
 use Rattle.machine.proofs.StaysWellFormed.{stays-well-formed}
 
 pub data-goes-on : DataGoesOn
@@ -56,27 +54,24 @@ module _ (image : List ℕ) (all : Bytes image) (size : isImage (length image) �
   stopped :
       (n : Machine) (request : ℕ) → isWellFormed n ≡ true → (s : Step) →
       Does (programOf image (n .bytes)) n request s → (r : Run) →
-      StopsOnly (joinedOf r s .report .ending)
+      StopsOnly (joinedOf r s .machine) (joinedOf r s .report .ending)
   stopped n request w _ (stops reason why) r =
-      numbered-stop (programOf image (n .bytes)) n request (is-space image (getD (n .bytes) 0xCA 0) size) w reason why
+      stops-numbered (programOf image (n .bytes)) n request (is-space image (getD (n .bytes) 0xCA 0) size) w reason why
   stopped n request w _ (takes source e none) r = tt
   stopped n request w _ (idles none asleep) r = tt
   stopped n request w _ (executes i bytes cycles none awake at goes) r = tt
 
   continued :
       (r : Run) (request : ℕ) → isWellFormed (r .machine) ≡ true → namesOnlySources request ≡ true → (e : Ended) →
-      r .report .ending ≡ e → StopsOnly e → StopsOnly (continuedBy image r request e .report .ending)
+      r .report .ending ≡ e → StopsOnly (r .machine) e →
+      StopsOnly (continuedBy image r request e .machine) (continuedBy image r request e .report .ending)
   continued r request w fits (done tt) is f =
-      rw (step-advances image (r .machine) request size w fits)
-      (stopped (r .machine) request w _
-      (step-does (programOf image (r .machine .bytes)) (r .machine) request
-      (is-space image (getD (r .machine .bytes) 0xCA 0) size) w)
-      r)
+      stopped (r .machine) request w _ (step-does image (r .machine) request size w fits) r
   continued r request w fits (refused reason) is f = rw is f
 
   ends :
       (n : ℕ) → requestsFit requests n ≡ true → (k : ℕ) → k ≤ n →
-      StopsOnly (stepsOf image requests m k .report .ending)
+      StopsOnly (stepsOf image requests m k .machine) (stepsOf image requests m k .report .ending)
   unfolding stepsOf
   ends n fit zero h = tt
   ends n fit (suc k) h =
@@ -132,9 +127,14 @@ run-is-steps = record {
 -- a sleeping machine without requests
 module _ (image : List ℕ) (m : Machine) (size : isImage (length image) ≡ true) (formed : isWellFormed m ≡ true)
     (asleep : m .control .asleep ≡ true) where
+  none : TakesNone m 0
+  unfolding requestedOf
+  none = refl
+
   idles-on : stepOf image m 0 ≡ doneOf m 0
-  unfolding advancedOf respondOf requestedOf
-  idles-on = step-advances image m 0 size formed refl ∙ sym (idle (programOf image (m .bytes)) m asleep)
+  unfolding stepOf actedOf
+  idles-on =
+      rw (action-due image m 0 size formed refl, idles-due (programOf image (m .bytes)) m 0 none asleep)
 
   all-idle : (n : ℕ) → stepsOf image [] m n ≡ runAt m n 0 (done tt)
   unfolding stepsOf

@@ -1,6 +1,7 @@
 pub mod PairTests
 pub mod Store
 pub mod Stops
+pub mod Due
 pub mod StepDoes
 pub mod StaysWellFormed
 pub mod StepByStep
@@ -8,6 +9,8 @@ pub mod Refusals
 pub mod Laws
 pub mod PairUse
 pub mod ReadForms
+pub mod Matters
 pub mod OriginTold
 pub mod WriteOnly
 pub mod OnePage
+pub mod UnderWindow

@@ -1,20 +1,17 @@
 -- The origin that a step tells is that of the byte which its instruction used; and what the reading answers.
 use Prim.Native.Nat.{ℕ}
-use mathlib.Core.Path.{_≡_, refl, sym, ap, _∙_}
-use mathlib.Core.Bool.{Bool, true, false}
+use mathlib.Core.Path.{_≡_, refl, ap, _∙_}
+use mathlib.Core.Bool.{Bool, true}
 use mathlib.Core.List.{List}
 use native.Mathlib.Omega.{arith}
 use lib.ListN.{length, getD}
-use Rattle.isa.specs.Refusals.{plain, located, Answer, done, refused, unless}
+use Rattle.isa.specs.Refusals.{located, Answer, done, refused}
 use Rattle.isa.specs.Sources.{namesOnlySources}
 use Rattle.isa.specs.Rom.{isImage}
 use Rattle.isa.specs.Displacement.{forwardOf}
 use Rattle.isa.specs.ControlFlow.{flowOf}
-use Rattle.isa.specs.Decode.{decodeOf, decodeAt}
-use Rattle.isa.specs.Decode as decode
 use Rattle.isa.specs.declared.Operand.{Operand}
 use Rattle.isa.specs.declared.Instruction.{Instruction}
-use Rattle.isa.proofs.AtAddress.{in-range}
 use Rattle.data.specs.declared.Origin.{Origin}
 use Rattle.data.specs.declared.OperandRead.{OperandRead}
 use Rattle.data.specs.declared.OperandRead.the-variants as operand
@@ -27,14 +24,9 @@ use Rattle.data.proofs.Origins.{byte-comes-from}
 use Rattle.control.specs.declared.Control.{Control}
 use Rattle.control.specs.declared.Stop.{Stop}
 use Rattle.control.specs.declared.Stop.the-variants as stop
-use Rattle.control.specs.declared.Requested.{Requested}
-use Rattle.control.specs.declared.Requested.the-variants.{Nothing, Taken}
 use Rattle.control.specs.Stack.{Transferred}
-use Rattle.control.specs.Requests.{requestedOf}
 use Rattle.control.specs.Transfers.{advanceOf}
-use Rattle.control.proofs.StaysWellFormed.{formed-exactly}
 use Rattle.data.specs.Space.{programOf}
-use Rattle.isa.proofs.Halves.{is-space}
 use Rattle.machine.specs.declared.Machine.{Machine}
 use Rattle.machine.specs.Pairs.{withPairOf}
 use Rattle.machine.specs.Execute.{jumpsOf, executeOf}
@@ -46,14 +38,12 @@ use Rattle.machine.specs.Advance.{
   stoppedOf,
   completedOf,
   executedOf,
-  decodedOf,
-  respondOf,
-  enabledOf,
-  advancedOf,
+  actedOf,
 }
+use Rattle.machine.specs.Actions.{StepAction, executes, actionOf}
 use Rattle.machine.specs.Step.{stepOf}
-use Rattle.machine.specs.Reading.{Reading, readingAs, readingOf}
-use Rattle.machine.specs.Operands.{decodedRead, readAtPc, respondRead, readWith, stepReadOf}
+use Rattle.machine.specs.Reading.{readingOf}
+use Rattle.machine.specs.Operands.{actionRead, readIfDone, stepReadOf}
 use Rattle.machine.specs.OriginTold.{
   Executes,
   TellsOf,
@@ -64,18 +54,23 @@ use Rattle.machine.specs.OriginTold.{
   storedBy,
   StepsAlike,
   OriginTold,
-  BytesAsBefore,
 }
-use Rattle.machine.proofs.StepDoes.{Tested, refuses, passes, step-tested}
-use Rattle.machine.proofs.StepByStep as steps
+use Rattle.machine.proofs.Due.{
+  Due,
+  taking,
+  idling,
+  executing,
+  undecoding,
+  awake-due,
+  is-due,
+  ActionTested,
+  refusing,
+  passing,
+  is-tested,
+  action-due,
+}
+use Rattle.machine.proofs.Matters.{matters}
 use Rattle.machine.proofs.ReadForms.{Change, changed, MadeOf, MadeApart, read-form, made-of, made-apart}
-
--- where neither image nor machine is refused, decoding at PC is what stands there
-decoded :
-    (image : List ℕ) (m : Machine) → isImage (length image) ≡ true → isWellFormed m ≡ true →
-    decodeOf (programOf image (m .bytes)) (m .control .pc) ≡ decodeAt (programOf image (m .bytes)) (m .control .pc)
-decoded image m size formed =
-    in-range (programOf image (m .bytes)) (m .control .pc) (is-space image (getD (m .bytes) 0xCA 0) size) (formed-exactly .facts (m .stack) (m .control) formed .pc)
 
 -- the end of a step that comes to an instruction, by what its change and its transfer of control are
 abbrev ended : Machine → Transferred → Change → (cycles : ℕ) → Step
@@ -92,14 +87,15 @@ transferOf m i jumps bytes =
 
 module _ (image : List ℕ) (m : Machine) (request : ℕ) (i : Instruction) (bytes cycles : ℕ)
     (at : Executes image m request i bytes cycles) where
+  pub is-action : actionOf image m request ≡ executes i bytes cycles
+  is-action =
+      action-due image m request (at .image-length) (at .formed) (at .sources)
+      ∙ awake-due (programOf image (m .bytes)) m request (at .none-taken) (at .awake) _ (at .at-pc)
+
   -- a step that comes to an instruction is that instruction
   pub comes : stepOf image m request ≡ executedOf (programOf image (m .bytes)) m i bytes cycles
-  unfolding advancedOf respondOf decodedOf
-  comes =
-      steps.step-advances image m request (at .image-length) (at .formed) (at .sources)
-      ∙ ap (respondOf (programOf image (m .bytes)) m) (at .none-taken)
-      ∙ sym (steps.awake (programOf image (m .bytes)) m (at .awake))
-      ∙ ap (decodedOf (programOf image (m .bytes)) m) (at .at-pc)
+  unfolding stepOf actedOf
+  comes = ap (actedOf (programOf image (m .bytes)) m) is-action
 
   step-is :
       (x : Change) (jumps : Bool) → effectOf (programOf image (m .bytes)) (viewOf m) i ≡ changed (viewOf m) x →
@@ -206,121 +202,84 @@ tells :
     {i : Instruction} {o : Operand} → MadeOf i o → (image : List ℕ) (m : Machine) (request bytes cycles : ℕ) →
     Executes image m request i bytes cycles → operandReadOf i ≡ operand.Is o →
     TellsOf image m request cycles (addressOf (m .bytes) o)
-unfolding readingOf stepReadOf readAtPc originReadOf executedOf completedOf
+unfolding readingOf stepReadOf originReadOf executedOf completedOf
 tells {i} {o} made image m request bytes cycles at reads =
     let completed : stepOf image m request .answer ≡ done cycles =
     ap (λ (s : Step). s .answer) (comes image m request i bytes cycles at)
     ∙ rw (made .goes (programOf image (m .bytes)) (viewOf m) (m .stack) (m .control) (forwardOf (m .control .pc) bytes)) in
-    let stands : decodeOf (programOf image (m .bytes)) (m .control .pc) ≡ done (decode.instruction i bytes cycles) =
-    decoded image m (at .image-length) (at .formed) ∙ at .at-pc in
     record {
       completed = completed;
       byte = readOf (programOf image (m .bytes)) (m .bytes) (addressOf (m .bytes) o);
       origin = originOf (programOf image (m .bytes)) (m .bytes) (addressOf (m .bytes) o);
       reading = rw (at .image-length, at .formed);
       comes = byte-comes-from (programOf image (m .bytes)) (m .bytes) (addressOf (m .bytes) o);
-      told = rw (completed, at .none-taken, at .awake, stands, reads);
+      told = rw (completed, is-action image m request i bytes cycles at, reads);
     }
 
 -- none and an origin are apart
 not-read : {P : Type 0} (x : Origin) → _≡_ {A = OriginRead} origin.Nothing (origin.From x) → P
 not-read x e = let z : _≡_ {A = ℕ} 0 1 = cc in absurd (omega arith)
 
-passed :
-    (image : List ℕ) (m : Machine) (request : ℕ) (s : Step) → Tested image m request s → (cycles : ℕ) →
-    s .answer ≡ done cycles →
-    (isImage (length image) ≡ true) × (isWellFormed m ≡ true) × (namesOnlySources request ≡ true)
-passed image m request _ (refuses r why) cycles e = let z : _≡_ {A = ℕ} 0 1 = cc in absurd (omega arith)
-passed image m request _ (passes i w n) cycles e = (i, w, n)
-
+-- a step that tells an origin comes to an instruction that reads
 module _ (image : List ℕ) (m : Machine) (request : ℕ) (x : Origin) where
-  module _ (spent : ℕ) (is-done : stepOf image m request .answer ≡ done spent)
-      (none : requestedOf (m .control .mode) (enabledOf (m .bytes)) request ≡ Nothing)
-      (awake : m .control .asleep ≡ false) (i : Instruction) (bytes cycles : ℕ)
-      (stands : decodeOf (programOf image (m .bytes)) (m .control .pc) ≡ done (decode.instruction i bytes cycles)) where
+  module _ (i : Instruction) (bytes cycles : ℕ) (at : Executes image m request i bytes cycles) where
     by-operand :
-        (r : OperandRead) → operandReadOf i ≡ r → originAt (programOf image (m .bytes)) (m .bytes) r ≡ origin.From x → Reads image m request
+        (r : OperandRead) → operandReadOf i ≡ r →
+        originAt (programOf image (m .bytes)) (m .bytes) r ≡ origin.From x → Reads image m request
     by-operand operand.Nothing reads e = not-read x e
-    by-operand (operand.Is o) reads e =
-        let tested = passed image m request (stepOf image m request) (step-tested image m request) spent is-done in
-        let executes : Executes image m request i bytes cycles =
-        record {
-          image-length = tested .0;
-          formed = tested .1;
-          sources = tested .2;
-          none-taken = none;
-          awake = awake;
-          at-pc = sym (decoded image m (tested .0) (tested .1)) ∙ stands;
-        } in
-        record {
-          i = i;
-          bytes = bytes;
-          cycles = cycles;
-          o = o;
-          executes = executes;
-          reads = reads;
-          completed =
-              tells (made-of i o (read-form i o reads)) image m request bytes cycles executes reads .completed;
-        }
+    by-operand (operand.Is o) reads e = record {
+      i = i;
+      bytes = bytes;
+      cycles = cycles;
+      o = o;
+      executes = at;
+      reads = reads;
+      completed = tells (made-of i o (read-form i o reads)) image m request bytes cycles at reads .completed;
+    }
 
-  module _ (spent : ℕ) (is-done : stepOf image m request .answer ≡ done spent)
-      (none : requestedOf (m .control .mode) (enabledOf (m .bytes)) request ≡ Nothing) where
-    by-decoding :
-        m .control .asleep ≡ false → (a : Answer decode.Decoding) → decodeOf (programOf image (m .bytes)) (m .control .pc) ≡ a →
-        decodedRead (programOf image (m .bytes)) (m .bytes) a ≡ origin.From x → Reads image m request
-    unfolding originReadOf
-    by-decoding awake (done (decode.instruction i bytes cycles)) at e =
-        by-operand spent is-done none awake i bytes cycles at (operandReadOf i) refl e
-    by-decoding awake (refused r) at e = not-read x e
+  by-due :
+      isImage (length image) ≡ true → isWellFormed m ≡ true → namesOnlySources request ≡ true →
+      (a : StepAction) → Due (programOf image (m .bytes)) m request a →
+      actionRead (programOf image (m .bytes)) (m .bytes) a ≡ origin.From x → Reads image m request
+  unfolding originReadOf
+  by-due size formed sources _ (taking source is) e = not-read x e
+  by-due size formed sources _ (idling none asleep) e = not-read x e
+  by-due size formed sources _ (executing i bytes cycles none awake at) e =
+      by-operand i bytes cycles (record {
+        image-length = size;
+        formed = formed;
+        sources = sources;
+        none-taken = none;
+        awake = awake;
+        at-pc = at;
+      }) (operandReadOf i) refl e
+  by-due size formed sources _ (undecoding r none awake at) e = not-read x e
 
-    by-sleep :
-        (asleep : Bool) → m .control .asleep ≡ asleep → readAtPc (programOf image (m .bytes)) (m .bytes) (m .control) ≡ origin.From x →
-        Reads image m request
-    unfolding readAtPc
-    by-sleep true is e = not-read x (rw is at e)
-    by-sleep false is e = by-decoding is (decodeOf (programOf image (m .bytes)) (m .control .pc)) refl (rw is at e)
-
-  by-request :
-      (spent : ℕ) → stepOf image m request .answer ≡ done spent → (r : Requested) →
-      requestedOf (m .control .mode) (enabledOf (m .bytes)) request ≡ r →
-      respondRead (programOf image (m .bytes)) (m .bytes) (m .control) r ≡ origin.From x → Reads image m request
-  by-request spent is-done (Taken source) is e = not-read x e
-  by-request spent is-done Nothing is e = by-sleep spent is-done is (m .control .asleep) refl e
+  by-action :
+      (a : StepAction) → ActionTested image m request a →
+      actionRead (programOf image (m .bytes)) (m .bytes) a ≡ origin.From x → Reads image m request
+  by-action _ (refusing r why) e = not-read x e
+  by-action _ (passing size formed sources) e =
+      by-due size formed sources _ (is-due (programOf image (m .bytes)) m request) e
 
   by-answer :
-      (a : Answer ℕ) → stepOf image m request .answer ≡ a → readWith image m request a ≡ origin.From x →
+      (a : Answer ℕ) →
+      readIfDone a (actionRead (programOf image (m .bytes)) (m .bytes) (actionOf image m request)) ≡ origin.From x →
       Reads image m request
-  by-answer (done spent) is e =
-      by-request spent is (requestedOf (m .control .mode) (enabledOf (m .bytes)) request) refl e
-  by-answer (refused r) is e = not-read x e
+  by-answer (done spent) e = by-action (actionOf image m request) (is-tested image m request) e
+  by-answer (refused r) e = not-read x e
 
 pub origin-told : OriginTold
 unfolding stepReadOf
 origin-told = record {
   told = λ image m request i bytes cycles o at reads.
       tells (made-of i o (read-form i o reads)) image m request bytes cycles at reads;
-  only = λ image m request x e. by-answer image m request x (stepOf image m request .answer) refl e;
+  only = λ image m request x e. by-answer image m request x (stepOf image m request .answer) e;
   used = λ image m image′ m′ request request′ i bytes cycles o at at′ reads agree.
       used-alike image m image′ m′ request request′ i bytes cycles at at′ (agree .control) (agree .stack) (agree .flags)
       o (made-of i o (read-form i o reads)) agree;
+  matters = matters;
   unread = λ image m image′ m′ request request′ i bytes cycles at at′ reads agree.
       unread-alike image m image′ m′ request request′ i bytes cycles at at′ (agree .control) (agree .stack)
       (agree .flags) (made-apart i reads) agree;
 }
-
--- a reading that is done is the byte and the origin
-reading-done :
-    (i w : Bool) (more r : Reading) → unless i (refused (plain 1)) (unless w (refused (plain 2)) (done more)) ≡ done r →
-    more ≡ r
-reading-done true true more r e = cc
-reading-done true false more r e = let z : _≡_ {A = ℕ} 0 1 = cc in absurd (omega arith)
-reading-done false w more r e = let z : _≡_ {A = ℕ} 0 1 = cc in absurd (omega arith)
-
-reading-is :
-    (image : List ℕ) (m : Machine) (a : ℕ) (r : Reading) → readingOf image m a ≡ done r →
-    readingAs (readOf (programOf image (m .bytes)) (m .bytes) a) (originOf (programOf image (m .bytes)) (m .bytes) a) ≡ r
-unfolding readingOf
-reading-is image m a r e = reading-done (isImage (length image)) (isWellFormed m) _ r e
-
-pub bytes-as-before : BytesAsBefore
-bytes-as-before image m a r e = sym (ap (λ (x : Reading). x .byte) (reading-is image m a r e))

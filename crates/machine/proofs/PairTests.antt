@@ -8,8 +8,9 @@ use native.Mathlib.Omega.{arith}
 use Rattle.alu.specs.declared.Flags.{Flags}
 use Rattle.control.specs.declared.Mode.{Mode}
 use Rattle.control.specs.declared.Mode.the-variants.{Reset, Normal, Interrupt, NmiOverNormal, NmiOverInterrupt}
+use Rattle.control.specs.Modes.{modeNumber}
 use Rattle.machine.specs.declared.FlagPairs.{FlagPairs}
-use Rattle.machine.specs.Pairs.{isNormal, isInterrupt, withNmi, pairOf, withPairOf, modeNumber}
+use Rattle.machine.specs.Pairs.{isNormal, isInterrupt, withNmi, pairOf, withPairOf}
 
 pub never : {P : Type 0} → _≡_ {A = Bool} true false → P
 never e = let z : _≡_ {A = ℕ} 0 1 = cc in absurd (omega arith)

@@ -1,20 +1,15 @@
 -- A step writes and reads one flag pair, that of its mode.
 use Prim.Native.Nat.{ℕ}
-use mathlib.Core.Path.{_≡_, refl, sym, ap, _∙_}
+use mathlib.Core.Path.{_≡_, refl, sym, ap}
 use mathlib.Core.Logic.{_⊎_, inl, inr, _≢_}
 use mathlib.Core.Bool.{Bool, true, false, cond, _&&_}
 use mathlib.Core.List.{List}
 use native.Mathlib.Omega.{arith}
-use lib.ListN.{length}
 use Rattle.alu.specs.declared.Flags.{Flags}
 use Rattle.data.specs.Effect.{dataOf, effectOf}
-use Rattle.isa.specs.Refusals.{Numbered, plain, Answer, done, refused, unless}
+use Rattle.isa.specs.Refusals.{Numbered, Answer, done, refused}
 use Rattle.isa.specs.Displacement.{forwardOf}
 use Rattle.isa.specs.ControlFlow.{flowOf}
-use Rattle.isa.specs.Sources.{isNamed, namesOnlySources}
-use Rattle.isa.specs.Rom.{isImage}
-use Rattle.isa.specs.Decode.{decodeAt}
-use Rattle.isa.specs.Decode as decode
 use Rattle.isa.specs.declared.Instruction.{Instruction}
 use Rattle.isa.specs.declared.Instruction.the-variants as I
 use Rattle.control.specs.declared.Mode.{Mode}
@@ -22,36 +17,30 @@ use Rattle.control.specs.declared.Mode.the-variants.{Reset, Normal, Interrupt, 
 use Rattle.control.specs.declared.Control.{Control}
 use Rattle.control.specs.declared.Stop.{Stop}
 use Rattle.control.specs.declared.Stop.the-variants as stop
-use Rattle.control.specs.declared.Requested.{Requested}
-use Rattle.control.specs.declared.Requested.the-variants.{Nothing, Taken}
+use Rattle.control.specs.declared.Requested.the-variants.{Nothing}
 use Rattle.control.specs.Modes.{modeBeneath}
 use Rattle.control.specs.Stack.{goesOn, popOf}
 use Rattle.control.specs.Update.{withPc, withMode}
 use Rattle.control.specs.Transfers.{thenIn, endsStartUp, returnFromInterruptOf, advanceOf}
 use Rattle.control.specs.Requests.{requestedOf, takeOf}
 use Rattle.data.specs.Space.{programOf}
-use Rattle.isa.proofs.Halves.{is-space}
-use lib.ListN.{getD}
 use Rattle.machine.specs.declared.FlagPairs.{FlagPairs}
 use Rattle.machine.specs.declared.Machine.{Machine}
 use Rattle.machine.specs.Pairs.{pairOf, withNmi, withPairOf}
 use Rattle.machine.specs.Execute.{Execution, executeOf}
-use Rattle.machine.specs.State.{viewOf, isWellFormed}
+use Rattle.machine.specs.State.{viewOf}
+use Rattle.machine.specs.Actions as action
+use Rattle.machine.specs.Actions.{StepAction, enabledOf, dueOf, actionOf}
 use Rattle.machine.specs.Advance.{
   Step,
   doneOf,
-  refusedOf,
   stoppedOf,
   afterOf,
   takenBy,
   takenOf,
   completedOf,
   executedOf,
-  decodedOf,
-  uninterruptedOf,
-  respondOf,
-  enabledOf,
-  advancedOf,
+  actedOf,
 }
 use Rattle.machine.specs.Step.{stepOf}
 use Rattle.machine.specs.Refusals.{TakesNone, AtPc}
@@ -65,7 +54,7 @@ use Rattle.machine.specs.PairUse.{
   FlagsAfterReti,
   NmiNotNested,
 }
-use Rattle.machine.proofs.StepDoes.{step-does, Tested, refuses, passes, step-tested}
+use Rattle.machine.proofs.StepDoes.{Tested, refuses, passes, step-tested}
 
 -- a pair that was stored is that of the mode alone
 other-than-nmi : (p : FlagPairs) (f : Flags) (b : Mode) → 3 ≢ pairNumber b → pairOf (withNmi p f) b ≡ pairOf p b
@@ -101,8 +90,7 @@ module _ (image : List ℕ) (m : Machine) (request : ℕ) (mode : Mode)
 
   by-test : (s : Step) → Tested image m request s → pairOf (s .machine .flags) mode ≡ pairOf (m .flags) mode
   by-test _ (refuses r why) = refl
-  by-test _ (passes size formed sources) = by-case _
-      (step-does (programOf image (m .bytes)) m request (is-space image (getD (m .bytes) 0xCA 0) size) formed)
+  by-test s (passes size formed sources _ deed) = by-case s deed
 
 pub other-pairs-kept : OtherPairsKept
 other-pairs-kept image m request mode apart = by-test image m request mode apart _ (step-tested image m request)
@@ -132,11 +120,14 @@ module _ (image : List ℕ) (m : Machine) (flags : FlagPairs)
   unless-stopped stop.Empty a b h = unmoved _
 
   -- an instruction sees the same of data in both machines
-  decoded :
-      (a : Answer decode.Decoding) →
-      Alike (m .control .mode) (decodedOf image m a) (decodedOf image (withFlags m flags) a)
-  unfolding decodedOf executedOf completedOf
-  decoded (done (decode.instruction i bytes cycles)) =
+  acted :
+      (a : StepAction) → Alike (m .control .mode) (actedOf image m a) (actedOf image (withFlags m flags) a)
+  unfolding actedOf takenOf takenBy executedOf completedOf
+  acted (action.takes source) =
+      unless-stopped (takeOf (m .stack) (m .control) source .stop) _ _
+      (record { answer = refl; control = refl; stack = refl; bytes = refl; pair = sym same })
+  acted action.idles = unmoved _
+  acted (action.executes i bytes cycles) =
       let next : ℕ = forwardOf (m .control .pc) bytes in
       let x : Execution = executeOf image (viewOf m) (m .stack) (m .control) i next in
       let seen : executeOf image (viewOf (withFlags m flags)) (m .stack) (m .control) i next ≡ x =
@@ -150,41 +141,13 @@ module _ (image : List ℕ) (m : Machine) (flags : FlagPairs)
         bytes = refl;
         pair = own-pair (m .flags) flags (x .space .flags) (m .control .mode);
       }))
-  decoded (refused r) = unmoved _
+  acted (action.refuses r) = unmoved _
 
-  unrequested :
-      (asleep : Bool) →
-      Alike (m .control .mode) (cond asleep (doneOf m 0) (decodedOf image m (decodeAt image (m .control .pc))))
-      (cond asleep (doneOf (withFlags m flags) 0)
-      (decodedOf image (withFlags m flags) (decodeAt image (m .control .pc))))
-  unrequested true = unmoved _
-  unrequested false = decoded (decodeAt image (m .control .pc))
-
-  responded : (r : Requested) → Alike (m .control .mode) (respondOf image m r) (respondOf image (withFlags m flags) r)
-  unfolding respondOf takenOf takenBy uninterruptedOf
-  responded (Taken source) =
-      unless-stopped (takeOf (m .stack) (m .control) source .stop) _ _
-      (record { answer = refl; control = refl; stack = refl; bytes = refl; pair = sym same })
-  responded Nothing = unrequested (m .control .asleep)
-
-  tested :
-      (i w n : Bool) (request : ℕ) →
-      Alike (m .control .mode)
-      (unless i (refusedOf m (plain 1))
-      (unless w (refusedOf m (plain 2)) (unless n (refusedOf m (plain 11)) (advancedOf image m request))))
-      (unless i (refusedOf (withFlags m flags) (plain 1))
-      (unless w (refusedOf (withFlags m flags) (plain 2))
-      (unless n (refusedOf (withFlags m flags) (plain 11)) (advancedOf image (withFlags m flags) request))))
-  unfolding advancedOf
-  tested false w n request = unmoved _
-  tested true false n request = unmoved _
-  tested true true false request = unmoved _
-  tested true true true request = responded (requestedOf (m .control .mode) (enabledOf (m .bytes)) request)
-
+-- what is due does not go by flags
 pub own-pair-read : OwnPairRead
-unfolding stepOf
+unfolding stepOf actionOf dueOf
 own-pair-read image m request flags same =
-    tested (programOf image (m .bytes)) m flags same (isImage (length image)) (isWellFormed m) (namesOnlySources request) request
+    acted (programOf image (m .bytes)) m flags same (actionOf image m request)
 
 -- RETI goes to the mode beneath, and puts back the pair that it was handed
 beneath :
@@ -232,8 +195,7 @@ module _ (image : List ℕ) (m n : Machine) (request bytes cycles used : ℕ) (n
 
   by-answer : (s : Step) → Tested image m request s → s ≡ doneOf n used → Returned
   by-answer _ (refuses r why) e = not-done r used (ap (λ (s : Step). s .answer) e)
-  by-answer _ (passes size formed sources) e = by-deed _
-      (step-does (programOf image (m .bytes)) m request (is-space image (getD (m .bytes) 0xCA 0) size) formed) e
+  by-answer s (passes size formed sources _ deed) e = by-deed s deed e
 
 pub flags-after-reti : FlagsAfterReti
 flags-after-reti image m n request bytes cycles used none awake at e =
@@ -252,7 +214,7 @@ nothing-taken mode (inl e) enabled request = rw e (simp and-false)
 nothing-taken mode (inr e) enabled request = rw e (simp and-false)
 
 pub nmi-not-nested : NmiNotNested
-unfolding stepOf advancedOf
+unfolding stepOf actionOf dueOf
 nmi-not-nested image m request nmi named =
     rw (
       named,

@@ -1,11 +1,11 @@
 -- A step, a run, a host store and a reading are refused by the papers' numbers, in their order, and nowhere else.
-use Prim.Native.Nat.{ℕ, zero, suc, _<_, _≤_}
-use mathlib.Core.Path.{_≡_, refl, sym, ap, _∙_}
-use mathlib.Core.Bool.{Bool, true, false, cond, not, _&&_}
+use Prim.Native.Nat.{ℕ, zero, suc, _<_}
+use mathlib.Core.Path.{_≡_, refl, ap, _∙_}
+use mathlib.Core.Bool.{Bool, true, false, not, _&&_}
 use mathlib.Core.List.{List}
 use native.Mathlib.Omega.{arith}
-use borrow.Author.Tests.{lt-leb, le-leb, lt-ltb, le-ltb, leb-true, leb-false, ltb-true}
-use lib.Dec.{leb, ltb, eqb}
+use borrow.Author.Tests.{lt-leb, le-leb, lt-ltb, leb-true, leb-false, ltb-true}
+use lib.Dec.{leb, ltb}
 use lib.ListN.{length, getD}
 use Rattle.isa.specs.Refusals.{Numbered, plain, located, Answer, done, refused, unless}
 use Rattle.isa.specs.Displacement.{forwardOf}
@@ -20,10 +20,8 @@ use Rattle.control.specs.Transfers.{advanceOf}
 use Rattle.control.specs.Requests.{takeOf}
 use Rattle.control.proofs.Stopped.{take-stops, call-stops, pop-stops, return-stops}
 use Rattle.data.specs.Space.{programOf}
-use Rattle.isa.proofs.Halves.{is-space}
 use Rattle.machine.specs.declared.Machine.{Machine}
 use Rattle.machine.specs.Execute.{executeOf}
-use Rattle.data.specs.Space.{inWindow}
 use Rattle.machine.specs.State.{isWellFormed, withByte, HostStore, hostStored, hostStoreOf}
 use Rattle.machine.specs.Advance.{
   Step,
@@ -33,11 +31,10 @@ use Rattle.machine.specs.Advance.{
   takenOf,
   completedOf,
   executedOf,
-  decodedOf,
-  uninterruptedOf,
-  respondOf,
+  actedOf,
   advancedOf,
 }
+use Rattle.machine.specs.Actions.{actionOf}
 use Rattle.machine.specs.Step.{stepOf}
 use Rattle.machine.specs.Steps.{Run, requestsFit, stepsOf}
 use Rattle.machine.specs.Run.{refusedRun, runOf}
@@ -58,9 +55,9 @@ use Rattle.machine.specs.Refusals.{
   ReadingRefusals,
 }
 use Rattle.machine.specs.Laws.{executionAt, Does, stops, takes, idles, executes}
-use Rattle.machine.proofs.StepDoes.{step-does, Tested, refuses, passes, step-tested}
+use Rattle.machine.proofs.StepDoes.{Tested, refuses, passes, step-tested}
 use Rattle.machine.proofs.StepByStep.{fits-not}
-use Rattle.machine.proofs.StepByStep as steps
+use Rattle.machine.proofs.Due.{takes-due, awake-due}
 
 -- the two ends of an answer are apart
 not-refused : {P : Type 0} (cycles : ℕ) (r : Numbered) → _≡_ {A = Answer ℕ} (done cycles) (refused r) → P
@@ -73,18 +70,18 @@ module _ (image : List ℕ) (m : Machine) (request : ℕ) where
       AtPc image m i bytes cycles →
       (s : Stop) (n : ℕ) → ((more : Step) → stoppedOf m s more ≡ refusedOf m (located n (m .control .pc))) →
       executionAt image m i bytes .stop ≡ s → advancedOf image m request ≡ refusedOf m (located n (m .control .pc))
-  unfolding advancedOf respondOf uninterruptedOf decodedOf executedOf completedOf
+  unfolding advancedOf actedOf executedOf completedOf
   instruction-stops none awake i bytes cycles at s n is e =
-      ap (respondOf image m) none ∙ sym (steps.awake image m awake) ∙ ap (decodedOf image m) at ∙ rw e (is _)
+      ap (actedOf image m) (awake-due image m request none awake _ at) ∙ rw e (is _)
 
   stop-given : (r : Numbered) → StepStops image m request r → advancedOf image m request ≡ refusedOf m r
-  unfolding advancedOf respondOf takenOf takenBy uninterruptedOf decodedOf executeOf advanceOf flowOf
+  unfolding advancedOf actedOf takenOf takenBy executeOf advanceOf flowOf
   stop-given _ (why.request-full source e six) =
       let full : takeOf (m .stack) (m .control) source .stop ≡ stop.Full =
       take-stops (m .stack) (m .control) source .stop ∙ rw six in
-      ap (respondOf image m) e ∙ rw full
+      ap (actedOf image m) (takes-due image m request source e) ∙ rw full
   stop-given r (why.undecoded _ none awake e) =
-      ap (respondOf image m) none ∙ sym (steps.awake image m awake) ∙ ap (decodedOf image m) e
+      ap (actedOf image m) (awake-due image m request none awake _ e)
   stop-given _ (why.call-full to bytes cycles none awake at six) =
       instruction-stops none awake (I.Call to) bytes cycles at stop.Full 6 (λ more. refl)
       (call-stops (m .stack) (m .control) to (forwardOf (m .control .pc) bytes) .stop ∙ rw six)
@@ -97,7 +94,7 @@ module _ (image : List ℕ) (m : Machine) (request : ℕ) where
 
 module _ (image : List ℕ) (m : Machine) (request : ℕ) where
   given : (r : Numbered) → StepRefused image m request r → stepOf image m request ≡ refusedOf m r
-  unfolding stepOf
+  unfolding stepOf advancedOf actionOf actedOf
   given _ (why.image-length i) = rw i
   given _ (why.ill-formed i w) = rw (i, w)
   given _ (why.unknown-source i w n) = rw (i, w, n)
@@ -119,8 +116,7 @@ module _ (image : List ℕ) (m : Machine) (request : ℕ) where
 
   only : (t : Step) → Tested image m request t → (r : Numbered) → t .answer ≡ refused r → StepRefused image m request r
   only _ (refuses q s) r e = same-number q r e s
-  only _ (passes i w n) r e = only-stops i w n _
-      (step-does (programOf image (m .bytes)) m request (is-space image (getD (m .bytes) 0xCA 0) i) w) r e
+  only t (passes i w n _ deed) r e = only-stops i w n t deed r e
 
   done-else : (a : Answer ℕ) → ((r : Numbered) → a ≡ refused r → ⊥) → DoneIn a
   done-else (done cycles) nowhere = record { cycles = cycles; is = refl }

@@ -1,6 +1,6 @@
 -- A machine that is well formed stays so under every operation.
-use Prim.Native.Nat.{ℕ, zero, suc, _<_}
-use mathlib.Core.Path.{_≡_, refl}
+use Prim.Native.Nat.{ℕ, zero, suc}
+use mathlib.Core.Path.{_≡_}
 use mathlib.Core.Bool.{Bool, true, false, not}
 use mathlib.Core.List.{List}
 use native.Mathlib.Omega.{arith}
@@ -10,12 +10,11 @@ use Rattle.isa.specs.Displacement.{forwardOf}
 use Rattle.isa.specs.RoundTrip.{Bytes}
 use Rattle.isa.specs.ControlFlow.{flowOf}
 use Rattle.isa.specs.Refusals.{plain, Answer, Ended, done, refused, unless}
-use Rattle.isa.specs.Rom.{isImage, isSpace}
-use Rattle.isa.proofs.Halves.{is-space, space-bytes}
+use Rattle.isa.specs.Rom.{isImage}
+use Rattle.isa.proofs.Halves.{space-bytes}
 use Rattle.data.specs.Space.{programOf}
 use Rattle.isa.proofs.Targets.{in-range-there}
 use Rattle.control.specs.WellFormed.{Formed}
-use Rattle.control.specs.Requests.{takeOf}
 use Rattle.control.proofs.StaysWellFormed.{formed-exactly, stays-formed}
 use Rattle.machine.specs.declared.Machine.{Machine}
 use Rattle.machine.specs.Execute.{jumpsOf, executeOf}
@@ -26,7 +25,7 @@ use Rattle.machine.specs.Step.{stepOf}
 use Rattle.machine.specs.Steps.{Run, joinedBy, continuedBy, stepsOf, requestsFit}
 use Rattle.machine.specs.Run.{refusedRun, runOf}
 use Rattle.machine.specs.Laws.{Does, stops, takes, idles, executes, StaysWellFormed}
-use Rattle.machine.proofs.StepDoes.{step-does, Tested, refuses, passes, step-tested}
+use Rattle.machine.proofs.StepDoes.{advance-does, Tested, refuses, passes, step-tested}
 
 -- the machine after a step is well formed
 abbrev pub FormedStep : Step → Type 0
@@ -48,25 +47,19 @@ module _ (image : List ℕ) (all : Bytes image) (m : Machine) (formed : isWellFo
       (in-range-there image all (m .control .pc) i bytes cycles at)
       (jumpsOf image (viewOf m) (flowOf i (m .control .pc))) (forwardOf (m .control .pc) bytes) (omega arith))
 
-  by-program : isSpace (length image) ≡ true → FormedStep (advancedOf image m request)
-  by-program size = by-case _ (step-does image m request size formed)
-
 -- in program space as it stands
 module _ (image : List ℕ) (all : Bytes image) (m : Machine) (formed : isWellFormed m ≡ true) (request : ℕ) where
-  advance-formed : isImage (length image) ≡ true → FormedStep (advancedOf (programOf image (m .bytes)) m request)
-  advance-formed size =
-      by-program (programOf image (m .bytes)) (space-bytes image (getD (m .bytes) 0xCA 0) all) m formed request
-      (is-space image (getD (m .bytes) 0xCA 0) size)
+  in-place : (s : Step) → Does (programOf image (m .bytes)) m request s → FormedStep s
+  in-place = by-case (programOf image (m .bytes)) (space-bytes image (getD (m .bytes) 0xCA 0) all) m formed request
 
   -- of what the program was handed
-  pub formed-step :
-      isImage (length image) ≡ true → (s : Step) → s ≡ advancedOf (programOf image (m .bytes)) m request → FormedStep s
-  formed-step size s e = rw e (advance-formed size)
+  pub formed-step : (s : Step) → s ≡ advancedOf (programOf image (m .bytes)) m request → FormedStep s
+  formed-step s e = rw e (in-place _ (advance-does (programOf image (m .bytes)) m request formed))
 
   -- a step, refused or not
   by-test : (s : Step) → Tested image m request s → FormedStep s
   by-test _ (refuses r why) = formed
-  by-test _ (passes size w sources) = advance-formed size
+  by-test s (passes size w sources _ deed) = in-place s deed
 
   by-step : FormedStep (stepOf image m request)
   by-step = by-test _ (step-tested image m request)

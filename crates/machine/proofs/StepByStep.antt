@@ -1,7 +1,7 @@
 -- A run step by step.
 use Prim.Native.Nat.{ℕ, zero, suc, _+_, _-_, _<_, _≤_}
 use mathlib.Core.Path.{_≡_, refl, sym, ap, _∙_}
-use mathlib.Core.Bool.{Bool, true, false, _&&_}
+use mathlib.Core.Bool.{Bool, true, false, and-eq-true-iff}
 use mathlib.Core.List.{List}
 use native.Mathlib.Omega.{arith}
 use native.Mathlib.Nat.{zero-add, suc-add}
@@ -15,20 +15,19 @@ use Rattle.isa.specs.Decode.{decodeAt}
 use Rattle.data.specs.Space.{programOf}
 use Rattle.machine.specs.declared.Machine.{Machine}
 use Rattle.machine.specs.State.{isWellFormed}
-use Rattle.machine.specs.Advance.{Step, doneOf, refusedOf, decodedOf, uninterruptedOf, advancedOf}
+use Rattle.machine.specs.Advance.{Step, doneOf, refusedOf, actedOf, advancedOf}
+use Rattle.machine.specs.Actions.{decodedAction, unrequestedAction}
 use Rattle.machine.specs.Step.{stepOf}
 use Rattle.machine.specs.Steps.{Run, runAt, continuedOf, stepsOf, requestsFit}
+use Rattle.machine.proofs.Due.{action-due}
 
 -- a step that is not refused
 pub step-advances :
     (image : List ℕ) (m : Machine) (request : ℕ) → isImage (length image) ≡ true → isWellFormed m ≡ true →
     namesOnlySources request ≡ true → stepOf image m request ≡ advancedOf (programOf image (m .bytes)) m request
-unfolding stepOf
-step-advances image m request i w n = rw (i, w, n)
-
-both : (a b : Bool) → (a && b) ≡ true → (a ≡ true) × (b ≡ true)
-both true b e = (refl, e)
-both false b e = let z : _≡_ {A = ℕ} 0 1 = cc in absurd (omega arith)
+unfolding stepOf advancedOf
+step-advances image m request i w n =
+    ap (actedOf (programOf image (m .bytes)) m) (action-due image m request i w n)
 
 -- each of the first n request bytes names nothing but sources
 pub fits-at :
@@ -38,7 +37,7 @@ unfolding requestsFit
 fits-at requests zero e k h = absurd (omega arith)
 fits-at requests (suc n) e k h =
     let p : (namesOnlySources (getD requests n 0) ≡ true) × (requestsFit requests n ≡ true) =
-    both (namesOnlySources (getD requests n 0)) (requestsFit requests n) e in
+    and-eq-true-iff (namesOnlySources (getD requests n 0)) (requestsFit requests n) .0 e in
     below-more (λ j. namesOnlySources (getD requests j 0) ≡ true) n (fits-at requests n (p .1)) (p .0) k (omega arith)
 
 -- a byte that does not makes the test fail
@@ -76,14 +75,17 @@ stepped image requests m n i request s v w f h e a =
     ∙ sym (step-advances image m (getD requests i 0) v w (fits-at requests n f i h))
 
 -- asleep with nothing to take, and awake
-pub idle : (image : List ℕ) (m : Machine) → m .control .asleep ≡ true → doneOf m 0 ≡ uninterruptedOf image m
-unfolding uninterruptedOf
+pub idle :
+    (image : List ℕ) (m : Machine) → m .control .asleep ≡ true →
+    doneOf m 0 ≡ actedOf image m (unrequestedAction image (m .control))
+unfolding actedOf unrequestedAction
 idle image m e = rw e
 
 pub awake :
     (image : List ℕ) (m : Machine) → m .control .asleep ≡ false →
-    decodedOf image m (decodeAt image (m .control .pc)) ≡ uninterruptedOf image m
-unfolding uninterruptedOf
+    actedOf image m (decodedAction (decodeAt image (m .control .pc)))
+    ≡ actedOf image m (unrequestedAction image (m .control))
+unfolding unrequestedAction
 awake image m e = rw e
 
 -- a run that has ended stays as it is

@@ -1,4 +1,4 @@
--- What a step does: the one walk through its definition. Later laws go by the cases of `Does`.
+-- What a step does, by what is due. Later laws go by the cases of `Does`.
 use Prim.Native.Nat.{ℕ, _<_}
 use mathlib.Core.Path.{_≡_, refl}
 use mathlib.Core.Logic.{inl, inr}
@@ -8,7 +8,7 @@ use native.Mathlib.Omega.{arith}
 use borrow.Author.Tests.{leb-true, eqb-true}
 use lib.Dec.{eqb}
 use lib.ListN.{length}
-use Rattle.isa.specs.Refusals.{Numbered, plain, located, Answer, done, refused, unless}
+use Rattle.isa.specs.Refusals.{Numbered, located, Answer, done, refused}
 use Rattle.isa.specs.Displacement.{forwardOf}
 use Rattle.isa.specs.ControlFlow.{flowOf}
 use Rattle.isa.specs.Sources.{namesOnlySources}
@@ -20,12 +20,9 @@ use Rattle.isa.specs.declared.Source.{Source}
 use Rattle.isa.proofs.AtAddress.{AtAddress, at-address}
 use Rattle.control.specs.declared.Stop.{Stop}
 use Rattle.control.specs.declared.Stop.the-variants as stop
-use Rattle.control.specs.declared.Requested.{Requested}
-use Rattle.control.specs.declared.Requested.the-variants.{Nothing, Taken}
 use Rattle.control.specs.Modes.{isReset}
 use Rattle.control.specs.Stack.{isFull}
 use Rattle.control.specs.Transfers.{advanceOf}
-use Rattle.control.specs.Requests.{requestedOf}
 use Rattle.control.proofs.StaysWellFormed.{formed-exactly}
 use Rattle.control.proofs.Stopped.{take-stops, call-stops, pop-stops, return-stops}
 use Rattle.data.specs.Space.{programOf}
@@ -34,19 +31,16 @@ use Rattle.machine.specs.Execute.{executeOf}
 use Rattle.machine.specs.State.{viewOf, isWellFormed}
 use Rattle.machine.specs.Advance.{
   Step,
-  doneOf,
   refusedOf,
   stoppedOf,
   takenBy,
   takenOf,
   completedOf,
   executedOf,
-  decodedOf,
-  uninterruptedOf,
-  respondOf,
-  enabledOf,
+  actedOf,
   advancedOf,
 }
+use Rattle.machine.specs.Actions.{StepAction, actionOf}
 use Rattle.machine.specs.Step.{stepOf}
 use Rattle.machine.specs.Refusals.{
   Takes,
@@ -59,11 +53,21 @@ use Rattle.machine.specs.Refusals.{
   ret-empty,
   reti-empty,
   StepRefused,
-  image-length,
-  ill-formed,
-  unknown-source,
 }
 use Rattle.machine.specs.Laws.{IsStop, StopsNumbered, Does, stops, takes, idles, executes, StepDoes}
+use Rattle.machine.proofs.Due.{
+  Due,
+  taking,
+  idling,
+  executing,
+  undecoding,
+  is-due,
+  ActionTested,
+  refusing,
+  passing,
+  is-tested,
+  action-due,
+}
 use Rattle.machine.proofs.Stops.{MayStop, is-call, is-ret, is-reti, goes-on, may-stop}
 
 never : {P : Type 0} → _≡_ {A = Bool} false true → P
@@ -117,60 +121,53 @@ module _ (image : List ℕ) (m : Machine) (request : ℕ) (formed : isWellFormed
       by-test _ _ stop.Full false (e image (viewOf m) (m .stack) (m .control) (forwardOf (m .control .pc) bytes))
       (executes i bytes cycles none awake at) (λ f. never f)
 
-  decoded :
-      TakesNone m request → m .control .asleep ≡ false → (a : Answer decode.Decoding) →
-      decodeAt image (m .control .pc) ≡ a →
-      Does image m request (decodedOf image m a)
-  unfolding decodedOf
-  decoded none awake (done (decode.instruction i bytes cycles)) e = executed none awake i bytes cycles e (may-stop i)
-  decoded none awake (refused r) e = stops r (undecoded r none awake e)
+  -- what comes of an action that is due
+  acts : (a : StepAction) → Due image m request a → Does image m request (actedOf image m a)
+  unfolding actedOf
+  acts _ (taking source e) = taken source e
+  acts _ (idling none asleep) = idles none asleep
+  acts _ (executing i bytes cycles none awake at) = executed none awake i bytes cycles at (may-stop i)
+  acts _ (undecoding r none awake e) = stops r (undecoded r none awake e)
 
-  unrequested :
-      TakesNone m request → (asleep : Bool) → m .control .asleep ≡ asleep →
-      Does image m request (cond asleep (doneOf m 0) (decodedOf image m (decodeAt image (m .control .pc))))
-  unrequested none true e = idles none e
-  unrequested none false e = decoded none e (decodeAt image (m .control .pc)) refl
-
-  responded :
-      (r : Requested) → requestedOf (m .control .mode) (enabledOf (m .bytes)) request ≡ r →
-      Does image m request (respondOf image m r)
-  unfolding respondOf uninterruptedOf
-  responded (Taken source) e = taken source e
-  responded Nothing e = unrequested e (m .control .asleep) refl
+-- of a step in program space
+pub advance-does :
+    (image : List ℕ) (m : Machine) (request : ℕ) → isWellFormed m ≡ true →
+    Does image m request (advancedOf image m request)
+unfolding advancedOf
+advance-does image m request formed = acts image m request formed _ (is-due image m request)
 
 pub step-does : StepDoes
-unfolding advancedOf
-step-does image m request size formed =
-    responded image m request formed (requestedOf (m .control .mode) (enabledOf (m .bytes)) request) refl
+unfolding stepOf
+step-does image m request size formed sources =
+    rw (action-due image m request size formed sources)
+    (acts (programOf image (m .bytes)) m request formed _ (is-due (programOf image (m .bytes)) m request))
 
--- a stop has one of four numbers, and an address
-is-stop : (number address : ℕ) → 3 < number → number < 8 → IsStop (located number address)
-is-stop number address h l = record {
+-- a stop has one of four numbers, and PC
+is-stop : (m : Machine) (number : ℕ) → 3 < number → number < 8 → IsStop m (located number (m .control .pc))
+is-stop m number h l = record {
   number = number;
-  address = address;
+  stops = record { least = omega arith; most = omega arith };
   is = refl;
-  least = omega arith;
-  most = omega arith;
 }
 
 module _ (image : List ℕ) (m : Machine) (request : ℕ) (size : isSpace (length image) ≡ true)
     (formed : isWellFormed m ≡ true) where
-  by-decoding : (a : Answer decode.Decoding) → AtAddress (m .control .pc) a → (r : Numbered) → a ≡ refused r → IsStop r
+  by-decoding :
+      (a : Answer decode.Decoding) → AtAddress (m .control .pc) a → (r : Numbered) → a ≡ refused r → IsStop m r
   by-decoding (done d) at r e = let z : _≡_ {A = ℕ} 0 1 = cc in absurd (omega arith)
   by-decoding (refused q) (inl is) r e =
-      let f : r ≡ located 4 (m .control .pc) = cc in rw f (is-stop 4 (m .control .pc) (omega arith) (omega arith))
+      let f : r ≡ located 4 (m .control .pc) = cc in rw f (is-stop m 4 (omega arith) (omega arith))
   by-decoding (refused q) (inr is) r e =
-      let f : r ≡ located 5 (m .control .pc) = cc in rw f (is-stop 5 (m .control .pc) (omega arith) (omega arith))
+      let f : r ≡ located 5 (m .control .pc) = cc in rw f (is-stop m 5 (omega arith) (omega arith))
 
-  pub numbered-stop : (r : Numbered) → StepStops image m request r → IsStop r
-  numbered-stop _ (request-full source e l) = is-stop 6 (m .control .pc) (omega arith) (omega arith)
+  numbered-stop : (r : Numbered) → StepStops image m request r → IsStop m r
+  numbered-stop _ (request-full source e l) = is-stop m 6 (omega arith) (omega arith)
   numbered-stop r (undecoded _ none awake e) =
       by-decoding (decodeAt image (m .control .pc))
       (at-address image (m .control .pc) size (formed-exactly .facts (m .stack) (m .control) formed .pc)) r e
-  numbered-stop _ (call-full to bytes cycles none awake at l) = is-stop 6 (m .control .pc) (omega arith) (omega arith)
-  numbered-stop _ (ret-empty bytes cycles none awake at l) = is-stop 7 (m .control .pc) (omega arith) (omega arith)
-  numbered-stop _ (reti-empty bytes cycles none awake at l mode) =
-      is-stop 7 (m .control .pc) (omega arith) (omega arith)
+  numbered-stop _ (call-full to bytes cycles none awake at l) = is-stop m 6 (omega arith) (omega arith)
+  numbered-stop _ (ret-empty bytes cycles none awake at l) = is-stop m 7 (omega arith) (omega arith)
+  numbered-stop _ (reti-empty bytes cycles none awake at l mode) = is-stop m 7 (omega arith) (omega arith)
 
 pub stops-numbered : StopsNumbered
 stops-numbered image m request size formed r stop = numbered-stop image m request size formed r stop
@@ -180,21 +177,16 @@ pub data Tested (image : List ℕ) (m : Machine) (request : ℕ) : Step → Type
   refuses : (r : Numbered) → StepRefused image m request r → Tested image m request (refusedOf m r)
   passes :
       isImage (length image) ≡ true → isWellFormed m ≡ true → namesOnlySources request ≡ true →
-      Tested image m request (advancedOf (programOf image (m .bytes)) m request)
+      (s : Step) → Does (programOf image (m .bytes)) m request s → Tested image m request s
 
 pub step-tested : (image : List ℕ) (m : Machine) (request : ℕ) → Tested image m request (stepOf image m request)
-unfolding stepOf
-step-tested image m request =
-    by-tests (isImage (length image)) refl (isWellFormed m) refl (namesOnlySources request) refl
+unfolding stepOf actedOf
+step-tested image m request = by-tests (actionOf image m request) (is-tested image m request)
   where
     by-tests :
-        (i : Bool) → isImage (length image) ≡ i → (w : Bool) → isWellFormed m ≡ w → (n : Bool) →
-        namesOnlySources request ≡ n →
-        Tested image m request
-        (unless i (refusedOf m (plain 1))
-        (unless w (refusedOf m (plain 2))
-        (unless n (refusedOf m (plain 11)) (advancedOf (programOf image (m .bytes)) m request))))
-    by-tests false e w f n g = refuses (plain 1) (image-length e)
-    by-tests true e false f n g = refuses (plain 2) (ill-formed e f)
-    by-tests true e true f false g = refuses (plain 11) (unknown-source e f g)
-    by-tests true e true f true g = passes e f g
+        (a : StepAction) → ActionTested image m request a →
+        Tested image m request (actedOf (programOf image (m .bytes)) m a)
+    by-tests _ (refusing r why) = refuses r why
+    by-tests _ (passing i w n) =
+        passes i w n _
+        (acts (programOf image (m .bytes)) m request w _ (is-due (programOf image (m .bytes)) m request))

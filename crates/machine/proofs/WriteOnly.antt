@@ -21,7 +21,7 @@ use Rattle.machine.specs.declared.Machine.{Machine}
 use Rattle.machine.specs.Execute.{executeOf}
 use Rattle.machine.specs.State.{viewOf, withByte}
 use Rattle.machine.specs.Advance.{Step, completedOf, executedOf, advancedOf}
-use Rattle.machine.specs.Step.{stepOf}
+use Rattle.machine.specs.Step.{dueOf, stepOf}
 use Rattle.machine.specs.Reading.{readingOf}
 use Rattle.machine.specs.Laws.{executionAt}
 use Rattle.machine.specs.OriginTold.{Executes, AgreeOn}
@@ -72,7 +72,7 @@ agree image m i o a value w e =
     }
 
 pub write-only : WriteOnly
-unfolding operandOf readingOf advancedOf
+unfolding operandOf readingOf advancedOf dueOf
 write-only = record {
   reads = λ image m a e. reads-zero image (m .bytes) a e;
   operands = λ image m o e. reads-zero image (m .bytes) _ e;

@@ -1,22 +1,15 @@
 -- One step that is not refused (document 01, "Modes, stack, sleep" and "Step").
 use Prim.Native.Nat.{ℕ}
-use mathlib.Core.Bool.{Bool, cond}
 use mathlib.Core.List.{List}
-use lib.ListN.{getD}
-use Rattle.alu.specs.Alu.{bitOf}
 use Rattle.isa.specs.Refusals.{Numbered, located, numbered, Answer, done, refused}
 use Rattle.isa.specs.Displacement.{forwardOf}
-use Rattle.isa.specs.Decode.{decodeAt}
-use Rattle.isa.specs.Decode as decode
 use Rattle.isa.specs.declared.Instruction.{Instruction}
 use Rattle.isa.specs.declared.Source.{Source}
 use Rattle.control.specs.declared.Mode.{Mode}
 use Rattle.control.specs.declared.Stop.{Stop}
 use Rattle.control.specs.declared.Stop.the-variants as stop
-use Rattle.control.specs.declared.Requested.{Requested}
-use Rattle.control.specs.declared.Requested.the-variants.{Nothing, Taken}
 use Rattle.control.specs.Stack.{Transferred}
-use Rattle.control.specs.Requests.{requestedOf, takeOf}
+use Rattle.control.specs.Requests.{takeOf}
 use Rattle.machine.specs.declared.FlagPairs.{FlagPairs}
 use Rattle.machine.specs.declared.Machine.{Machine}
 use Rattle.machine.specs.declared.StepAnswer.{StepAnswer}
@@ -25,6 +18,7 @@ use Rattle.machine.specs.declared.Advanced.{Advanced}
 use Rattle.machine.specs.Pairs.{withPairOf}
 use Rattle.machine.specs.Execute.{Execution, executeOf}
 use Rattle.machine.specs.State.{machineOf, viewOf}
+use Rattle.machine.specs.Actions.{StepAction, takes, idles, executes, refuses, dueOf}
 
 -- a step's answer by document 01's numbers: done in so many cycles, or refused or stopped
 abbrev pub answerOf : StepAnswer → Answer ℕ
@@ -80,24 +74,14 @@ unfoldable pub executedOf : (image : List ℕ) → Machine → Instruction → (
 executedOf image m i bytes cycles =
     completedOf m cycles (executeOf image (viewOf m) (m .stack) (m .control) i (forwardOf (m .control .pc) bytes))
 
--- "4 and 5 as in decoding"
-unfoldable pub decodedOf : (image : List ℕ) → Machine → Answer decode.Decoding → Step
-decodedOf image m (done (decode.instruction i bytes cycles)) = executedOf image m i bytes cycles
-decodedOf image m (refused r) = refusedOf m r
-
--- "a sleeping step with nothing to take is idle, 0 cycles"; else the instruction at PC
-unfoldable pub uninterruptedOf : (image : List ℕ) → Machine → Step
-uninterruptedOf image m = cond (m .control .asleep) (doneOf m 0) (decodedOf image m (decodeAt image (m .control .pc)))
-
-unfoldable pub respondOf : (image : List ℕ) → Machine → Requested → Step
-respondOf image m (Taken source) = takenOf m source
-respondOf image m Nothing = uninterruptedOf image m
-
--- "Bit 4 of 0C8h enables sources 1 to 4.": of the byte stored there, not of a program's read, which gives 0. "The stored
--- bytes still drive the enable and the window." (document 02, W-204)
-abbrev pub enabledOf : (bytes : List ℕ) → Bool
-enabledOf bytes = bitOf (getD bytes 0xC8 0) 4
+-- what comes of an action
+unfoldable pub actedOf : (image : List ℕ) → Machine → StepAction → Step
+actedOf image m (takes source) = takenOf m source
+-- "a sleeping step with nothing to take is idle, 0 cycles"
+actedOf image m idles = doneOf m 0
+actedOf image m (executes i bytes cycles) = executedOf image m i bytes cycles
+actedOf image m (refuses r) = refusedOf m r
 
 -- a step that is not refused
 unfoldable pub advancedOf : (image : List ℕ) → Machine → (request : ℕ) → Step
-advancedOf image m request = respondOf image m (requestedOf (m .control .mode) (enabledOf (m .bytes)) request)
+advancedOf image m request = actedOf image m (dueOf image m request)

@@ -5,21 +5,23 @@ use mathlib.Core.Path.{_≡_}
 use mathlib.Core.Bool.{true, false}
 use mathlib.Core.List.{List, [], _∷_}
 use lib.ListN.{length, drop}
-use Rattle.isa.specs.Refusals.{Numbered, plain, located, Ended, done, refused}
+use Rattle.isa.specs.Refusals.{Numbered, located, Ended, done, refused}
 use Rattle.isa.specs.RoundTrip.{Bytes}
+use Rattle.isa.specs.Sources.{namesOnlySources}
 use Rattle.isa.specs.Displacement.{forwardOf}
 use Rattle.isa.specs.ControlFlow.{flowOf}
 use Rattle.isa.specs.Rom.{isImage, isSpace}
 use Rattle.isa.specs.declared.Instruction.{Instruction}
 use Rattle.isa.specs.declared.Flow.the-variants as flow
 use Rattle.isa.specs.declared.Source.{Source}
+use Rattle.data.specs.Space.{programOf}
 use Rattle.control.specs.declared.Stop.the-variants as stop
 use Rattle.control.specs.Update.{withPc}
 use Rattle.control.specs.Requests.{takeOf}
 use Rattle.machine.specs.declared.Machine.{Machine}
 use Rattle.machine.specs.Execute.{Execution, executeOf}
 use Rattle.machine.specs.State.{viewOf, isWellFormed, hostStoreOf, resetOf}
-use Rattle.machine.specs.Advance.{Step, doneOf, refusedOf, servedOf, afterOf, executedOf, advancedOf}
+use Rattle.machine.specs.Advance.{Step, doneOf, refusedOf, servedOf, afterOf, executedOf}
 use Rattle.machine.specs.Step.{stepOf}
 use Rattle.machine.specs.Steps.{Run, runAt, stepsOf, requestsFit}
 use Rattle.machine.specs.Run.{runOf}
@@ -29,23 +31,27 @@ use Rattle.machine.specs.Refusals.{Takes, TakesNone, AtPc, StepStops}
 abbrev pub executionAt : (image : List ℕ) → Machine → Instruction → (bytes : ℕ) → Execution
 executionAt image m i bytes = executeOf image (viewOf m) (m .stack) (m .control) i (forwardOf (m .control .pc) bytes)
 
--- "A stop is a step's 4, 5, 6 or 7", each with an address
-pub record IsStop (r : Numbered) : Type 0 where
-  pub number : ℕ
-  pub address : ℕ
-  pub is : r ≡ located number address
+-- "A stop is a step's 4, 5, 6 or 7"
+pub record StopNumber (number : ℕ) : Type 0 where
   pub least : 4 ≤ number
   pub most : number ≤ 7
+
+-- .. with the address of its instruction, and "a request's 6 gives PC": that of the machine on which the step stops
+pub record IsStop (m : Machine) (r : Numbered) : Type 0 where
+  pub number : ℕ
+  pub stops : StopNumber number
+  pub is : r ≡ located number (m .control .pc)
 
 -- .. of every case in which a step stops
 -- proved by stops-numbered, proofs/StepDoes
 abbrev pub StopsNumbered : Type 0
 StopsNumbered =
     (image : List ℕ) (m : Machine) (request : ℕ) → isSpace (length image) ≡ true → isWellFormed m ≡ true →
-    (r : Numbered) → StepStops image m request r → IsStop r
+    (r : Numbered) → StepStops image m request r → IsStop m r
 
--- What a step that is not refused does: it stops and leaves the machine as it was, or takes a request in one cycle,
--- or is idle in none, or executes the instruction at PC in the cycles of the table
+-- What a step that is not refused does in a program space: it stops and leaves the machine as it was, or takes a
+-- request
+-- in one cycle, or is idle in none, or executes the instruction at PC in the cycles of the table
 pub data Does (image : List ℕ) (m : Machine) (request : ℕ) : Step → Type 0 where
   stops : (r : Numbered) → StepStops image m request r → Does image m request (refusedOf m r)
   takes :
@@ -58,11 +64,13 @@ pub data Does (image : List ℕ) (m : Machine) (request : ℕ) : Step → Type 0
       executionAt image m i bytes .stop ≡ stop.None →
       Does image m request (doneOf (afterOf m (executionAt image m i bytes)) cycles)
 
+-- of every step to which 1, 2 and 11 do not apply
 -- proved by step-does, proofs/StepDoes
 abbrev pub StepDoes : Type 0
 StepDoes =
-    (image : List ℕ) (m : Machine) (request : ℕ) → isSpace (length image) ≡ true → isWellFormed m ≡ true →
-    Does image m request (advancedOf image m request)
+    (image : List ℕ) (m : Machine) (request : ℕ) → isImage (length image) ≡ true → isWellFormed m ≡ true →
+    namesOnlySources request ≡ true →
+    Does (programOf image (m .bytes)) m request (stepOf image m request)
 
 -- a data instruction, whose flow is the next address, moves PC there, and leaves stack, mode, levels and sleep
 pub record GoesOn (image : List ℕ) (m : Machine) (i : Instruction) (bytes cycles : ℕ) : Type 0 where
@@ -93,17 +101,18 @@ pub record StaysWellFormed : Type 0 where
       (m : Machine) → isWellFormed m ≡ true → (a value : ℕ) → isWellFormed (hostStoreOf m a value .machine) ≡ true
   pub by-reset : (m : Machine) → isWellFormed (resetOf m) ≡ true
 
--- so a run ends early only where a step stops, never with 1, 2 or 11 midway
-abbrev pub StopsOnly : Ended → Type 0
-StopsOnly (done tt) = Unit {0}
-StopsOnly (refused r) = IsStop r
+-- so a run ends early only where a step stops, never with 1, 2 or 11 midway, and with PC of the machine that it leaves
+abbrev pub StopsOnly : Machine → Ended → Type 0
+StopsOnly m (done tt) = Unit {0}
+StopsOnly m (refused r) = IsStop m r
 
 -- proved by run-ends-by-stop, proofs/Laws
 abbrev pub RunEndsByStop : Type 0
 RunEndsByStop =
     (image : List ℕ) → Bytes image → isImage (length image) ≡ true → (requests : List ℕ) (n : ℕ) →
     requestsFit requests n ≡ true →
-    (m : Machine) → isWellFormed m ≡ true → StopsOnly (stepsOf image requests m n .report .ending)
+    (m : Machine) → isWellFormed m ≡ true →
+    StopsOnly (stepsOf image requests m n .machine) (stepsOf image requests m n .report .ending)
 
 -- a run, and another on the machine that it leaves
 abbrev pub followedBy : Run → Run → Run

@@ -1,7 +1,8 @@
+-- what a reader must believe: definitions of operations, and claims
 pub mod Pairs
 pub mod Execute
 pub mod State
-pub mod Fetch
+pub mod Actions
 pub mod Advance
 pub mod Step
 pub mod Steps
@@ -14,3 +15,6 @@ pub mod PairUse
 pub mod OriginTold
 pub mod WriteOnly
 pub mod OnePage
+pub mod UnderWindow
+-- for the contracts of functions inside; no claim uses them
+pub mod Fetch

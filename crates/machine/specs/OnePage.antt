@@ -13,13 +13,12 @@ use Rattle.isa.specs.Refusals.{plain, Answer, Ended, done, refused, unless}
 use Rattle.isa.specs.Sources.{namesOnlySources}
 use Rattle.data.specs.declared.OriginRead.{OriginRead}
 use Rattle.data.specs.Space.{readOf, originOf}
-use Rattle.control.specs.Requests.{requestedOf}
 use Rattle.machine.specs.declared.Machine.{Machine}
 use Rattle.machine.specs.State.{machineOf, clearedPairs, resetControl, isWellFormed, resetOf}
-use Rattle.machine.specs.Step.{Step, refusedOf, enabledOf, advancedOf, stepOf}
+use Rattle.machine.specs.Step.{Step, refusedOf, dueOf, advancedOf, stepOf}
 use Rattle.machine.specs.Steps.{Run, runAt, joinedOf}
 use Rattle.machine.specs.Run.{requestsFit, refusedRun, stepsOf, runOf}
-use Rattle.machine.specs.Operands.{respondRead, readIfDone, stepReadOf}
+use Rattle.machine.specs.Operands.{actionRead, readIfDone, stepReadOf}
 use Rattle.machine.specs.Reading.{Reading, readingAs, readingOf}
 
 -- a step
@@ -33,7 +32,7 @@ stepUnpaged image m request =
 abbrev pub stepReadUnpaged : (image : List ℕ) → Machine → (request : ℕ) → OriginRead
 stepReadUnpaged image m request =
     readIfDone (stepUnpaged image m request .answer)
-    (respondRead image (m .bytes) (m .control) (requestedOf (m .control .mode) (enabledOf (m .bytes)) request))
+    (actionRead image (m .bytes) (dueOf image m request))
 
 -- the steps of a run
 abbrev pub continuedUnpaged : (image : List ℕ) → Run → (request : ℕ) → Ended → Run

@@ -5,12 +5,16 @@ use mathlib.Core.Path.{_≡_}
 use mathlib.Core.Bool.{true, false}
 use mathlib.Core.List.{List}
 use lib.ListN.{length, getD}
+use lib.IntN.{ℤ}
 use Rattle.isa.specs.Refusals.{done}
 use Rattle.isa.specs.Sources.{namesOnlySources}
 use Rattle.isa.specs.Rom.{isImage}
 use Rattle.isa.specs.declared.Instruction.{Instruction}
 use Rattle.isa.specs.declared.Instruction.the-variants as I
 use Rattle.isa.specs.declared.Operand.{Operand}
+use Rattle.isa.specs.declared.Operand.the-variants.{Direct, Short, ThroughX, ThroughY}
+use Rattle.isa.specs.declared.Encoded.the-variants.{Unencodable}
+use Rattle.isa.specs.Encode.{encodeOf}
 use Rattle.data.specs.declared.Origin.{Origin}
 use Rattle.data.specs.declared.OperandRead.the-variants.{Nothing, Is}
 use Rattle.data.specs.declared.OriginRead.the-variants.{From}
@@ -19,10 +23,10 @@ use Rattle.data.specs.Effect.{accumulatorOf}
 use Rattle.data.specs.Reads.{operandReadOf}
 use Rattle.data.specs.Laws.{ComesFrom}
 use Rattle.machine.specs.declared.Machine.{Machine}
-use Rattle.machine.specs.State.{isWellFormed}
+use Rattle.machine.specs.State.{isWellFormed, withByte}
 use Rattle.machine.specs.Step.{Step, stepOf}
 use Rattle.machine.specs.Refusals.{TakesNone, AtPc}
-use Rattle.machine.specs.Reading.{Reading, readingAs, readingOf}
+use Rattle.machine.specs.Reading.{readingAs, readingOf}
 use Rattle.machine.specs.Operands.{stepReadOf}
 
 -- a step comes to the instruction at PC: it is not refused, takes no request and is awake
@@ -103,6 +107,48 @@ pub record StepsAlike (m m′ : Machine) (s s′ : Step) : Type 0 where
   pub first : s .machine .bytes ≡ storedBy stores (m .bytes)
   pub second : s′ .machine .bytes ≡ storedBy stores (m′ .bytes)
 
+-- two data operands of one kind
+pub data SameKind : Operand → Operand → Type 0 where
+  direct : (a b : ℕ) → SameKind (Direct a) (Direct b)
+  short : (n k : ℕ) → SameKind (Short n) (Short k)
+  through-x : SameKind ThroughX ThroughX
+  through-y : SameKind ThroughY ThroughY
+
+-- two instructions of one form, of those with a data operand, read or not, and with operands of one kind
+pub data SameForm : Instruction → Instruction → Type 0 where
+  loads : (o p : Operand) → SameKind o p → SameForm (I.LoadA o) (I.LoadA p)
+  stores : (o p : Operand) → SameKind o p → SameForm (I.StoreA o) (I.StoreA p)
+  stores-immediate : (a b v w : ℕ) → SameForm (I.LoadImmediate a v) (I.LoadImmediate b w)
+  increments : (o p : Operand) → SameKind o p → SameForm (I.Inc o) (I.Inc p)
+  decrements : (o p : Operand) → SameKind o p → SameForm (I.Dec o) (I.Dec p)
+  adds : (o p : Operand) → SameKind o p → SameForm (I.Add o) (I.Add p)
+  subtracts : (o p : Operand) → SameKind o p → SameForm (I.Sub o) (I.Sub p)
+  ands : (o p : Operand) → SameKind o p → SameForm (I.And o) (I.And p)
+  compares : (o p : Operand) → SameKind o p → SameForm (I.Cp o) (I.Cp p)
+  sets : (n k a b : ℕ) → SameForm (I.Set n a) (I.Set k b)
+  resets : (n k a b : ℕ) → SameForm (I.Res n a) (I.Res k b)
+  jumps-reset : (n k a b : ℕ) (d e : ℤ) → SameForm (I.Jrr n a d) (I.Jrr k b e)
+  jumps-set : (n k a b : ℕ) (d e : ℤ) → SameForm (I.Jrs n a d) (I.Jrs k b e)
+
+-- the byte that an instruction of this form is told to read matters: two machines that differ in it alone come to the
+-- instruction, and do not step alike
+pub record Matters (i : Instruction) : Type 0 where
+  pub like : Instruction
+  pub same-form : SameForm i like
+  pub o : Operand
+  pub reads : operandReadOf like ≡ Is o
+  pub image : List ℕ
+  pub m : Machine
+  pub value : ℕ
+  pub bytes : ℕ
+  pub cycles : ℕ
+  pub first : Executes image m 0 like bytes cycles
+  pub second : Executes image (withByte m (addressOf (m .bytes) o) value) 0 like bytes cycles
+  pub differ :
+      StepsAlike m (withByte m (addressOf (m .bytes) o) value) (stepOf image m 0)
+      (stepOf image (withByte m (addressOf (m .bytes) o) value) 0) →
+      ⊥
+
 -- "Each step tells the origin of the data operand it read, or that it read none"
 -- proved by origin-told, proofs/OriginTold
 pub record OriginTold : Type 0 where
@@ -124,6 +170,10 @@ pub record OriginTold : Type 0 where
       Executes image m request i bytes cycles → Executes image′ m′ request′ i bytes cycles →
       operandReadOf i ≡ Is o → AgreeOn image m image′ m′ i o →
       StepsAlike m m′ (stepOf image m request) (stepOf image′ m′ request′)
+  -- .. and it is used, not just written or passed by: so for each form of an instruction that can be written, and each
+  -- kind of its operand. LDI told as reading would have no such machines
+  pub matters :
+      (i : Instruction) (o : Operand) → (encodeOf i ≡ Unencodable → ⊥) → operandReadOf i ≡ Is o → Matters i
   -- and where an instruction reads none, no other byte of data space and nothing that the ROM window shows is used:
   -- machines that agree on A, X and Y, and on control, stack and flags, step alike
   pub unread :
@@ -132,12 +182,3 @@ pub record OriginTold : Type 0 where
       Executes image m request i bytes cycles → Executes image′ m′ request′ i bytes cycles →
       operandReadOf i ≡ Nothing → AgreeApart m m′ →
       StepsAlike m m′ (stepOf image m request) (stepOf image′ m′ request′)
-
--- "Flags, bytes and cycles are as before": the byte of a reading is that of `readOf`, the one read of a data byte, by
--- which every instruction reads its data operand. A step's machine and answer are those of `stepOf`, which knows no
--- origin
--- proved by bytes-as-before, proofs/OriginTold
-abbrev pub BytesAsBefore : Type 0
-BytesAsBefore =
-    (image : List ℕ) (m : Machine) (a : ℕ) (r : Reading) → readingOf image m a ≡ done r →
-    r .byte ≡ readOf (programOf image (m .bytes)) (m .bytes) a

@@ -1,5 +1,4 @@
 -- The flag pair of a mode (document 01, "Modes, stack, sleep").
-use Prim.Native.Nat.{ℕ}
 use mathlib.Core.Bool.{Bool, true, false}
 use Rattle.alu.specs.declared.Flags.{Flags}
 use Rattle.control.specs.declared.Mode.{Mode}
@@ -38,11 +37,3 @@ withPairOf p Interrupt f = record { normal = p .normal; interrupt = f; nmi = p .
 withPairOf p Reset f = withNmi p f
 withPairOf p NmiOverNormal f = withNmi p f
 withPairOf p NmiOverInterrupt f = withNmi p f
-
--- a mode as a number, by which two are compared
-abbrev pub modeNumber : Mode → ℕ
-modeNumber Reset = 0
-modeNumber Normal = 1
-modeNumber Interrupt = 2
-modeNumber NmiOverNormal = 3
-modeNumber NmiOverInterrupt = 4

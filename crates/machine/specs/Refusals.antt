@@ -19,7 +19,8 @@ use Rattle.control.specs.Modes.{isReset}
 use Rattle.control.specs.Requests.{requestedOf}
 use Rattle.machine.specs.declared.Machine.{Machine}
 use Rattle.machine.specs.State.{isWellFormed, withByte, hostStored, hostStoreOf}
-use Rattle.machine.specs.Advance.{Step, refusedOf, enabledOf}
+use Rattle.machine.specs.Advance.{Step, refusedOf}
+use Rattle.machine.specs.Actions.{enabledOf}
 use Rattle.machine.specs.Step.{stepOf}
 use Rattle.machine.specs.Steps.{stepsOf}
 use Rattle.machine.specs.Run.{refusedRun, runOf}

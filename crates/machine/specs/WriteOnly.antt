@@ -18,7 +18,7 @@ use Rattle.data.specs.Reads.{operandReadOf}
 use Rattle.control.specs.Requests.{requestedOf}
 use Rattle.machine.specs.declared.Machine.{Machine}
 use Rattle.machine.specs.State.{isWellFormed, withByte}
-use Rattle.machine.specs.Step.{respondOf, stepOf}
+use Rattle.machine.specs.Step.{requestedAction, actedOf, stepOf}
 use Rattle.machine.specs.Reading.{readingAs, readingOf}
 use Rattle.machine.specs.OriginTold.{Executes, StepsAlike}
 
@@ -56,8 +56,9 @@ pub record WriteOnly : Type 0 where
       (image : List ℕ) (m : Machine) (request : ℕ) → isImage (length image) ≡ true → isWellFormed m ≡ true →
       namesOnlySources request ≡ true →
       stepOf image m request
-      ≡ respondOf (programOf image (m .bytes)) m
-      (requestedOf (m .control .mode) (bitOf (getD (m .bytes) 0xC8 0) 4) request)
+      ≡ actedOf (programOf image (m .bytes)) m
+      (requestedAction (programOf image (m .bytes)) (m .control)
+      (requestedOf (m .control .mode) (bitOf (getD (m .bytes) 0xC8 0) 4) request))
   -- ".. and the window": what it shows goes by the low six bits of the byte stored at 0C9h
   pub window :
       (image : List ℕ) (m : Machine) (a : ℕ) → 0x40 ≤ a → a < 0x80 →

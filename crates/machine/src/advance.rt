@@ -17,7 +17,8 @@ ghost use Rattle.control.specs.declared.Mode.{Mode};
 ghost use Rattle.machine.specs.declared.FlagPairs.{FlagPairs};
 ghost use Rattle.machine.specs.Pairs.{withPairOf};
 ghost use Rattle.machine.specs.State.{machineOf};
-ghost use Rattle.machine.specs.Advance.{advancedAs, doneOf, refusedOf, takenOf, enabledOf};
+ghost use Rattle.machine.specs.Actions.{enabledOf};
+ghost use Rattle.machine.specs.Advance.{advancedAs, doneOf, refusedOf, takenOf};
 
 // A completed step.
 pub fn done(control: Control, flags: Flags, cycles: u8) -> Advanced

@@ -1,4 +1,5 @@
 // The ST62 machine: control beside the stack, flags and data bytes; step, run, reset, host store and reading a byte.
+mod actions;
 mod advance;
 mod execute;
 mod execute_word;
@@ -11,13 +12,15 @@ pub mod state;
 pub mod step;
 mod steps;
 
-pub use advance::is_enabled;
+pub use actions::request_in;
 use alu::Flags;
 use control::Control;
 use control::Stop;
 use data::Origin;
 use data::OriginRead;
+use isa::Instruction;
 use isa::Refusal;
+use isa::Source;
 
 // Normal and interrupt mode have a flag pair each; the other three modes share the NMI pair.
 pub struct FlagPairs {
@@ -47,6 +50,19 @@ pub struct Executed {
     pub stop: Stop,
 }
 
+// What a step is about to do: it takes a request, is idle, or executes the instruction at PC; or it is refused, or what
+// stands at PC is no instruction.
+pub enum Action {
+    Takes(Source),
+    Idles,
+    Executes {
+        instruction: Instruction,
+        length: u8,
+        cycles: u8,
+    },
+    Refused(Refusal),
+}
+
 // A step's answer: its cycles, or why it was refused or stopped.
 pub enum StepAnswer {
     Done(u8),
@@ -60,10 +76,11 @@ pub struct Advanced {
     pub answer: StepAnswer,
 }
 
-// A step's answer, and the origin of the data operand that it read.
+// A step's answer, the origin of the data operand that it read, and what it was about to do.
 pub struct StepReport {
     pub answer: StepAnswer,
     pub read: OriginRead,
+    pub action: Action,
 }
 
 // What a single step makes of all but the data bytes and the stack, which it is lent.

@@ -3,7 +3,7 @@ use crate::FlagPairs;
 use alu::Flags;
 use control::Mode;
 ghost use mathlib.Core.Path.{_≡_};
-ghost use Rattle.machine.specs.Pairs.{isNormal, isInterrupt, pairOf, withPairOf, modeNumber};
+ghost use Rattle.machine.specs.Pairs.{isNormal, isInterrupt, pairOf, withPairOf};
 
 fn is_normal(mode: Mode) -> bool
     ensures { λ r. ⌜ r ≡ isNormal mode ⌝ }
@@ -67,18 +67,5 @@ pub fn with_pair(pairs: FlagPairs, mode: Mode, flags: Flags) -> FlagPairs
         normal,
         interrupt,
         nmi: flags,
-    }
-}
-
-// A mode as a number, by which two are compared.
-pub fn mode_number(mode: Mode) -> u8
-    ensures { λ r. ⌜ r ≡ modeNumber mode ⌝ }
-{
-    match mode {
-        Mode::Reset => 0,
-        Mode::Normal => 1,
-        Mode::Interrupt => 2,
-        Mode::NmiOverNormal => 3,
-        Mode::NmiOverInterrupt => 4,
     }
 }

@@ -26,7 +26,8 @@ ghost use Rattle.machine.specs.declared.FlagPairs.{FlagPairs};
 ghost use Rattle.machine.specs.Pairs.{withPairOf};
 ghost use Rattle.machine.specs.Fetch.{Coherent, InPlace};
 ghost use Rattle.machine.specs.State.{machineOf};
-ghost use Rattle.machine.specs.Advance.{advancedAs, executedOf, uninterruptedOf, advancedOf};
+ghost use Rattle.machine.specs.Actions.{unrequestedAction};
+ghost use Rattle.machine.specs.Advance.{advancedAs, executedOf, actedOf, advancedOf};
 
 // The instruction of a number: where it stops, control and flags are as they were. The match on its stop stands here,
 // as it does in the single step: an end handed on as a struct costs a run a quarter of its time.
@@ -70,8 +71,9 @@ fn uninterrupted(
     requires { ⌜ Timings (now table) × IsImage (now image) × (c .pc < 4096) × (0 < length (now store))
         × Coherent (now image) (now store) × InPlace (now image) (now bytes) page ⌝ }
     ensures { λ r. ⌜ ((pairs : FlagPairs) → advancedAs pairs (c .mode) (now (bytes .exit)) (now (stack .exit)) r
-        ≡ uninterruptedOf (programOf (now (image .entry)) (now (bytes .entry)))
-        (machineOf c (now (stack .entry)) (withPairOf pairs (c .mode) flags) (now (bytes .entry))))
+        ≡ actedOf (programOf (now (image .entry)) (now (bytes .entry)))
+        (machineOf c (now (stack .entry)) (withPairOf pairs (c .mode) flags) (now (bytes .entry)))
+        (unrequestedAction (programOf (now (image .entry)) (now (bytes .entry))) c))
         × Coherent (now (image .entry)) (now (store .exit)) ⌝ }
 {
     if c.asleep {

@@ -1,5 +1,6 @@
 // A single step: the instruction at PC is decoded once, for what it does and for what it reads. It goes by the
 // instruction, since a number pays only where it is found again, as in a run.
+use crate::Action;
 use crate::Advanced;
 use crate::FlagPairs;
 use crate::Machine;
@@ -7,8 +8,8 @@ use crate::StepAnswer;
 use crate::StepProgress;
 use crate::StepReport;
 use crate::Stepped;
+use crate::actions::due;
 use crate::advance::done;
-use crate::advance::is_enabled;
 use crate::advance::stopped;
 use crate::advance::taken;
 use crate::execute::execute;
@@ -16,43 +17,28 @@ use crate::pairs::pair;
 use crate::pairs::with_pair;
 use alu::Flags;
 use control::Control;
-use control::Requested;
 use control::Stop;
-use control::requests::requested;
 use control::well_formed::is_well_formed;
 use data::OriginRead;
 use data::reads::origin_read;
-use data::space::BANK;
-use isa::Decoded;
 use isa::Instruction;
 use isa::Refusal;
-use isa::decode::decode_in_range;
 use isa::displacement::forward;
 use isa::rom::is_image_length;
 use isa::sources::names_only_sources;
-use isa::table::timings;
 ghost use mathlib.Core.Path.{_≡_};
 ghost use mathlib.Core.List.{List};
-ghost use Prim.Native.Nat.{ℕ, _<_};
+ghost use Prim.Native.Nat.{ℕ};
 ghost use Rattle.isa.specs.Refusals.{numbered};
 ghost use Rattle.isa.specs.Rom.{IsImage};
-ghost use Rattle.isa.specs.Decode.{decodeOf};
 ghost use Rattle.data.specs.declared.OriginRead.the-variants.{Nothing};
 ghost use Rattle.data.specs.Space.{programOf};
-ghost use Rattle.control.specs.Requests.{requestedOf};
 ghost use Rattle.machine.specs.Pairs.{withPairOf};
 ghost use Rattle.machine.specs.State.{machineOf};
-ghost use Rattle.machine.specs.Advance.{
-  answerOf,
-  advancedAs,
-  refusedOf,
-  executedOf,
-  decodedOf,
-  advancedOf,
-  enabledOf,
-};
+ghost use Rattle.machine.specs.Actions.{refuses, actionAs, actionOf};
+ghost use Rattle.machine.specs.Advance.{answerOf, advancedAs, refusedOf, executedOf, actedOf};
 ghost use Rattle.machine.specs.Step.{steppedOf, stepProgressAs, stepOf};
-ghost use Rattle.machine.specs.Operands.{decodedRead, respondRead, readIfDone, stepReadOf};
+ghost use Rattle.machine.specs.Operands.{actionRead, readIfDone, stepReadOf};
 
 // A step that is refused or stops reads no operand.
 fn read_if_done(answer: StepAnswer, read: OriginRead) -> OriginRead
@@ -66,10 +52,16 @@ fn read_if_done(answer: StepAnswer, read: OriginRead) -> OriginRead
 
 // The end of a step: the flag pair of the mode before it is put back among the pairs, and the operand is read if the
 // step is done.
-fn ended(pairs: FlagPairs, c: Control, after: Advanced, read: OriginRead) -> StepProgress
+fn ended(
+    pairs: FlagPairs,
+    c: Control,
+    after: Advanced,
+    read: OriginRead,
+    action: Action,
+) -> StepProgress
     ensures { λ r. ⌜ ((bytes stack : List ℕ)
         → stepProgressAs bytes stack r ≡ advancedAs pairs (c .mode) bytes stack after)
-        × (r .report .read ≡ readIfDone (answerOf (r .report .answer)) read) ⌝ }
+        × (r .report .read ≡ readIfDone (answerOf (r .report .answer)) read) × (r .report .action ≡ action) ⌝ }
 {
     let mode = c.mode;
     let control = after.control;
@@ -80,6 +72,7 @@ fn ended(pairs: FlagPairs, c: Control, after: Advanced, read: OriginRead) -> Ste
         report: StepReport {
             answer,
             read: read_if_done(answer, read),
+            action,
         },
     }
 }
@@ -113,74 +106,46 @@ fn executed(
     }
 }
 
-// The instruction at PC: what it reads, then what it does. PC goes by the length that decoding answers; decoding's
-// refusals are stops.
-fn at_pc(
+// What comes of an action; an instruction is asked for what it reads before it is executed.
+fn act(
     image: &[u8],
     bytes: &mut [u8; 256],
     stack: &mut [u16; 6],
     c: Control,
     pairs: FlagPairs,
+    action: Action,
 ) -> StepProgress
-    requires { ⌜ IsImage (now image) × (c .pc < 4096) ⌝ }
+    requires { ⌜ IsImage (now image) ⌝ }
     ensures { λ r. ⌜ (stepProgressAs (now (bytes .exit)) (now (stack .exit)) r
-        ≡ decodedOf (programOf (now (image .entry)) (now (bytes .entry)))
-        (machineOf c (now (stack .entry)) pairs (now (bytes .entry)))
-        (decodeOf (programOf (now (image .entry)) (now (bytes .entry))) (c .pc)))
+        ≡ actedOf (programOf (now (image .entry)) (now (bytes .entry)))
+        (machineOf c (now (stack .entry)) pairs (now (bytes .entry))) (actionAs action))
         × (r .report .read ≡ readIfDone (answerOf (r .report .answer))
-        (decodedRead (programOf (now (image .entry)) (now (bytes .entry))) (now (bytes .entry))
-        (decodeOf (programOf (now (image .entry)) (now (bytes .entry))) (c .pc)))) ⌝ }
+        (actionRead (programOf (now (image .entry)) (now (bytes .entry))) (now (bytes .entry)) (actionAs action)))
+        × (r .report .action ≡ action) ⌝ }
 {
     let mode = c.mode;
     let flags = pair(pairs, mode);
-    let table = timings();
-    match decode_in_range(&table, image, bytes[BANK], c.pc) {
-        Decoded::Refused(reason) => {
-            let after = stopped(c, flags, reason);
-            return ended(pairs, c, after, OriginRead::Nothing);
+    match action {
+        Action::Takes(source) => {
+            let after = taken(stack, c, flags, source);
+            ended(pairs, c, after, OriginRead::Nothing, action)
         }
-        Decoded::Valid {
+        Action::Idles => {
+            let after = done(c, flags, 0);
+            ended(pairs, c, after, OriginRead::Nothing, action)
+        }
+        Action::Executes {
             instruction,
             length,
             cycles,
         } => {
             let read = origin_read(image, bytes, instruction);
             let after = executed(image, bytes, stack, c, flags, instruction, length, cycles);
-            ended(pairs, c, after, read)
+            ended(pairs, c, after, read, action)
         }
-    }
-}
-
-// A step that is not refused: a request, sleep, or the instruction at PC. Taking a request is a step by itself and
-// reads no operand, and a sleeping machine executes nothing.
-fn advance(
-    image: &[u8],
-    bytes: &mut [u8; 256],
-    stack: &mut [u16; 6],
-    c: Control,
-    pairs: FlagPairs,
-    request: u8,
-) -> StepProgress
-    requires { ⌜ IsImage (now image) × (c .pc < 4096) ⌝ }
-    ensures { λ r. ⌜ (stepProgressAs (now (bytes .exit)) (now (stack .exit)) r
-        ≡ advancedOf (programOf (now (image .entry)) (now (bytes .entry)))
-        (machineOf c (now (stack .entry)) pairs (now (bytes .entry))) request)
-        × (r .report .read ≡ readIfDone (answerOf (r .report .answer))
-        (respondRead (programOf (now (image .entry)) (now (bytes .entry))) (now (bytes .entry)) c
-        (requestedOf (c .mode) (enabledOf (now (bytes .entry))) request))) ⌝ }
-{
-    let mode = c.mode;
-    match requested(mode, is_enabled(bytes), request) {
-        Requested::Taken(source) => {
-            let after = taken(stack, c, pair(pairs, mode), source);
-            ended(pairs, c, after, OriginRead::Nothing)
-        }
-        Requested::Nothing => {
-            if c.asleep {
-                let after = done(c, pair(pairs, mode), 0);
-                return ended(pairs, c, after, OriginRead::Nothing);
-            }
-            at_pc(image, bytes, stack, c, pairs)
+        Action::Refused(reason) => {
+            let after = stopped(c, flags, reason);
+            ended(pairs, c, after, OriginRead::Nothing, action)
         }
     }
 }
@@ -188,7 +153,7 @@ fn advance(
 fn refused_step(control: Control, flags: FlagPairs, reason: Refusal) -> StepProgress
     ensures { λ r. ⌜ ((bytes stack : List ℕ)
         → stepProgressAs bytes stack r ≡ refusedOf (machineOf control stack flags bytes) (numbered reason))
-        × (r .report .read ≡ Nothing) ⌝ }
+        × (r .report .read ≡ Nothing) × (actionAs (r .report .action) ≡ refuses (numbered reason)) ⌝ }
 {
     StepProgress {
         control,
@@ -196,11 +161,12 @@ fn refused_step(control: Control, flags: FlagPairs, reason: Refusal) -> StepProg
         report: StepReport {
             answer: StepAnswer::Refused(reason),
             read: OriginRead::Nothing,
+            action: Action::Refused(reason),
         },
     }
 }
 
-// One step on lent data bytes and a lent stack, and what it read. Refuses with 1, 2, then 11.
+// One step on lent data bytes and a lent stack, what it read, and what it was about to do. Refuses with 1, 2, then 11.
 pub fn step_lent(
     image: &[u8],
     bytes: &mut [u8; 256],
@@ -212,7 +178,9 @@ pub fn step_lent(
     ensures { λ r. ⌜ (stepProgressAs (now (bytes .exit)) (now (stack .exit)) r
         ≡ stepOf (now (image .entry)) (machineOf c (now (stack .entry)) flags (now (bytes .entry))) request)
         × (r .report .read
-        ≡ stepReadOf (now (image .entry)) (machineOf c (now (stack .entry)) flags (now (bytes .entry))) request) ⌝ }
+        ≡ stepReadOf (now (image .entry)) (machineOf c (now (stack .entry)) flags (now (bytes .entry))) request)
+        × (actionAs (r .report .action)
+        ≡ actionOf (now (image .entry)) (machineOf c (now (stack .entry)) flags (now (bytes .entry))) request) ⌝ }
 {
     if !is_image_length(image.len()) {
         return refused_step(c, flags, Refusal::ImageLength);
@@ -223,13 +191,15 @@ pub fn step_lent(
     if !names_only_sources(request) {
         return refused_step(c, flags, Refusal::UnknownSource);
     }
-    advance(image, bytes, stack, c, flags, request)
+    let action = due(image, bytes, c, request);
+    act(image, bytes, stack, c, flags, action)
 }
 
-// One step of a machine, and what it read.
+// One step of a machine, what it read, and what it was about to do.
 pub fn step(image: &[u8], m: Machine, request: u8) -> Stepped
     ensures { λ r. ⌜ (steppedOf r ≡ stepOf (now (image .entry)) m request)
-        × (r .report .read ≡ stepReadOf (now (image .entry)) m request) ⌝ }
+        × (r .report .read ≡ stepReadOf (now (image .entry)) m request)
+        × (actionAs (r .report .action) ≡ actionOf (now (image .entry)) m request) ⌝ }
 {
     let mut bytes = m.bytes;
     let mut stack = m.stack;

@@ -1,8 +1,8 @@
 -- What the maker answers at each of its ends.
-use Prim.Native.Nat.{ℕ, zero, suc, _≤_, _<_}
+use Prim.Native.Nat.{ℕ, zero, suc, _≤_}
 use native.Mathlib.Omega.{arith}
 use mathlib.Core.Path.{_≡_, refl, ap, sym, _∙_, subst}
-use mathlib.Core.Logic.{_⊎_, inl, inr, _≢_}
+use mathlib.Core.Logic.{inl, inr, _≢_}
 use mathlib.Core.Bool.{true, false, false≢true}
 use mathlib.Core.List.{List, [], _∷_, _++_, append-nil}
 use lib.ListN.{length, getD, take, drop, replicate, length-replicate, length-append}
@@ -14,9 +14,9 @@ use Rattle.certificate.proofs.Agreement.{agreement}
 use Rattle.certificate.proofs.Facts.{at-most-4096}
 use Rattle.certificate.specs.Check.{marksIn}
 use Rattle.maker.specs.Least.{NoneAccepted, Least}
-use Rattle.maker.specs.Progress.{Sound}
+use Rattle.maker.specs.Making.{Sound}
 use Rattle.maker.specs.Make.{Makes}
-use Rattle.maker.proofs.Final.{blank-sound}
+use Rattle.maker.proofs.Final.{unmarked-sound}
 
 module _ (image : List ℕ) (wired : ℕ) (before : List ℕ) where
   pub answers-1 : isImage (length image) ≡ false → Makes image wired before before (refused (plain 1))
@@ -66,7 +66,7 @@ part-length image =
 pub new-sound : (image : List ℕ) (wired : ℕ) → isImage (length image) ≡ true
     → Sound image wired (take (marksIn (length image)) (replicate 4096 0))
 new-sound image wired i =
-    blank-sound i (part-length image) (part-zeros (marksIn (length image)) (replicate 4096 0) (zeros 4096))
+    unmarked-sound i (part-length image) (part-zeros (marksIn (length image)) (replicate 4096 0) (zeros 4096))
 
 -- all of a list is copied over another one of its length
 copied : (source target : List ℕ) → length source ≡ length target
@@ -74,30 +74,32 @@ copied : (source target : List ℕ) → length source ≡ length target
 copied source target e = rw (take-all (length source) source (omega arith), e, drop-length target, append-nil)
 
 -- the certificate is the array's first part, and what is copied from it
-module _ {image marks : List ℕ} {wired levels : ℕ} (rest : List ℕ) (least : Least image wired marks levels) where
-  least-length : length marks ≡ marksIn (length image)
-  least-length = agreement image marks wired levels .sound (least .is-accepted) .certificate-length
+module _ {image certificate : List ℕ} {wired levels : ℕ} (rest : List ℕ)
+    (least : Least image wired certificate levels) where
+  least-length : length certificate ≡ marksIn (length image)
+  least-length = agreement image certificate wired levels .sound (least .is-accepted) .certificate-length
 
-  pub made-part : take (marksIn (length image)) (marks ++ rest) ≡ marks
-  made-part = take-at marks rest (marksIn (length image)) least-length
+  pub made-part : take (marksIn (length image)) (certificate ++ rest) ≡ certificate
+  made-part = take-at certificate rest (marksIn (length image)) least-length
 
-  pub made-length : length (take (marksIn (length image)) (marks ++ rest)) ≡ marksIn (length image)
+  pub made-length : length (take (marksIn (length image)) (certificate ++ rest)) ≡ marksIn (length image)
   made-length = ap length made-part ∙ least-length
 
-  pub made-fits : marksIn (length image) ≤ length (marks ++ rest)
+  pub made-fits : marksIn (length image) ≤ length (certificate ++ rest)
   made-fits = simp length-append (omega (arith, least-length))
 
   -- a buffer of the image's length takes it, and then holds it
   pub part-most : (target : List ℕ) → length target ≡ marksIn (length image)
-      → length (take (marksIn (length image)) (marks ++ rest)) ≤ length target
+      → length (take (marksIn (length image)) (certificate ++ rest)) ≤ length target
   part-most target l = omega (arith, l, made-length)
 
   pub copied-least : (target : List ℕ) {after : List ℕ} → length target ≡ marksIn (length image)
       → after
-      ≡ take (length (take (marksIn (length image)) (marks ++ rest))) (take (marksIn (length image)) (marks ++ rest))
-      ++ drop (length (take (marksIn (length image)) (marks ++ rest))) target
+      ≡ take (length (take (marksIn (length image)) (certificate ++ rest))) (take (marksIn (length image))
+      (certificate ++ rest))
+      ++ drop (length (take (marksIn (length image)) (certificate ++ rest))) target
       → Least image wired after levels
   copied-least target l e =
-      let source = take (marksIn (length image)) (marks ++ rest) in
+      let source = take (marksIn (length image)) (certificate ++ rest) in
       subst (λ m. Least image wired m levels)
       (sym (e ∙ copied source target (made-length ∙ sym l) ∙ made-part)) least

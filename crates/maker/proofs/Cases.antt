@@ -4,7 +4,7 @@ use Prim.Native.Nat.{ℕ, zero, suc, _+_, _-_, _/_, _%_, _≤_, _<_}
 use native.Mathlib.Nat.{add-zero}
 use native.Mathlib.Omega.{arith}
 use mathlib.Core.Path.{_≡_, refl, sym, _∙_}
-use mathlib.Core.Logic.{_⊎_, inl, inr, _≢_, ⊎-elim}
+use mathlib.Core.Logic.{_⊎_, inl, inr, _≢_}
 use mathlib.Core.Bool.{true≢false}
 use mathlib.Core.List.{List, [], _∷_}
 use lib.ListN.{length, getD}
@@ -30,69 +30,70 @@ use Rattle.certificate.specs.Cases.{image11, certificate11}
 use Rattle.certificate.proofs.Facts.{kind-of}
 use Rattle.certificate.proofs.Sound.{marked-in-rom}
 use Rattle.certificate.proofs.Cases.{check-cases}
-use Rattle.maker.specs.Reach.{GoesOn, jumps, branches, passes-by, calls, comes-back, ends-start-up, Leads}
-use Rattle.maker.specs.Reach.{Reachable, at-reset, at-vector, onward, Takes, here, along}
+use Rattle.maker.specs.Reach.{Continues, jumps, branches, passes-by, calls, comes-back, ends-start-up, Leads}
+use Rattle.maker.specs.Reach.{Reachable, at-reset, at-vector, onward, UsesLevels, here, along}
 use Rattle.maker.specs.Least.{NoneAccepted, Least}
 use Rattle.maker.specs.Make.{questions}
 use Rattle.maker.specs.Cases.{branchingImage, branchingCertificate, recursiveImage, IsMade, MakeCases}
 use Rattle.maker.proofs.Reached.{taken}
 use Rattle.maker.proofs.Refuted.{too-deep}
-use Rattle.maker.proofs.Outcomes.{marked-or-not, rules-of, one-answer, refused-with-26-exactly}
+use Rattle.maker.proofs.Outcomes.{marked-or-not, rules-of, one-answer, refusals-exactly}
 
 -- a mark's kind is that with which its address is reached, and its need what a path from there takes
 record OnPaths (image : List ℕ) (wired a mark : ℕ) : Type 0 where
   reached : Reachable image wired a (mark / 16)
-  takes : Takes image a (mark / 16) (mark % 16)
+  takes : UsesLevels image a (mark / 16) (mark % 16)
 
 module _ (image : List ℕ) (wired : ℕ) where
   -- each mark of a part
   abbrev AllOnPaths : (a : ℕ) → List ℕ → Type 0
   AllOnPaths a [] = Unit
-  AllOnPaths a (zero ∷ marks) = AllOnPaths (suc a) marks
-  AllOnPaths a (suc m ∷ marks) = OnPaths image wired a (suc m) × AllOnPaths (suc a) marks
+  AllOnPaths a (zero ∷ certificate) = AllOnPaths (suc a) certificate
+  AllOnPaths a (suc m ∷ certificate) = OnPaths image wired a (suc m) × AllOnPaths (suc a) certificate
 
-  at-index : (a : ℕ) (marks : List ℕ) → AllOnPaths a marks → (i : ℕ) → i < length marks → getD marks i 0 ≢ 0
-      → OnPaths image wired (a + i) (getD marks i 0)
+  at-index : (a : ℕ) (certificate : List ℕ) → AllOnPaths a certificate → (i : ℕ) → i < length certificate →
+      getD certificate i 0 ≢ 0
+      → OnPaths image wired (a + i) (getD certificate i 0)
   at-index a [] all i h n = absurd (omega arith)
-  at-index a (zero ∷ marks) all zero h n = absurd (n refl)
-  at-index a (suc m ∷ marks) all zero h n = rw add-zero (all .0)
-  at-index a (zero ∷ marks) all (suc i) h n =
+  at-index a (zero ∷ certificate) all zero h n = absurd (n refl)
+  at-index a (suc m ∷ certificate) all zero h n = rw add-zero (all .0)
+  at-index a (zero ∷ certificate) all (suc i) h n =
       let e : a + suc i ≡ suc a + i = omega arith in
-      rw e (at-index (suc a) marks all i (omega arith) n)
-  at-index a (suc m ∷ marks) all (suc i) h n =
+      rw e (at-index (suc a) certificate all i (omega arith) n)
+  at-index a (suc m ∷ certificate) all (suc i) h n =
       let e : a + suc i ≡ suc a + i = omega arith in
-      rw e (at-index (suc a) marks (all .1) i (omega arith) n)
+      rw e (at-index (suc a) certificate (all .1) i (omega arith) n)
 
   -- an accepted certificate of a 2K image, all of whose marks are on paths, is the least
-  module _ (marks : List ℕ) (levels : ℕ) (size : length marks ≡ 2048) (all : AllOnPaths 0x800 marks)
-      (accepts : checkOf image marks wired ≡ accepted levels) where
-    on-paths : (a : ℕ) → Marked marks a → OnPaths image wired a (markAt marks a)
+  module _ (certificate : List ℕ) (levels : ℕ) (size : length certificate ≡ 2048) (all : AllOnPaths 0x800 certificate)
+      (accepts : checkOf image certificate wired ≡ accepted levels) where
+    on-paths : (a : ℕ) → Marked certificate a → OnPaths image wired a (markAt certificate a)
     on-paths a n =
-        let m = marked-in-rom marks a n in
+        let m = marked-in-rom certificate a n in
         let low = m .most in
         let high = m .least in
-        let e : 0x800 + (a + length marks - 4096) ≡ a = omega arith in
+        let e : 0x800 + (a + length certificate - 4096) ≡ a = omega arith in
         rw (m .mark)
-        (rw e at (at-index 0x800 marks all (a + length marks - 4096) (omega arith) (λ z. n (m .mark ∙ z))))
+        (rw e at (at-index 0x800 certificate all (a + length certificate - 4096) (omega arith) (λ z. n (m .mark ∙ z))))
 
-    only-reachable : (a : ℕ) → Marked marks a → Reachable image wired a (kindAt marks a)
+    only-reachable : (a : ℕ) → Marked certificate a → Reachable image wired a (kindAt certificate a)
     unfolding kindAt
     only-reachable a n =
         let w = rules-of accepts .marked a n .mark in
-        rw (kind-of (markAt marks a) w) (on-paths a n .reached)
+        rw (kind-of (markAt certificate a) w) (on-paths a n .reached)
 
     no-smaller : (other : List ℕ) (number : ℕ) → checkOf image other wired ≡ accepted number → (a : ℕ)
-        → needAt marks a ≤ needAt other a
+        → needAt certificate a ≤ needAt other a
     unfolding needAt
-    no-smaller other number e a = go (marked-or-not marks a)
+    no-smaller other number e a = go (marked-or-not certificate a)
       where
-        go : (markAt marks a ≡ 0) ⊎ Marked marks a → markAt marks a % 16 ≤ needAt other a
+        go : (markAt certificate a ≡ 0) ⊎ Marked certificate a → markAt certificate a % 16 ≤ needAt other a
         go (inl z) = rw z (omega arith)
         go (inr n) =
             let p = on-paths a n in
-            taken (rules-of e) a (markAt marks a / 16) (markAt marks a % 16) (p .reached) (p .takes)
+            taken (rules-of e) a (markAt certificate a / 16) (markAt certificate a % 16) (p .reached) (p .takes)
 
-    least-of : Least image wired marks levels
+    least-of : Least image wired certificate levels
     least-of = record { is-accepted = accepts; only-reachable = only-reachable; no-smaller = no-smaller }
 
 -- the maker writes the least certificate
@@ -112,13 +113,13 @@ least-made {image} {certificate} {wired} {levels} least before after answer size
 
 -- a mark, and those after it
 mark : {image : List ℕ} {wired a m : ℕ} {More : Type 0} → Reachable image wired a (m / 16)
-    → Takes image a (m / 16) (m % 16) → More → OnPaths image wired a m × More
+    → UsesLevels image a (m / 16) (m % 16) → More → OnPaths image wired a m × More
 mark r t more = (record { reached = r; takes = t }, more)
 
 -- an instruction leads on
 decoding : {image : List ℕ} {a kind b kind′ levels : ℕ} {i : Instruction} {bytes cycles : ℕ}
     → Decode.decodeAt (Rom.spaceOf image 0) a ≡ done (Decode.instruction i bytes cycles)
-    → GoesOn kind (ControlFlow.flowOf i a) (forwardOf a bytes) b kind′ levels → Leads image a kind b kind′ levels
+    → Continues kind (ControlFlow.flowOf i a) (forwardOf a bytes) b kind′ levels → Leads image a kind b kind′ levels
 decoding {i = i} {bytes = bytes} {cycles = cycles} d g =
     record { bank = 0; instruction = i; bytes = bytes; cycles = cycles; decodes = d; goes-on = g }
 
@@ -177,10 +178,10 @@ least11 = least-of image11 0x01 certificate11 2 refl all (check-cases .p11)
     r881 : Reachable image11 0x01 0x881 2
     r881 = onward r880 (s .ends)
 
-    t881 : Takes image11 0x881 2 1
+    t881 : UsesLevels image11 0x881 2 1
     t881 = along (s .call) here
 
-    t880 : Takes image11 0x880 1 1
+    t880 : UsesLevels image11 0x880 1 1
     t880 = along (s .ends) t881
 
     all : AllOnPaths image11 0x01 0x800 certificate11
@@ -210,10 +211,10 @@ least-branching = least-of branchingImage 0x00 branchingCertificate 1 refl all b
     r883 : Reachable branchingImage 0x00 0x883 1
     r883 = onward r880 (s .branch)
 
-    t883 : Takes branchingImage 0x883 1 1
+    t883 : UsesLevels branchingImage 0x883 1 1
     t883 = along (s .call) here
 
-    t880 : Takes branchingImage 0x880 1 1
+    t880 : UsesLevels branchingImage 0x880 1 1
     t880 = along (s .branch) t883
 
     all : AllOnPaths branchingImage 0x00 0x800 branchingCertificate
@@ -232,7 +233,7 @@ none-recursive wired =
     s : StepsRecursive
     s = steps .2
 
-    deeper : (n : ℕ) → Takes recursiveImage 0x890 4 n
+    deeper : (n : ℕ) → UsesLevels recursiveImage 0x890 4 n
     deeper zero = here
     deeper (suc n) =
         let e : suc n ≡ n + 1 = omega arith in
@@ -247,6 +248,6 @@ make-cases =
       branching-made = least-made least-branching;
       recursive = none-recursive;
       recursive-refused = λ before after answer size makes.
-          refused-with-26-exactly recursiveImage 0x00 before after answer makes .always
+          refusals-exactly recursiveImage 0x00 before after answer makes .each .1 .1 .1 .0 .always
           (λ p. true≢false p, (λ p. true≢false p, (λ p. p size, tt))) (none-recursive 0x00);
     }

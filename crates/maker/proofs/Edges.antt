@@ -11,26 +11,27 @@ use lib.ListN.{length, getD, set}
 use lib.Seq.{getD-set-other}
 use borrow.Author.Tests.{eqb-true, eqb-false, lt-ltb, le-ltb}
 use Rattle.certificate.specs.Marks.{markAt, kindAt, needAt}
-use Rattle.maker.specs.declared.Progress.{Progress}
-use Rattle.maker.specs.declared.Progress.the-variants.{Same}
+use Rattle.maker.specs.declared.Change.{Change}
+use Rattle.maker.specs.declared.Change.the-variants.{Same}
 use Rattle.maker.specs.Reach.{along}
-use Rattle.maker.specs.Progress.{Sound, Kept, Stepped, joined, Demanded, Edge, leaves, FirstEdge}
-use Rattle.maker.specs.Progress.{linkAt, NoEdges, Known, Explored, Raised, Spread}
+use Rattle.maker.specs.Making.{Sound, Kept, Worked, joined, Demanded, Edge, leaves, FirstEdge}
+use Rattle.maker.specs.Making.{linkAt, NoEdges, Known, Explored, Raised, Spread}
 use Rattle.maker.proofs.Rising.{then, by}
 use Rattle.maker.proofs.Reached.{goes-bounded, has-mark}
 use Rattle.maker.proofs.Following.{takes-need, kind-most}
 use Rattle.maker.proofs.Final.{only-reachable}
 
-pub kind-at-most : (marks : List ℕ) (a : ℕ) → kindAt marks a ≤ 4
+pub kind-at-most : (certificate : List ℕ) (a : ℕ) → kindAt certificate a ≤ 4
 unfolding kindAt
-kind-at-most marks a = kind-most (markAt marks a)
+kind-at-most certificate a = kind-most (markAt certificate a)
 
 -- an edge leads to an address that has a kind, and takes at most one level
-edge-bounded : {image marks : List ℕ} {from to levels : ℕ} → Edge image marks from to levels
-    → (1 ≤ kindAt marks to) × (levels ≤ 1)
-edge-bounded {marks = marks} {from} {to} {levels} e =
+edge-bounded : {image certificate : List ℕ} {from to levels : ℕ} → Edge image certificate from to levels
+    → (1 ≤ kindAt certificate to) × (levels ≤ 1)
+edge-bounded {certificate = certificate} {from} {to} {levels} e =
     let b =
-    goes-bounded (kindAt marks from) _ _ to (kindAt marks to) levels (e .kind-least) (kind-at-most marks from)
+    goes-bounded (kindAt certificate from) _ _ to (kindAt certificate to) levels (e .kind-least) (kind-at-most
+    certificate from)
     (e .leads .goes-on) in
     (b .0, b .2)
 
@@ -88,13 +89,14 @@ other-page from page h k =
 
 -- an edge is noted
 pub recorded-one : (edges : List ℕ) (edge to levels earlier v : ℕ) → to < 4096
-    → v ≡ earlier * 0x10000 + (to * 2 + levels % 2 + 1) → (image marks : List ℕ) → Known image marks edges
-    → Edge image marks (leaves edge) to levels × Unit {0} → Known image marks (set edges edge v)
-recorded-one edges edge to levels earlier v low v-is image marks known each =
+    → v ≡ earlier * 0x10000 + (to * 2 + levels % 2 + 1) → (image certificate : List ℕ) → Known image certificate edges
+    → Edge image certificate (leaves edge) to levels × Unit {0} → Known image certificate (set edges edge v)
+recorded-one edges edge to levels earlier v low v-is image certificate known each =
     record { edge = λ e n. go e n (eqb e edge) refl }
   where
     go : (e : ℕ) → linkAt (set edges edge v) e ≢ 0 → (t : Bool) → eqb e edge ≡ t
-        → Edge image marks (leaves e) ((linkAt (set edges edge v) e - 1) / 2) ((linkAt (set edges edge v) e - 1) % 2)
+        → Edge image certificate (leaves e) ((linkAt (set edges edge v) e - 1) / 2) ((linkAt (set edges edge v) e -
+        1) % 2)
     go e n true p =
         let same = eqb-true e edge p in
         let most = edge-bounded (each .0) .1 in
@@ -110,27 +112,31 @@ recorded-one edges edge to levels earlier v low v-is image marks known each =
 
 -- then another
 pub recorded-two : {before middle after : List ℕ} {P Q : List ℕ → List ℕ → Type 0}
-    → ((image marks : List ℕ) → Known image marks before → P image marks × Unit {0} → Known image marks middle)
-    → ((image marks : List ℕ) → Known image marks middle → Q image marks × Unit {0} → Known image marks after)
-    → (image marks : List ℕ) → Known image marks before → P image marks × (Q image marks × Unit {0})
-    → Known image marks after
-recorded-two f g image marks known each = g image marks (f image marks known (each .0, tt)) (each .1)
+    → ((image certificate : List ℕ) → Known image certificate before → P image certificate × Unit {0} →
+    Known image certificate middle)
+    → ((image certificate : List ℕ) → Known image certificate middle → Q image certificate × Unit {0} →
+    Known image certificate after)
+    → (image certificate : List ℕ) → Known image certificate before → P image certificate × (Q image certificate
+    × Unit {0})
+    → Known image certificate after
+recorded-two f g image certificate known each = g image certificate (f image certificate known (each .0, tt)) (each .1)
 
 -- addresses are explored
-pub explored-none : {image marks edges : List ℕ} → Explored image marks marks edges edges Same
+pub explored-none : {image certificate edges : List ℕ} → Explored image certificate certificate edges edges Same
 explored-none wired s known = (record { sound = s; told = (refl, tt); kept = λ b h. refl }, known)
 
 -- an address is visited, and the edges that leave it are noted
-pub explored-one : {image before after edges edges′ : List ℕ} {p : Progress} {Q : List ℕ → Type 0}
+pub explored-one : {image before after edges edges′ : List ℕ} {p : Change} {Q : List ℕ → Type 0}
     {P : List ℕ → List ℕ → Type 0}
-    → ((image marks : List ℕ) → Known image marks edges → P image marks → Known image marks edges′)
-    → ((wired : ℕ) → Sound image wired before → Stepped image wired Q before after p × P image after)
+    → ((image certificate : List ℕ) → Known image certificate edges → P image certificate →
+    Known image certificate edges′)
+    → ((wired : ℕ) → Sound image wired before → Worked image wired Q before after p × P image after)
     → Explored image before after edges edges′ p
 explored-one {image} {after = after} r v wired s known =
     let t = v wired s in
     (by (λ z. tt) (t .0), r image after (known-kept (t .0 .kept) known) (t .1))
 
-pub explored-more : {image before middle after edges edges′ edges″ : List ℕ} {p q : Progress}
+pub explored-more : {image before middle after edges edges′ edges″ : List ℕ} {p q : Change}
     → Explored image before middle edges edges′ p → Explored image middle after edges′ edges″ q
     → Explored image before after edges edges″ (joined p q)
 explored-more f g wired s known =
@@ -139,10 +145,10 @@ explored-more f g wired s known =
     (by (λ z. tt) (then (t .0) (u .0)), u .1)
 
 -- needs are raised
-pub raised-none : {edges marks : List ℕ} → Raised edges marks marks Same
+pub raised-none : {edges certificate : List ℕ} → Raised edges certificate certificate Same
 raised-none image wired s known = record { sound = s; told = (refl, tt); kept = λ b h. refl }
 
-pub raised-one : {edges before after : List ℕ} {p : Progress} (number link : ℕ)
+pub raised-one : {edges before after : List ℕ} {p : Change} (number link : ℕ)
     → link ≡ linkAt edges number → link ≢ 0
     → Demanded before after (leaves number) (kindAt before (leaves number))
     (needAt before ((link - 1) / 2) + (link - 1) % 2) p
@@ -155,14 +161,14 @@ raised-one {before = before} number link e n d image wired s known =
     let t = takes-need to (kindAt before to) s refl (edge-bounded edge .0) in
     by (λ z. tt) (d image wired s r (along (edge .leads) t) .0)
 
-pub raised-more : {edges before middle after : List ℕ} {p q : Progress} → Raised edges before middle p
+pub raised-more : {edges before middle after : List ℕ} {p q : Change} → Raised edges before middle p
     → Raised edges middle after q → Raised edges before after (joined p q)
 raised-more f g image wired s known =
     let t = f image wired s known in
     by (λ z. tt) (then t (g image wired (t .sound) (known-kept (t .kept) known)))
 
 -- addresses are explored where no edge is noted yet, then needs are raised
-pub spreads : {image before middle after edges edges′ : List ℕ} {p q : Progress} → NoEdges edges
+pub spreads : {image before middle after edges edges′ : List ℕ} {p q : Change} → NoEdges edges
     → Explored image before middle edges edges′ p → Raised edges′ middle after q
     → Spread image before after (joined p q)
 spreads {image} none f g wired s =

@@ -2,11 +2,10 @@
 use Prim.Native.Nat.{ℕ, _+_, _/_, _%_, _≤_, _<_}
 use native.Mathlib.Omega.{arith}
 use mathlib.Core.Path.{_≡_, refl, sym, _∙_}
-use mathlib.Core.Logic.{_⊎_, inl, inr, _≢_}
+use mathlib.Core.Logic.{_≢_}
 use mathlib.Core.Bool.{Bool, true, false, cond, _&&_}
 use mathlib.Core.List.{List, [], _∷_}
 use lib.Dec.{leb, eqb}
-use lib.ListN.{length}
 use borrow.Author.Tests.{leb-true, eqb-true}
 use denote.Enum.Declared.{tagOf}
 use types.Run.{OneOf, miss}
@@ -30,29 +29,30 @@ use Rattle.certificate.specs.Rules.{Runs}
 use Rattle.certificate.proofs.Facts.{kind-of}
 use Rattle.certificate.proofs.Links.{flow-rule-exactly}
 use Rattle.certificate.proofs.Sound.{marked-in-rom}
-use Rattle.maker.specs.declared.Progress.{Progress}
-use Rattle.maker.specs.declared.Progress.the-variants.{Same, Changed, Impossible}
-use Rattle.maker.specs.Reach.{GoesOn, goes-next, wakes, jumps, branches, passes-by, calls, comes-back}
-use Rattle.maker.specs.Reach.{ends-start-up, Leads, Reachable, onward, Takes, here, along}
-use Rattle.maker.specs.Progress.{Sound, Kept, Stepped, joined, Demanded, Small, LeadsTo, HasKind, Followed}
-use Rattle.maker.specs.Progress.{EdgeTo, Visited}
-use Rattle.maker.proofs.Progress.{the-type}
+use Rattle.maker.specs.declared.Change.{Change}
+use Rattle.maker.specs.declared.Change.the-variants.{Same, Changed, Impossible}
+use Rattle.maker.specs.Reach.{Continues, goes-next, wakes, jumps, branches, passes-by, calls, comes-back}
+use Rattle.maker.specs.Reach.{ends-start-up, Leads, Reachable, onward, UsesLevels, here, along}
+use Rattle.maker.specs.Making.{Sound, Kept, Worked, joined, Demanded, Small, LeadsTo, HasKind, Followed}
+use Rattle.maker.specs.Making.{EdgeTo, Visited}
+use Rattle.maker.proofs.Change.{the-type}
 use Rattle.maker.proofs.Rising.{then, by}
 use Rattle.maker.proofs.Reached.{goes-bounded, reached-kind, has-mark}
 use Rattle.maker.proofs.Refuted.{undecodable, misplaced}
 use Rattle.maker.proofs.Demands.{refuted}
 
 -- what a match does not find refused is not
-pub possible : (p : Progress) → OneOf (0 ∷ 1 ∷ []) (tagOf the-type p) → p ≡ Impossible → ⊥
+pub possible : (p : Change) → OneOf (0 ∷ 1 ∷ []) (tagOf the-type p) → p ≡ Impossible → ⊥
 possible p h e = miss (0 ∷ 1 ∷ []) 2 tt (rw e at h)
 
 -- the need of an address of a kind is what a path takes
-pub takes-need : {image marks : List ℕ} {wired : ℕ} (a kind : ℕ) → Sound image wired marks → kindAt marks a ≡ kind
-    → 1 ≤ kind → Takes image a kind (needAt marks a)
+pub takes-need : {image certificate : List ℕ} {wired : ℕ} (a kind : ℕ) → Sound image wired certificate →
+    kindAt certificate a ≡ kind
+    → 1 ≤ kind → UsesLevels image a kind (needAt certificate a)
 unfolding kindAt needAt
-takes-need {image} {marks} {wired} a kind s k h =
-    let f = s .forced a (has-mark marks a kind k h) in
-    let e : markAt marks a / 16 ≡ kind = sym (kind-of (markAt marks a) (f .formed)) ∙ k in
+takes-need {image} {certificate} {wired} a kind s k h =
+    let f = s .forced a (has-mark certificate a kind k h) in
+    let e : markAt certificate a / 16 ≡ kind = sym (kind-of (markAt certificate a) (f .formed)) ∙ k in
     rw e at (f .takes)
 
 module _ {before middle : List ℕ} {a kind : ℕ} {s : Successor} where
@@ -62,7 +62,7 @@ module _ {before middle : List ℕ} {a kind : ℕ} {s : Successor} where
       let t = d image wired so (onward r (each .0)) here in
       (record { sound = t .0 .sound; told = t .0 .told; kept = t .0 .kept }, λ n. absurd (n refl))
 
-  pub follows : {after : List ℕ} {p q : Progress} → Demanded before middle (s .address) (s .kind) 0 p
+  pub follows : {after : List ℕ} {p q : Change} → Demanded before middle (s .address) (s .kind) 0 p
       → (p ≡ Impossible → ⊥) → Demanded middle after a kind (needAt middle (s .address) + s .levels) q
       → Followed before after a kind (s ∷ []) (joined p q)
   follows {after} {p} {q} d n e image wired so r each =
@@ -71,7 +71,7 @@ module _ {before middle : List ℕ} {a kind : ℕ} {s : Successor} where
       let kind-least = reached-kind (s .address) (s .kind) reach .0 in
       let need = takes-need (s .address) (s .kind) (t .0 .sound) (t .1 n .kind-is) kind-least in
       let u = e image wired (t .0 .sound) r (along (each .0) need) .0 in
-      let v : Stepped image wired (λ m. needAt m (s .address) + s .levels ≤ needAt m a) middle after q =
+      let v : Worked image wired (λ m. needAt m (s .address) + s .levels ≤ needAt m a) middle after q =
       by (λ z. z .need-least) u in
       let k = t .1 n .kind-is in (
         by (λ z. (record { kind = z .0 .kind-is; need = z .1 }, tt)) (then (t .0) v),
@@ -79,39 +79,39 @@ module _ {before middle : List ℕ} {a kind : ℕ} {s : Successor} where
       )
 
 -- what was done, and then nothing
-joined-same : (p : Progress) → joined p Same ≡ p
+joined-same : (p : Change) → joined p Same ≡ p
 joined-same Same = refl
 joined-same Changed = refl
 joined-same Impossible = refl
 
 -- no level is needed there, and so none here
-pub follows-free : {before middle : List ℕ} {a kind : ℕ} {s : Successor} {p : Progress}
+pub follows-free : {before middle : List ℕ} {a kind : ℕ} {s : Successor} {p : Change}
     → Demanded before middle (s .address) (s .kind) 0 p → (p ≡ Impossible → ⊥)
     → needAt middle (s .address) + s .levels ≡ 0 → Followed before middle a kind (s ∷ []) p
 follows-free {before} {middle} {a} {kind} {s} {p} d n free image wired so r each =
     let t = d image wired so (onward r (each .0)) here in
-    let v : Stepped image wired (λ m. needAt m (s .address) + s .levels ≤ needAt m a) middle middle Same =
+    let v : Worked image wired (λ m. needAt m (s .address) + s .levels ≤ needAt m a) middle middle Same =
     record { sound = t .0 .sound; told = (refl, omega arith); kept = λ b h. refl } in (
       rw (← joined-same p) (by (λ z. (record { kind = z .0 .kind-is; need = z .1 }, tt)) (then (t .0) v)),
       λ z. (t .1 n .kind-is, tt),
     )
 
-pub follows-none : {marks : List ℕ} {a kind : ℕ} → Followed marks marks a kind [] Same
+pub follows-none : {certificate : List ℕ} {a kind : ℕ} → Followed certificate certificate a kind [] Same
 follows-none image wired s r each = (record { sound = s; told = (refl, tt); kept = λ b h. refl }, λ n. tt)
 
 -- where nothing is refused, no part is
-joined-impossible : (p : Progress) → joined p Impossible ≡ Impossible
+joined-impossible : (p : Change) → joined p Impossible ≡ Impossible
 joined-impossible Same = refl
 joined-impossible Changed = refl
 joined-impossible Impossible = refl
 
-possible-first : {p : Progress} (q : Progress) → (joined p q ≡ Impossible → ⊥) → p ≡ Impossible → ⊥
+possible-first : {p : Change} (q : Change) → (joined p q ≡ Impossible → ⊥) → p ≡ Impossible → ⊥
 possible-first q n e = n (rw e)
 
-possible-second : (p : Progress) {q : Progress} → (joined p q ≡ Impossible → ⊥) → q ≡ Impossible → ⊥
+possible-second : (p : Change) {q : Change} → (joined p q ≡ Impossible → ⊥) → q ≡ Impossible → ⊥
 possible-second p n e = n (rw e (joined-impossible p))
 
-pub follows-two : {before middle after : List ℕ} {a kind : ℕ} {s t : Successor} {p q : Progress}
+pub follows-two : {before middle after : List ℕ} {a kind : ℕ} {s t : Successor} {p q : Change}
     → Followed before middle a kind (s ∷ []) p → Followed middle after a kind (t ∷ []) q
     → Followed before after a kind (s ∷ t ∷ []) (joined p q)
 follows-two {s = s} {p = p} {q = q} f g image wired so r each =
@@ -136,7 +136,7 @@ every-both f (s ∷ l) p q = (f s (p .0) (q .0), every-both f l (p .1) (q .1))
 
 -- code goes on at its successors
 abbrev GoesTo : (kind : ℕ) → Flow → (next : ℕ) → Successor → Type 0
-GoesTo kind f n s = GoesOn kind f n (s .address) (s .kind) (s .levels)
+GoesTo kind f n s = Continues kind f n (s .address) (s .kind) (s .levels)
 
 every-goes : (kind : ℕ) (f : Flow) (n : ℕ) → Every (GoesTo kind f n) (successorsOf kind f n)
 unfolding successorsOf
@@ -176,7 +176,7 @@ successors-small {kind} mark k n f next e =
     small s b = record { kind-least = b .0; kind-most = b .1; levels-most = b .2 }
 
 -- what decoding answers, by where its instruction continues
-pub record Continues (a : ℕ) (d : Answer Decoding) (f : Flow) (n : ℕ) : Type 0 where
+pub record Continued (a : ℕ) (d : Answer Decoding) (f : Flow) (n : ℕ) : Type 0 where
   pub i : Instruction
   pub bytes : ℕ
   pub cycles : ℕ
@@ -185,7 +185,7 @@ pub record Continues (a : ℕ) (d : Answer Decoding) (f : Flow) (n : ℕ) : Type
   pub next-is : n ≡ forwardOf a bytes
 
 pub continues : (a : ℕ) (d : Answer Decoding) (f : Flow) (n : ℕ) → done (goes f n) ≡ continuationFrom a d
-    → Continues a d f n
+    → Continued a d f n
 continues a (done (decode.instruction i bytes cycles)) f n e =
     record { i = i; bytes = bytes; cycles = cycles; decodes = refl; flow-is = cc; next-is = cc }
 continues a (refused r) f n e = absurd (let z : _≡_ {A = ℕ} 0 1 = cc in omega arith)
@@ -195,71 +195,77 @@ refused-by a (done (decode.instruction i bytes cycles)) e = absurd (let z : _≡
 refused-by a (refused q) e = cc
 
 -- an address of a kind is a program address
-pub in-space : (marks : List ℕ) (a kind : ℕ) → kind ≡ kindOf (markAt marks a) → kind ≢ 0 → a < 4096
+pub in-space : (certificate : List ℕ) (a kind : ℕ) → kind ≡ kindOf (markAt certificate a) → kind ≢ 0 → a < 4096
 unfolding kindAt
-in-space marks a kind k n = marked-in-rom marks a (has-mark marks a kind (sym k) (omega arith)) .most
+in-space certificate a kind k n = marked-in-rom certificate a (has-mark certificate a kind (sym k) (omega arith)) .most
 
 -- the address has a mark of a kind, or none
-module _ (image marks : List ℕ) (page a kind : ℕ) (kind-is : kind ≡ kindOf (markAt marks a)) where
-  pub visits-none : kind ≡ 0 → Visited image marks marks page a Same []
+module _ (image certificate : List ℕ) (page a kind : ℕ) (kind-is : kind ≡ kindOf (markAt certificate a)) where
+  pub visits-none : kind ≡ 0 → Visited image certificate certificate page a Same []
   visits-none z wired s =
       (record { sound = s; told = (refl, λ m. absurd (contradicts m)); kept = λ b h. refl }, tt)
     where
-      contradicts : Marked marks a → ⊥
+      contradicts : Marked certificate a → ⊥
       contradicts m =
           let w = s .forced a m .formed in
-          omega (arith, kind-is, kind-of (markAt marks a) w, w .kind-least)
+          omega (arith, kind-is, kind-of (markAt certificate a) w, w .kind-least)
 
   module _ (n : kind ≢ 0) where
-    mark-here : Marked marks a
+    mark-here : Marked certificate a
     unfolding kindAt
-    mark-here = has-mark marks a kind (sym kind-is) (omega arith)
+    mark-here = has-mark certificate a kind (sym kind-is) (omega arith)
 
-    reach : {wired : ℕ} → Sound image wired marks → Reachable image wired a kind
+    reach : {wired : ℕ} → Sound image wired certificate → Reachable image wired a kind
     reach s =
         let f = s .forced a mark-here in
-        let e : markAt marks a / 16 ≡ kind = sym (kind-of (markAt marks a) (f .formed)) ∙ sym kind-is in
+        let e : markAt certificate a / 16 ≡ kind = sym (kind-of (markAt certificate a) (f .formed)) ∙ sym kind-is in
         rw e at (f .reached)
 
     -- what decoding answers, of an image and an address in ROM
-    decodes-at : {wired : ℕ} → Sound image wired marks → {d : Answer Decoding} → d ≡ decodeOf (spaceOf image page) a
+    decodes-at : {wired : ℕ} → Sound image wired certificate → {d : Answer Decoding} →
+        d ≡ decodeOf (spaceOf image page) a
         → decodeAt (spaceOf image page) a ≡ d
     decodes-at s e =
-        sym (e ∙ in-range (spaceOf image page) a (is-space image page (s .image-length)) (marked-in-rom marks a mark-here .most))
+        sym (e ∙ in-range (spaceOf image page) a (is-space image page (s .image-length))
+        (marked-in-rom certificate a mark-here .most))
 
-    pub visits-undecodable : {r : Numbered} → refused r ≡ decodeOf (spaceOf image page) a → Visited image marks marks page a Impossible []
+    pub visits-undecodable : {r : Numbered} → refused r ≡ decodeOf (spaceOf image page) a →
+        Visited image certificate certificate page a Impossible []
     visits-undecodable {r} d wired s = (refuted s (undecodable image wired a kind (reach s) page r (decodes-at s d)), tt)
 
     module _ {i : Instruction} {bytes cycles : ℕ} (d : done (decode.instruction i bytes cycles) ≡ decodeOf (spaceOf image page) a) where
-      pub visits-misplaced : placed kind (flowOf i a) ≡ false → Visited image marks marks page a Impossible []
+      pub visits-misplaced : placed kind (flowOf i a) ≡ false →
+          Visited image certificate certificate page a Impossible []
       visits-misplaced p wired s =
           (refuted s (misplaced image wired a kind (reach s) page i bytes cycles (decodes-at s d) p), tt)
 
-      lawful : {wired : ℕ} → Sound image wired marks → placed kind (flowOf i a) ≡ true
-          → Every (Link marks a) (successorsOf kind (flowOf i a) (forwardOf a bytes)) → WellFormed (markAt marks a) × Runs (spaceOf image page) marks a
+      lawful : {wired : ℕ} → Sound image wired certificate → placed kind (flowOf i a) ≡ true
+          → Every (Link certificate a) (successorsOf kind (flowOf i a) (forwardOf a bytes)) →
+          WellFormed (markAt certificate a) × Runs (spaceOf image page) certificate a
       unfolding kindAt
       lawful s p links =
           let rule =
-          flow-rule-exactly marks a (flowOf i a) (forwardOf a bytes) .rule
+          flow-rule-exactly certificate a (flowOf i a) (forwardOf a bytes) .rule
           (record { stands = rw (← kind-is) p; links = rw (← kind-is) links }) in (
             s .forced a mark-here .formed,
             record { instruction = i; bytes = bytes; cycles = cycles; decodes = decodes-at s d; rule = rule },
           )
 
       -- what follows from its successors
-      module _ {after : List ℕ} {p : Progress} (q : placed kind (flowOf i a) ≡ true)
-          (f : Followed marks after a kind (successorsOf kind (flowOf i a) (forwardOf a bytes)) p) where
-        every-leads : {wired : ℕ} → Sound image wired marks
+      module _ {after : List ℕ} {p : Change} (q : placed kind (flowOf i a) ≡ true)
+          (f : Followed certificate after a kind (successorsOf kind (flowOf i a) (forwardOf a bytes)) p) where
+        every-leads : {wired : ℕ} → Sound image wired certificate
             → Every (LeadsTo image a kind) (successorsOf kind (flowOf i a) (forwardOf a bytes))
         every-leads s =
             every-by {Q = LeadsTo image a kind}
             (λ t g. record { bank = page; instruction = i; bytes = bytes; cycles = cycles; decodes = decodes-at s d; goes-on = g })
             (successorsOf kind (flowOf i a) (forwardOf a bytes)) (every-goes kind (flowOf i a) (forwardOf a bytes))
 
-        pub visits-ended : Visited image marks after page a p []
+        pub visits-ended : Visited image certificate after page a p []
         visits-ended wired s = (by (λ links. λ m. lawful s q links) (f image wired s (reach s) (every-leads s) .0), tt)
 
-        edge-to : Kept marks after → (t : Successor) → LeadsTo image a kind t → HasKind after t → EdgeTo image after a t
+        edge-to : Kept certificate after → (t : Successor) → LeadsTo image a kind t → HasKind after t →
+            EdgeTo image after a t
         unfolding kindAt
         edge-to kept t leads k =
             let least : 1 ≤ kind = omega arith in
@@ -267,7 +273,7 @@ module _ (image marks : List ℕ) (page a kind : ℕ) (kind-is : kind ≡ kindOf
             record { kind-least = rw e least; leads = rw (e, k) leads }
 
         pub visits : (p ≡ Impossible → ⊥)
-            → Visited image marks after page a p (successorsOf kind (flowOf i a) (forwardOf a bytes))
+            → Visited image certificate after page a p (successorsOf kind (flowOf i a) (forwardOf a bytes))
         visits n wired s =
             let u = f image wired s (reach s) (every-leads s) in (
               visits-ended wired s .0,

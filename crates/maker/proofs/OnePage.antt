@@ -1,13 +1,12 @@
 -- With one page, or none, the maker answers what it answered.
 use Prim.Native.Nat.{ℕ}
-use native.Mathlib.Omega.{arith}
 use mathlib.Core.Path.{_≡_, refl, sym, _∙_}
-use mathlib.Core.Logic.{_≢_, _↔_, _⊎_, inl, inr, ⊎-elim}
-use mathlib.Core.Bool.{true, false}
+use mathlib.Core.Logic.{_≢_, _↔_, inl, inr, ⊎-elim}
+use mathlib.Core.Bool.{true, false, true≢false}
 use mathlib.Core.List.{List, [], _∷_}
 use lib.ListN.{length}
 use Rattle.isa.specs.Rom.{isSpace, isImage}
-use Rattle.isa.specs.Refusals.{Numbered, Answer, done, refused}
+use Rattle.isa.specs.Refusals.{Numbered, done, refused}
 use Rattle.isa.proofs.Halves.{space-length, space-image, space-is-image}
 use Rattle.certificate.specs.Check.{marksIn}
 use Rattle.certificate.specs.Refusals.{Question, FirstApplies, None}
@@ -15,9 +14,9 @@ use Rattle.certificate.proofs.OnePage.{a-mark-each, check-as-before}
 use Rattle.maker.specs.Reach.{Leads, Reachable}
 use Rattle.maker.specs.Reach as reach
 use Rattle.maker.specs.Least.{NoneAccepted, Least}
-use Rattle.maker.specs.Make.{questions, Makes}
+use Rattle.maker.specs.Make.{questions}
 use Rattle.maker.specs.OnePage.{LeadsUnpaged, ReachableUnpaged, at-reset, at-vector, onward}
-use Rattle.maker.specs.OnePage.{NoneUnpaged, LeastUnpaged, questionsUnpaged, MakesUnpaged, MakerAsBefore}
+use Rattle.maker.specs.OnePage.{NoneUnpaged, LeastUnpaged, questionsUnpaged, MakerAsBefore}
 
 -- two lists of questions that ask the same
 abbrev Same : List Question → List Question → Type 0
@@ -95,9 +94,7 @@ module _ (image : List ℕ) (is : isSpace (length image) ≡ true) (wired : ℕ)
 
   -- the questions ask the same
   length-then : isImage (length image) ≡ false → (length image ≢ 2048) × (length image ≢ 4096)
-  length-then e =
-      let z : true ≡ false = sym (space-image image is) ∙ e in
-      let y : _≡_ {A = ℕ} 0 1 = cc in absurd (omega arith)
+  length-then e = absurd (true≢false (sym (space-image image is) ∙ e))
 
   length-now : (length image ≢ 2048) × (length image ≢ 4096) → isImage (length image) ≡ false
   length-now n = absurd (⊎-elim (n .0) (n .1) (space-length (length image) is))

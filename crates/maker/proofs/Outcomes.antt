@@ -6,7 +6,7 @@ use native.Mathlib.Omega.{arith}
 use mathlib.Core.Path.{_≡_, refl, sym, ap, _∙_}
 use mathlib.Core.Logic.{_⊎_, inl, inr, _≢_}
 use mathlib.Core.Bool.{Bool, true, false}
-use mathlib.Core.List.{List, [], _∷_, _++_}
+use mathlib.Core.List.{List, [], _∷_, _++_, append-assoc}
 use lib.Dec.{eqb}
 use lib.ListN.{length, getD}
 use lib.Seq.{ext-getD}
@@ -15,14 +15,14 @@ use Rattle.isa.specs.Refusals.{Numbered, plain, located, Answer, done, refused}
 use Rattle.certificate.specs.Marks.{markAt, Marked, kindAt, needAt, lowest}
 use Rattle.certificate.specs.Check.{accepted, checkOf}
 use Rattle.certificate.specs.Rules.{Rules}
-use Rattle.certificate.specs.Refusals.{Question, None, FirstApplies, imageLength, unknownSource}
+use Rattle.certificate.specs.Refusals.{Question, None, FirstApplies}
 use Rattle.certificate.proofs.Facts.{kind-of, mark-is, at-most-4096}
 use Rattle.certificate.proofs.Agreement.{agreement}
 use Rattle.maker.specs.Reach.{Reachable}
 use Rattle.maker.specs.Least.{Least}
-use Rattle.maker.specs.Make.{bufferLength, noCertificate, questions, Makes}
-use Rattle.maker.specs.Outcomes.{Covers, MadeLeast, MadeIsLeast, GivenExactly, RefusalsExactly}
-use Rattle.maker.specs.Outcomes.{RefusedWith26Exactly, OneAnswer}
+use Rattle.maker.specs.Make.{questions, Makes}
+use Rattle.maker.specs.Outcomes.{Covers, MadeLeast, MadeIsLeast, GivenExactly, EachExactly, IsAsked}
+use Rattle.maker.specs.Outcomes.{RefusalsExactly, OneAnswer}
 use Rattle.maker.proofs.Reached.{reached-kind, reached, has-mark}
 
 -- an unmarked address or a marked one
@@ -184,46 +184,37 @@ module _ (q : Question) (later : List Question) where
   given-exactly earlier answer says n m =
       record { only = λ e. first-only earlier n m (rw e at says); always = first-always earlier answer says }
 
--- the first is one of the four
-named : (image : List ℕ) (wired : ℕ) (before : List ℕ) (r : Numbered) → FirstApplies (questions image wired before) r
-    → (r ≡ plain 1) ⊎ (r ≡ plain 11) ⊎ (r ≡ plain 25) ⊎ (r ≡ plain 26)
-named image wired before r (inl p) = inl (p .1)
-named image wired before r (inr (n₁, inl p)) = inr (inl (p .1))
-named image wired before r (inr (n₁, inr (n₂, inl p))) = inr (inr (inl (p .1)))
-named image wired before r (inr (n₁, inr (n₂, inr (n₃, inl p)))) = inr (inr (inr (p .1)))
-named image wired before r (inr (n₁, inr (n₂, inr (n₃, inr (n₄, p))))) = absurd p
+-- the questions of a list, and those before it, have numbers of their own
+abbrev Apart : (earlier qs : List Question) → Type 0
+Apart earlier [] = Unit
+Apart earlier (q ∷ later) =
+    NoneHas (q .refusal) earlier × (NoneHas (q .refusal) later × Apart (earlier ++ (q ∷ [])) later)
+
+each-exactly : (earlier qs : List Question) (answer : Answer ℕ) → Apart earlier qs → Answers (earlier ++ qs) answer
+    → EachExactly earlier qs answer
+each-exactly earlier [] answer apart says = tt
+each-exactly earlier (q ∷ later) answer apart says = (
+  given-exactly q later earlier answer says (apart .0) (apart .1 .0),
+  each-exactly (earlier ++ (q ∷ [])) later answer (apart .1 .1) (rw (append-assoc earlier (q ∷ []) later) says),
+)
+
+-- the first that applies is one of them
+is-asked : (qs : List Question) (r : Numbered) → FirstApplies qs r → IsAsked qs r
+is-asked [] r first = first
+is-asked (q ∷ qs) r (inl p) = inl (p .1)
+is-asked (q ∷ qs) r (inr p) = inr (is-asked qs r (p .1))
 
 -- W-202: the refusals
 pub refusals-exactly : RefusalsExactly
 refusals-exactly image wired before after answer makes =
     let says = answers image wired before after answer makes in
     record {
-      with-1 =
-          given-exactly (imageLength image)
-          (unknownSource wired ∷ bufferLength image before ∷ noCertificate image wired ∷ []) [] answer says tt
-          (omega arith);
-      with-11 =
-          given-exactly (unknownSource wired) (bufferLength image before ∷ noCertificate image wired ∷ [])
-          (imageLength image ∷ []) answer says (omega arith) (omega arith);
-      with-25 =
-          given-exactly (bufferLength image before) (noCertificate image wired ∷ [])
-          (imageLength image ∷ unknownSource wired ∷ []) answer says (omega arith) (omega arith);
-      no-other = λ r e. named image wired before r (rw e at says);
+      each = each-exactly [] (questions image wired before) answer (omega arith) says;
+      no-other = λ r e. is-asked (questions image wired before) r (rw e at says);
       untouched = λ r e. (rw e at makes) .1;
       written-only = λ levels e. rw e at says;
       written-always = written (questions image wired before) answer says;
     }
-
-pub refused-with-26-exactly : RefusedWith26Exactly
-refused-with-26-exactly image wired before after answer makes =
-    record { only = λ e. given .only e .1; only-then = λ e. given .only e .0; always = given .always }
-  where
-    given : GivenExactly (imageLength image ∷ unknownSource wired ∷ bufferLength image before ∷ [])
-        (noCertificate image wired) answer
-    given =
-        given-exactly (noCertificate image wired) []
-        (imageLength image ∷ unknownSource wired ∷ bufferLength image before ∷ []) answer
-        (answers image wired before after answer makes) (omega arith) tt
 
 -- W-202: no choice
 pub one-answer : OneAnswer

@@ -3,20 +3,20 @@
 use Prim.Native.Nat.{ℕ, _+_, _≤_}
 use native.Mathlib.Nat.{add-zero}
 use native.Mathlib.Omega.{arith}
-use mathlib.Core.Path.{_≡_, refl, sym, _∙_}
+use mathlib.Core.Path.{_≡_, _∙_}
 use mathlib.Core.Logic.{_⊎_, inl, inr}
 use mathlib.Core.List.{List}
-use Rattle.isa.specs.Displacement.{forwardOf}
-use Rattle.isa.specs.ControlFlow.{flowOf}
 use Rattle.isa.specs.declared.Flow.{Flow}
-use Rattle.certificate.specs.Marks.{markAt, Marked, kindAt, needAt}
-use Rattle.certificate.specs.Rules.{Continues, EndsStartUp, FlowRule, Rules}
-use Rattle.maker.specs.Reach.{GoesOn, goes-next, wakes, jumps, branches, passes-by, calls, comes-back}
-use Rattle.maker.specs.Reach.{ends-start-up, Leads, Reachable, at-reset, at-vector, onward, Takes, here, along}
+use Rattle.certificate.specs.Marks.{Marked, kindAt, needAt}
+use Rattle.certificate.specs.Rules.{EndsStartUp, FlowRule, Rules}
+use Rattle.certificate.specs.Rules as certified
+use Rattle.maker.specs.Reach.{Continues, goes-next, wakes, jumps, branches, passes-by, calls, comes-back}
+use Rattle.maker.specs.Reach.{ends-start-up, Leads, Reachable, at-reset, at-vector, onward}
+use Rattle.maker.specs.Reach.{UsesLevels, here, along}
 
 -- kinds go from 1 to 4, and a step takes at most one level
 pub goes-bounded : (kind : ℕ) (f : Flow) (n b kind′ levels : ℕ) → 1 ≤ kind → kind ≤ 4
-    → GoesOn kind f n b kind′ levels → (1 ≤ kind′) × (kind′ ≤ 4) × (levels ≤ 1)
+    → Continues kind f n b kind′ levels → (1 ≤ kind′) × (kind′ ≤ 4) × (levels ≤ 1)
 goes-bounded kind f n b kind′ levels h m goes-next = (h, m, omega arith)
 goes-bounded kind f n b kind′ levels h m wakes = (h, m, omega arith)
 goes-bounded kind f n b kind′ levels h m jumps = (h, m, omega arith)
@@ -40,7 +40,7 @@ module _ (certificate : List ℕ) where
     kind-is : kindAt certificate b ≡ kind
     need-most : needAt certificate b + levels ≤ needAt certificate a
 
-  continues : {a b kind : ℕ} → Continues certificate a b → kindAt certificate a ≡ kind → Follows a b kind 0
+  continues : {a b kind : ℕ} → certified.Continues certificate a b → kindAt certificate a ≡ kind → Follows a b kind 0
   continues c k = record { kind-is = c .kind ∙ k; need-most = rw add-zero (c .need) }
 
   ends : {a n : ℕ} → (kindAt certificate a ≡ 3) ⊎ EndsStartUp certificate a n → kindAt certificate a ≡ 1
@@ -48,7 +48,7 @@ module _ (certificate : List ℕ) where
   ends (inl e) k = absurd (omega arith)
   ends (inr e) k = record { kind-is = e .next-kind; need-most = rw add-zero (e .next-need) }
 
-  follows : (a kind : ℕ) (f : Flow) (n b kind′ levels : ℕ) → GoesOn kind f n b kind′ levels
+  follows : (a kind : ℕ) (f : Flow) (n b kind′ levels : ℕ) → Continues kind f n b kind′ levels
       → FlowRule certificate a f n → kindAt certificate a ≡ kind → Follows a b kind′ levels
   follows a kind f n b kind′ levels goes-next r k = continues r k
   follows a kind f n b kind′ levels wakes r k = continues r k
@@ -86,7 +86,7 @@ module _ {image certificate : List ℕ} {wired number : ℕ} (rules : Rules imag
       led b k a kind levels (reached b k r) (reached-kind b k r .0) leads .kind-is
 
   -- and its need is at least what any path from there takes
-  pub taken : (a kind levels : ℕ) → Reachable image wired a kind → Takes image a kind levels
+  pub taken : (a kind levels : ℕ) → Reachable image wired a kind → UsesLevels image a kind levels
       → levels ≤ needAt certificate a
   taken a kind levels r here = omega arith
   taken a kind levels r (along {b = b} {kind′ = kind′} {levels = one} {more = more} leads t) =

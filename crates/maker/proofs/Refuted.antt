@@ -3,7 +3,7 @@ use Prim.Native.Nat.{ℕ, _+_, _≤_, _<_}
 use native.Mathlib.Omega.{arith}
 use mathlib.Core.Path.{_≡_, sym, _∙_}
 use mathlib.Core.Logic.{_⊎_, inl, inr, _≢_}
-use mathlib.Core.Bool.{true, false, false≢true}
+use mathlib.Core.Bool.{false, false≢true}
 use mathlib.Core.List.{List}
 use lib.ListN.{length}
 use Rattle.isa.specs.Rom.{spaceOf}
@@ -16,12 +16,11 @@ use Rattle.isa.specs.Refusals.{Numbered, done, refused}
 use Rattle.isa.specs.declared.Instruction.{Instruction}
 use Rattle.certificate.specs.Marks.{needAt}
 use Rattle.certificate.specs.Successors.{placed}
-use Rattle.certificate.specs.Check.{accepted, checkOf}
 use Rattle.certificate.specs.Rules.{Lawful, Rules}
 use Rattle.certificate.proofs.Agreement.{agreement}
 use Rattle.certificate.proofs.Links.{flow-rule-exactly}
 use Rattle.certificate.proofs.Sound.{marked-in-rom}
-use Rattle.maker.specs.Reach.{Reachable, Takes}
+use Rattle.maker.specs.Reach.{Reachable, UsesLevels}
 use Rattle.maker.specs.Least.{NoneAccepted}
 use Rattle.maker.proofs.Reached.{reached-kind, has-mark, reached, taken}
 
@@ -53,7 +52,7 @@ module _ (image : List ℕ) (wired a kind : ℕ) (reach : Reachable image wired 
             marked-in-rom certificate a (has-mark certificate a kind k (reached-kind a kind reach .0)) .least,
           )
 
-  pub too-deep : (need : ℕ) → Takes image a kind need → 6 < need → NoneAccepted image wired
+  pub too-deep : (need : ℕ) → UsesLevels image a kind need → 6 < need → NoneAccepted image wired
   unfolding needAt
   too-deep need takes h =
       none-meets

@@ -11,48 +11,48 @@ use lib.Seq.{getD-set-same, getD-set-other}
 use borrow.Author.Tests.{ltb-true, leb-true, eqb-true, eqb-false}
 use Rattle.certificate.specs.Marks.{markAt, Marked, WellFormed, kindOf, kindAt, lowest}
 use Rattle.certificate.proofs.Facts.{mark-is, at-most-4096, well-formed, kind-of}
-use Rattle.maker.specs.declared.Progress.{Progress}
-use Rattle.maker.specs.declared.Progress.the-variants.{Same, Changed, Impossible}
-use Rattle.maker.specs.Progress.{Forced, Sound, room, Told, Kept, Stepped, joined}
+use Rattle.maker.specs.declared.Change.{Change}
+use Rattle.maker.specs.declared.Change.the-variants.{Same, Changed, Impossible}
+use Rattle.maker.specs.Making.{Forced, Sound, room, Told, Kept, Worked, joined}
 
-pub room-set : (marks : List ℕ) (i v : ℕ) → i < length marks → getD marks i 0 < v → v ≤ 255
-    → room (set marks i v) < room marks
+pub room-set : (certificate : List ℕ) (i v : ℕ) → i < length certificate → getD certificate i 0 < v → v ≤ 255
+    → room (set certificate i v) < room certificate
 unfolding room
 room-set [] i v h r k = absurd (omega arith)
-room-set (m ∷ marks) zero v h r k = omega arith
-room-set (m ∷ marks) (suc i) v h r k =
-    let e = room-set marks i v (omega arith) r k in
+room-set (m ∷ certificate) zero v h r k = omega arith
+room-set (m ∷ certificate) (suc i) v h r k =
+    let e = room-set certificate i v (omega arith) r k in
     omega arith
 
 -- the mark of another address stays
-set-other : (marks : List ℕ) (j v a : ℕ) → length marks ≤ 4096 → a ≢ lowest marks + j
-    → markAt (set marks j v) a ≡ markAt marks a
+set-other : (certificate : List ℕ) (j v a : ℕ) → length certificate ≤ 4096 → a ≢ lowest certificate + j
+    → markAt (set certificate j v) a ≡ markAt certificate a
 unfolding markAt
-set-other marks j v a fits n = rw length-set (go (ltb a 4096) (leb 4096 (a + length marks)) refl refl)
+set-other certificate j v a fits n = rw length-set (go (ltb a 4096) (leb 4096 (a + length certificate)) refl refl)
   where
-    go : (s t : Bool) → ltb a 4096 ≡ s → leb 4096 (a + length marks) ≡ t
-        → cond (s && t) (getD (set marks j v) (a + length marks - 4096) 0) 0
-        ≡ cond (s && t) (getD marks (a + length marks - 4096) 0) 0
+    go : (s t : Bool) → ltb a 4096 ≡ s → leb 4096 (a + length certificate) ≡ t
+        → cond (s && t) (getD (set certificate j v) (a + length certificate - 4096) 0) 0
+        ≡ cond (s && t) (getD certificate (a + length certificate - 4096) 0) 0
     go true true p q =
         let below = ltb-true a 4096 p in
-        let above = leb-true 4096 (a + length marks) q in
-        getD-set-other marks j (a + length marks - 4096) v 0 (λ e. n (omega arith))
+        let above = leb-true 4096 (a + length certificate) q in
+        getD-set-other certificate j (a + length certificate - 4096) v 0 (λ e. n (omega arith))
     go true false p q = refl
     go false t p q = refl
 
 -- the mark of the address is set
-pub set-same : (marks : List ℕ) (j v : ℕ) → length marks ≤ 4096 → j < length marks
-    → markAt (set marks j v) (lowest marks + j) ≡ v
-set-same marks j v fits h =
-    let l = length-set marks j v in
-    let e = mark-is (set marks j v) j (omega arith) (omega arith) in
-    (rw length-set at e) ∙ getD-set-same marks j v 0 h
+pub set-same : (certificate : List ℕ) (j v : ℕ) → length certificate ≤ 4096 → j < length certificate
+    → markAt (set certificate j v) (lowest certificate + j) ≡ v
+set-same certificate j v fits h =
+    let l = length-set certificate j v in
+    let e = mark-is (set certificate j v) j (omega arith) (omega arith) in
+    (rw length-set at e) ∙ getD-set-same certificate j v 0 h
 
 -- and the kinds stay, where there was no mark, or one of the same kind
-pub kind-set : (marks : List ℕ) (j v : ℕ) → length marks ≤ 4096 → j < length marks → WellFormed v
-    → (getD marks j 0 ≡ 0) ⊎ (getD marks j 0 / 16 ≡ v / 16) → Kept marks (set marks j v)
+pub kind-set : (certificate : List ℕ) (j v : ℕ) → length certificate ≤ 4096 → j < length certificate → WellFormed v
+    → (getD certificate j 0 ≡ 0) ⊎ (getD certificate j 0 / 16 ≡ v / 16) → Kept certificate (set certificate j v)
 unfolding kindAt
-kind-set marks j v fits h w same b k = go (eqb b (lowest marks + j)) refl
+kind-set certificate j v fits h w same b k = go (eqb b (lowest certificate + j)) refl
   where
     old : (m : ℕ) → (m ≡ 0) ⊎ (m / 16 ≡ v / 16) → 1 ≤ kindOf m → kindOf v ≡ kindOf m
     old m (inl z) k = absurd (bad (rw z at k))
@@ -61,39 +61,40 @@ kind-set marks j v fits h w same b k = go (eqb b (lowest marks + j)) refl
         bad h = omega arith
     old m (inr e) k = kind-of v w ∙ sym e ∙ sym (kind-of m (well-formed m k))
 
-    go : (t : Bool) → eqb b (lowest marks + j) ≡ t → kindOf (markAt (set marks j v) b) ≡ kindOf (markAt marks b)
+    go : (t : Bool) → eqb b (lowest certificate + j) ≡ t → kindOf (markAt (set certificate j v) b)
+        ≡ kindOf (markAt certificate b)
     go true p =
-        let e = eqb-true b (lowest marks + j) p in
-        let here = mark-is marks j fits h in
-        rw (e, set-same marks j v fits h, here) (old (getD marks j 0) same (rw (e, here) at k))
-    go false p = rw (set-other marks j v b fits (eqb-false b (lowest marks + j) p))
+        let e = eqb-true b (lowest certificate + j) p in
+        let here = mark-is certificate j fits h in
+        rw (e, set-same certificate j v fits h, here) (old (getD certificate j 0) same (rw (e, here) at k))
+    go false p = rw (set-other certificate j v b fits (eqb-false b (lowest certificate + j) p))
 
-pub fits : {image marks : List ℕ} {wired : ℕ} → Sound image wired marks → length marks ≤ 4096
+pub fits : {image certificate : List ℕ} {wired : ℕ} → Sound image wired certificate → length certificate ≤ 4096
 fits {image} s = omega (arith, at-most-4096 (length image), s .size)
 
 -- a forced mark keeps the marks forced
-pub sound-set : (image marks : List ℕ) (wired j v : ℕ) → Sound image wired marks → j < length marks
-    → Forced image wired (lowest marks + j) v → Sound image wired (set marks j v)
-sound-set image marks wired j v s h f =
+pub sound-set : (image certificate : List ℕ) (wired j v : ℕ) → Sound image wired certificate → j < length certificate
+    → Forced image wired (lowest certificate + j) v → Sound image wired (set certificate j v)
+sound-set image certificate wired j v s h f =
     record {
       image-length = s .image-length;
       size = simp length-set (s .size);
-      forced = λ a n. go a n (eqb a (lowest marks + j)) refl;
+      forced = λ a n. go a n (eqb a (lowest certificate + j)) refl;
     }
   where
-    go : (a : ℕ) → Marked (set marks j v) a → (t : Bool) → eqb a (lowest marks + j) ≡ t
-        → Forced image wired a (markAt (set marks j v) a)
+    go : (a : ℕ) → Marked (set certificate j v) a → (t : Bool) → eqb a (lowest certificate + j) ≡ t
+        → Forced image wired a (markAt (set certificate j v) a)
     go a n true p =
-        let e = eqb-true a (lowest marks + j) p in
-        rw (e, set-same marks j v (fits s) h) f
+        let e = eqb-true a (lowest certificate + j) p in
+        rw (e, set-same certificate j v (fits s) h) f
     go a n false p =
-        let o = set-other marks j v a (fits s) (eqb-false a (lowest marks + j) p) in
+        let o = set-other certificate j v a (fits s) (eqb-false a (lowest certificate + j) p) in
         rw o (s .forced a (λ z. n (o ∙ z)))
 
 module _ {image : List ℕ} {wired : ℕ} {P Q : List ℕ → Type 0} where
   -- one part of the work, then another
-  pub then : {a b c : List ℕ} {p q : Progress} → Stepped image wired P a b p → Stepped image wired Q b c q
-      → Stepped image wired (λ m. P m × Q m) a c (joined p q)
+  pub then : {a b c : List ℕ} {p q : Change} → Worked image wired P a b p → Worked image wired Q b c q
+      → Worked image wired (λ m. P m × Q m) a c (joined p q)
   then {a} {b} {c} {p} {q} s t = record { sound = t .sound; told = go p q (s .told) (t .told); kept = both }
     where
       both : Kept a c
@@ -101,7 +102,7 @@ module _ {image : List ℕ} {wired : ℕ} {P Q : List ℕ → Type 0} where
           let e = s .kept i h in
           t .kept i (rw e h) ∙ e
 
-      go : (p q : Progress) → Told image wired P a b p → Told image wired Q b c q
+      go : (p q : Change) → Told image wired P a b p → Told image wired Q b c q
           → Told image wired (λ m. P m × Q m) a c (joined p q)
       go Same Same t u = (u .0 ∙ t .0, (t .1, subst Q (t .0) (u .1)))
       go Same Changed t u = subst (λ m. room c < room m) (t .0) u
@@ -112,10 +113,10 @@ module _ {image : List ℕ} {wired : ℕ} {P Q : List ℕ → Type 0} where
       go Impossible q t u = t
 
   -- what holds of the marks, put otherwise
-  pub by : {a b : List ℕ} {p : Progress} → (P a → Q a) → Stepped image wired P a b p → Stepped image wired Q a b p
+  pub by : {a b : List ℕ} {p : Change} → (P a → Q a) → Worked image wired P a b p → Worked image wired Q a b p
   by {a} {b} {p} f s = record { sound = s .sound; told = go p (s .told); kept = s .kept }
     where
-      go : (p : Progress) → Told image wired P a b p → Told image wired Q a b p
+      go : (p : Change) → Told image wired P a b p → Told image wired Q a b p
       go Same t = (t .0, f (t .1))
       go Changed t = t
       go Impossible t = t

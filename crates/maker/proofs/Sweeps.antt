@@ -9,39 +9,39 @@ use lib.Dec.{ltb}
 use lib.ListN.{length}
 use borrow.Author.Tests.{ltb-true, ltb-false}
 use borrow.Author.Count.{below-more}
-use Rattle.isa.specs.Sources.{isNamed, vectorOf}
+use Rattle.isa.specs.Sources.{isNamed, vectorOf, resetVector}
 use Rattle.isa.specs.declared.Source.{Source}
 use Rattle.isa.specs.declared.Source.the-variants.{Nmi, First, Second, Third, Fourth}
-use Rattle.certificate.specs.Marks.{Marked}
 use Rattle.certificate.proofs.Sound.{marked-in-rom}
-use Rattle.maker.specs.declared.Progress.{Progress}
-use Rattle.maker.specs.declared.Progress.the-variants.{Same}
+use Rattle.maker.specs.declared.Change.{Change}
+use Rattle.maker.specs.declared.Change.the-variants.{Same}
 use Rattle.maker.specs.Reach.{at-reset, at-vector, here}
-use Rattle.maker.specs.Progress.{Sound, Stepped, joined, Demanded, LawfulAt, RunsAt, VisitedEach, Swept}
+use Rattle.maker.specs.Making.{Sound, Worked, joined, Demanded, LawfulAt, RunsAt, VisitedEach, Swept}
 use Rattle.isa.specs.Rom.{isImage, spacesIn}
 use Rattle.isa.proofs.Halves.{with-any-bank}
 use Rattle.certificate.specs.Rules.{Runs}
-use Rattle.maker.specs.Progress.{SourceKind, Seeded, Seeds, Finished}
+use Rattle.maker.specs.Making.{SourceKind, Seeded, Seeds, Finished}
 use Rattle.maker.proofs.Rising.{then, by}
 
 -- the addresses below one have been visited, upward
-abbrev pub Passed : (image before after : List ℕ) → (end : ℕ) → Progress → Type 0
+abbrev pub Passed : (image before after : List ℕ) → (end : ℕ) → Change → Type 0
 Passed image before after end p =
     (wired : ℕ) → Sound image wired before
-    → Stepped image wired (λ m. (a : ℕ) → a < end → LawfulAt image a m) before after p
+    → Worked image wired (λ m. (a : ℕ) → a < end → LawfulAt image a m) before after p
 
 -- below ROM nothing is marked
-pub passed-none : {image marks : List ℕ} {start : ℕ} → start ≡ 4096 - length marks → Passed image marks marks start Same
-passed-none {image} {marks} {start} e wired s =
+pub passed-none : {image certificate : List ℕ} {start : ℕ} → start ≡ 4096 - length certificate →
+    Passed image certificate certificate start Same
+passed-none {image} {certificate} {start} e wired s =
     record {
       sound = s;
-      told = (refl, λ a h m. absurd (omega (arith, e, h, marked-in-rom marks a m .least)));
+      told = (refl, λ a h m. absurd (omega (arith, e, h, marked-in-rom certificate a m .least)));
       kept = λ b h. refl;
     }
 
-pub passed-more : {image before middle after : List ℕ} {i : ℕ} {p q : Progress}
+pub passed-more : {image before middle after : List ℕ} {i : ℕ} {p q : Change}
     → Passed image before middle i p
-    → ((wired : ℕ) → Sound image wired middle → Stepped image wired (LawfulAt image i) middle after q)
+    → ((wired : ℕ) → Sound image wired middle → Worked image wired (LawfulAt image i) middle after q)
     → Passed image before after (i + 1) (joined p q)
 passed-more {image} {before} {i = i} f g wired s =
     let t = f wired s in
@@ -60,23 +60,23 @@ passed-more {image} {before} {i = i} f g wired s =
     pick a (inr e) each last = rw e last
 
 -- an address has been visited with the pages below one
-abbrev pub PassedPages : (image before after : List ℕ) → (a end : ℕ) → Progress → Type 0
+abbrev pub PassedPages : (image before after : List ℕ) → (a end : ℕ) → Change → Type 0
 PassedPages image before after a end p =
     (wired : ℕ) → Sound image wired before
-    → Stepped image wired (λ m. (k : ℕ) → k < end → RunsAt image k a m) before after p
+    → Worked image wired (λ m. (k : ℕ) → k < end → RunsAt image k a m) before after p
 
-pub pages-none : {image marks : List ℕ} {a : ℕ} → PassedPages image marks marks a 0 Same
+pub pages-none : {image certificate : List ℕ} {a : ℕ} → PassedPages image certificate certificate a 0 Same
 pages-none wired s = record { sound = s; told = (refl, λ k h. absurd (omega arith)); kept = λ b h. refl }
 
-pub pages-more : {image before middle after : List ℕ} {a i : ℕ} {p q : Progress}
+pub pages-more : {image before middle after : List ℕ} {a i : ℕ} {p q : Change}
     → PassedPages image before middle a i p
-    → ((wired : ℕ) → Sound image wired middle → Stepped image wired (RunsAt image i a) middle after q)
+    → ((wired : ℕ) → Sound image wired middle → Worked image wired (RunsAt image i a) middle after q)
     → PassedPages image before after a (i + 1) (joined p q)
 pages-more {image} {before} {a = a} {i = i} f g wired s =
     let t = f wired s in
     by (λ z. λ k h. below-more (λ j. RunsAt image j a before) i (z .0) (z .1) k h) (then t (g wired (t .sound)))
 
-pub pages-all : {image before after : List ℕ} {a : ℕ} {p : Progress} → isImage (length image) ≡ true
+pub pages-all : {image before after : List ℕ} {a : ℕ} {p : Change} → isImage (length image) ≡ true
     → PassedPages image before after a (spacesIn (length image)) p → VisitedEach image before after a p
 pages-all {image} {before} {a = a} is f wired s =
     by
@@ -88,23 +88,23 @@ pages-all {image} {before} {a = a} is f wired s =
     (f wired s)
 
 -- above ROM neither
-pub passed-all : {image before after : List ℕ} {i : ℕ} {p : Progress} → 4096 ≤ i → Passed image before after i p
+pub passed-all : {image before after : List ℕ} {i : ℕ} {p : Change} → 4096 ≤ i → Passed image before after i p
     → Swept image before after p
 passed-all {before = before} h f wired s =
     by (λ z. λ a m. z a (omega (arith, h, marked-in-rom before a m .most)) m) (f wired s)
 
 -- the vector of a source
-pub seeds : {before after : List ℕ} {p : Progress} (wired : ℕ) (k : Source) → isNamed wired k ≡ true
+pub seeds : {before after : List ℕ} {p : Change} (wired : ℕ) (k : Source) → isNamed wired k ≡ true
     → Demanded before after (vectorOf k) 3 0 p → Seeds wired (SourceKind wired k) before after p
 seeds wired k w d image s = by (λ m. λ w. m .kind-is) (d image wired s (at-vector k w) here .0)
 
-pub seeds-none : {marks : List ℕ} (wired : ℕ) (k : Source) → isNamed wired k ≡ false
-    → Seeds wired (SourceKind wired k) marks marks Same
+pub seeds-none : {certificate : List ℕ} (wired : ℕ) (k : Source) → isNamed wired k ≡ false
+    → Seeds wired (SourceKind wired k) certificate certificate Same
 seeds-none wired k f image s =
     record { sound = s; told = (refl, λ t. absurd (false≢true (sym f ∙ t))); kept = λ b h. refl }
 
 -- all vectors, one after the other
-pub seeds-all : {a b c d e f g : List ℕ} {p p₀ p₁ p₂ p₃ p₄ : Progress} (wired : ℕ) → Demanded a b 0xFFE 1 0 p
+pub seeds-all : {a b c d e f g : List ℕ} {p p₀ p₁ p₂ p₃ p₄ : Change} (wired : ℕ) → Demanded a b resetVector 1 0 p
     → Seeds wired (SourceKind wired Nmi) b c p₀ → Seeds wired (SourceKind wired First) c d p₁
     → Seeds wired (SourceKind wired Second) d e p₂ → Seeds wired (SourceKind wired Third) e f p₃
     → Seeds wired (SourceKind wired Fourth) f g p₄
@@ -133,8 +133,8 @@ seeds-all {a} wired reset s₀ s₁ s₂ s₃ s₄ image s =
     each h₀ h₁ h₂ h₃ h₄ Fourth = h₄
 
 -- the vectors, then all addresses
-pub finishes : {image a b c : List ℕ} {wired : ℕ} {p q : Progress} → Sound image wired a
-    → Seeds wired (Seeded wired) a b p → Swept image b c q → Stepped image wired (Finished image wired) a c (joined p q)
+pub finishes : {image a b c : List ℕ} {wired : ℕ} {p q : Change} → Sound image wired a
+    → Seeds wired (Seeded wired) a b p → Swept image b c q → Worked image wired (Finished image wired) a c (joined p q)
 finishes {image} {wired = wired} s f g =
     let t = f image s in
     by (λ z. (z .0, z .1)) (then t (g wired (t .sound)))

@@ -37,6 +37,6 @@ Makes image wired before after (done levels) = None (questions image wired befor
 Makes image wired before after (refused r) = FirstApplies (questions image wired before) r × (after ≡ before)
 
 -- once nothing but 26 can apply: the least certificate, or that there is none
-abbrev pub Completed : (image : List ℕ) → (wired : ℕ) → (marks : List ℕ) → Answer ℕ → Type 0
-Completed image wired marks (done levels) = Least image wired marks levels
-Completed image wired marks (refused r) = NoneAccepted image wired × (r ≡ plain 26)
+abbrev pub Completed : (image : List ℕ) → (wired : ℕ) → (certificate : List ℕ) → Answer ℕ → Type 0
+Completed image wired certificate (done levels) = Least image wired certificate levels
+Completed image wired certificate (refused r) = NoneAccepted image wired × (r ≡ plain 26)

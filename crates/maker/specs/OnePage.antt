@@ -13,14 +13,14 @@ use Rattle.isa.specs.Decode as decode
 use Rattle.isa.specs.Decode.{decodeAt}
 use Rattle.isa.specs.Displacement.{forwardOf}
 use Rattle.isa.specs.ControlFlow.{flowOf}
-use Rattle.isa.specs.Sources.{isNamed, vectorOf}
+use Rattle.isa.specs.Sources.{isNamed, vectorOf, resetVector}
 use Rattle.isa.specs.declared.Instruction.{Instruction}
 use Rattle.isa.specs.declared.Source.{Source}
 use Rattle.certificate.specs.Marks.{Marked, kindAt, needAt}
 use Rattle.certificate.specs.Check.{accepted}
 use Rattle.certificate.specs.OnePage.{checkUnpaged}
 use Rattle.certificate.specs.Refusals.{Question, asks, FirstApplies, None, unknownSource}
-use Rattle.maker.specs.Reach.{GoesOn}
+use Rattle.maker.specs.Reach.{Continues}
 use Rattle.maker.specs.Make.{Makes}
 
 -- the instruction at a leads, in code of a kind, to b
@@ -29,11 +29,11 @@ pub record LeadsUnpaged (image : List ℕ) (a kind b kind′ levels : ℕ) : Typ
   pub bytes : ℕ
   pub cycles : ℕ
   pub decodes : decodeAt image a ≡ done (decode.instruction instruction bytes cycles)
-  pub goes-on : GoesOn kind (flowOf instruction a) (forwardOf a bytes) b kind′ levels
+  pub goes-on : Continues kind (flowOf instruction a) (forwardOf a bytes) b kind′ levels
 
 -- "addresses reachable from FFEh or a wired vector"
 pub data ReachableUnpaged (image : List ℕ) (wired : ℕ) : (address kind : ℕ) → Type 0 where
-  at-reset : ReachableUnpaged image wired 0xFFE 1
+  at-reset : ReachableUnpaged image wired resetVector 1
   at-vector : (s : Source) → isNamed wired s ≡ true → ReachableUnpaged image wired (vectorOf s) 3
   onward :
       {a kind b kind′ levels : ℕ} → ReachableUnpaged image wired a kind → LeadsUnpaged image a kind b kind′ levels

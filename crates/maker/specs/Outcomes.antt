@@ -1,19 +1,19 @@
 -- What the maker answers of every image, wired byte and buffer, in document 02's words (W-202). The maker promises
--- `Makes` (specs/Make) of its answer; the four claims are what follows from it: `MadeIsLeast`, `RefusalsExactly`,
--- `RefusedWith26Exactly` and `OneAnswer`.
+-- `Makes` (specs/Make) of its answer; the three claims are what follows from it: `MadeIsLeast`, `RefusalsExactly` and
+-- `OneAnswer`.
 use Prim.Native.Nat.{ℕ, _≤_}
 use mathlib.Core.Path.{_≡_}
 use mathlib.Core.Logic.{_⊎_}
-use mathlib.Core.List.{List, [], _∷_}
+use mathlib.Core.List.{List, [], _∷_, _++_}
 use lib.ListN.{length}
 use Rattle.certificate.specs.Check.{marksIn}
-use Rattle.isa.specs.Refusals.{Numbered, plain, Answer, done, refused}
+use Rattle.isa.specs.Refusals.{Numbered, Answer, done, refused}
 use Rattle.certificate.specs.Marks.{markAt, Marked, kindAt, needAt}
 use Rattle.certificate.specs.Check.{accepted, checkOf}
-use Rattle.certificate.specs.Refusals.{Question, None, imageLength, unknownSource}
+use Rattle.certificate.specs.Refusals.{Question, None}
 use Rattle.maker.specs.Reach.{Reachable}
-use Rattle.maker.specs.Least.{NoneAccepted, NoSmaller}
-use Rattle.maker.specs.Make.{bufferLength, questions, Makes}
+use Rattle.maker.specs.Least.{NoSmaller}
+use Rattle.maker.specs.Make.{questions, Makes}
 
 -- another certificate has a mark at an address too, of the same kind and with at least the same need
 pub record Covers (other certificate : List ℕ) (a : ℕ) : Type 0 where
@@ -55,18 +55,24 @@ pub record GivenExactly (earlier : List Question) (q : Question) (answer : Answe
   pub only : answer ≡ refused (q .refusal) → None earlier × q .Applies
   pub always : None earlier → q .Applies → answer ≡ refused (q .refusal)
 
--- 1, 11 and 25, where the maker gives an answer to an image, a wired byte and a buffer, of which `before` is what it
--- holds before the call, and `after` what it holds afterwards
+-- each question of a list is so, after those before it
+abbrev pub EachExactly : (earlier qs : List Question) → Answer ℕ → Type 0
+EachExactly earlier [] answer = Unit
+EachExactly earlier (q ∷ later) answer = GivenExactly earlier q answer × EachExactly (earlier ++ (q ∷ [])) later answer
+
+-- a refusal is that of one of the questions
+abbrev pub IsAsked : List Question → Numbered → Type 0
+IsAsked [] r = ⊥
+IsAsked (q ∷ qs) r = (r ≡ q .refusal) ⊎ IsAsked qs r
+
+-- 1, 11, 25 and 26, where the maker gives an answer to an image, a wired byte and a buffer, of which `before` is what
+-- it holds before the call, and `after` what it holds afterwards
 pub record Refuses (image : List ℕ) (wired : ℕ) (before after : List ℕ) (answer : Answer ℕ) : Type 0 where
-  -- "It refuses with 1 ..": exactly when the image's length is neither 2048 nor 4096
-  pub with-1 : GivenExactly [] (imageLength image) answer
-  -- ".. then 11 ..": exactly when 1 does not apply, and the wired byte names something else than sources
-  pub with-11 : GivenExactly (imageLength image ∷ []) (unknownSource wired) answer
-  -- ".. then 25 when the buffer isn't the image's length": exactly then, where neither 1 nor 11 applies
-  pub with-25 : GivenExactly (imageLength image ∷ unknownSource wired ∷ []) (bufferLength image before) answer
+  -- "It refuses with 1, then 11, then 25 when the buffer isn't the image's length, then 26 exactly when no certificate
+  -- would be accepted": each exactly when it applies and none of the earlier ones does
+  pub each : EachExactly [] (questions image wired before) answer
   -- no other number is given
-  pub no-other :
-      (r : Numbered) → answer ≡ refused r → (r ≡ plain 1) ⊎ (r ≡ plain 11) ⊎ (r ≡ plain 25) ⊎ (r ≡ plain 26)
+  pub no-other : (r : Numbered) → answer ≡ refused r → IsAsked (questions image wired before) r
   -- a refusal leaves the buffer as it was
   pub untouched : (r : Numbered) → answer ≡ refused r → after ≡ before
   -- a certificate is written exactly when none of 1, 11, 25 and 26 applies: only then ..
@@ -74,31 +80,13 @@ pub record Refuses (image : List ℕ) (wired : ℕ) (before after : List ℕ) (a
   -- .. and always then
   pub written-always : None (questions image wired before) → (levels : ℕ) × (answer ≡ done levels)
 
--- "It refuses with 1, then 11, then 25 when the buffer isn't the image's length"
+-- "It refuses with 1, then 11, then 25 when the buffer isn't the image's length, then 26 exactly when no certificate
+-- would be accepted."
 -- proved by refusals-exactly, proofs/Outcomes
 abbrev pub RefusalsExactly : Type 0
 RefusalsExactly =
     (image : List ℕ) (wired : ℕ) (before after : List ℕ) (answer : Answer ℕ) → Makes image wired before after answer
     → Refuses image wired before after answer
-
--- 26, where the maker gives an answer to an image, a wired byte and a buffer
-pub record RefusesWith26 (image : List ℕ) (wired : ℕ) (before : List ℕ) (answer : Answer ℕ) : Type 0 where
-  -- only when the check accepts no certificate ..
-  pub only : answer ≡ refused (plain 26) → NoneAccepted image wired
-  -- .. and none of 1, 11 and 25 applies
-  pub only-then :
-      answer ≡ refused (plain 26) → None (imageLength image ∷ unknownSource wired ∷ bufferLength image before ∷ [])
-  -- and always then
-  pub always :
-      None (imageLength image ∷ unknownSource wired ∷ bufferLength image before ∷ []) → NoneAccepted image wired
-      → answer ≡ refused (plain 26)
-
--- ".. then 26 exactly when no certificate would be accepted"
--- proved by refused-with-26-exactly, proofs/Outcomes
-abbrev pub RefusedWith26Exactly : Type 0
-RefusedWith26Exactly =
-    (image : List ℕ) (wired : ℕ) (before after : List ℕ) (answer : Answer ℕ) → Makes image wired before after answer
-    → RefusesWith26 image wired before answer
 
 -- the program has no choice: two answers to the same image, wired byte and buffer are the same, and so is what the
 -- buffer holds afterwards. There is one least certificate.

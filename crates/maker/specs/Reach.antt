@@ -9,7 +9,7 @@ use Rattle.isa.specs.Decode as decode
 use Rattle.isa.specs.Decode.{decodeAt}
 use Rattle.isa.specs.Displacement.{forwardOf}
 use Rattle.isa.specs.ControlFlow.{flowOf}
-use Rattle.isa.specs.Sources.{isNamed, vectorOf}
+use Rattle.isa.specs.Sources.{isNamed, vectorOf, resetVector}
 use Rattle.isa.specs.declared.Condition.{Condition}
 use Rattle.isa.specs.declared.Flow.{Flow}
 use Rattle.isa.specs.declared.Flow.the-variants as flow
@@ -20,15 +20,15 @@ use Rattle.isa.specs.declared.Source.{Source}
 -- ways, and a CALL is taken to return."; kinds by document 01: "each address where the instruction may continue [..] has
 -- the same kind. For CALL that is the address plus 2, and the target has kind 4.", "RETI in kind 1 has the next address,
 -- of kind 2"; RET, and RETI of a service, go on nowhere
-pub data GoesOn : (kind : ℕ) → Flow → (next : ℕ) → (address kind′ levels : ℕ) → Type 0 where
-  goes-next : {k n : ℕ} → GoesOn k flow.Next n n k 0
-  wakes : {k n : ℕ} → GoesOn k flow.Sleep n n k 0
-  jumps : {k t n : ℕ} → GoesOn k (flow.Jump t) n t k 0
-  branches : {c : Condition} {k t n : ℕ} → GoesOn k (flow.Branch c t) n t k 0
-  passes-by : {c : Condition} {k t n : ℕ} → GoesOn k (flow.Branch c t) n n k 0
-  calls : {k t n : ℕ} → GoesOn k (flow.Call t) n t 4 1
-  comes-back : {k t n : ℕ} → GoesOn k (flow.Call t) n n k 0
-  ends-start-up : {n : ℕ} → GoesOn 1 flow.ReturnFromInterrupt n n 2 0
+pub data Continues : (kind : ℕ) → Flow → (next : ℕ) → (address kind′ levels : ℕ) → Type 0 where
+  goes-next : {k n : ℕ} → Continues k flow.Next n n k 0
+  wakes : {k n : ℕ} → Continues k flow.Sleep n n k 0
+  jumps : {k t n : ℕ} → Continues k (flow.Jump t) n t k 0
+  branches : {c : Condition} {k t n : ℕ} → Continues k (flow.Branch c t) n t k 0
+  passes-by : {c : Condition} {k t n : ℕ} → Continues k (flow.Branch c t) n n k 0
+  calls : {k t n : ℕ} → Continues k (flow.Call t) n t 4 1
+  comes-back : {k t n : ℕ} → Continues k (flow.Call t) n n k 0
+  ends-start-up : {n : ℕ} → Continues 1 flow.ReturnFromInterrupt n n 2 0
 
 -- the instruction that stands at a, with some page in place, leads, in code of a kind, to b: reach is the union over
 -- the pages (document 02, W-210)
@@ -38,20 +38,20 @@ pub record Leads (image : List ℕ) (a kind b kind′ levels : ℕ) : Type 0 whe
   pub bytes : ℕ
   pub cycles : ℕ
   pub decodes : decodeAt (spaceOf image bank) a ≡ done (decode.instruction instruction bytes cycles)
-  pub goes-on : GoesOn kind (flowOf instruction a) (forwardOf a bytes) b kind′ levels
+  pub goes-on : Continues kind (flowOf instruction a) (forwardOf a bytes) b kind′ levels
 
 -- "addresses reachable from FFEh or a wired vector", each with the kind that the rules force on it: "FFEh has kind 1.
 -- Each wired source's vector has kind 3."
 pub data Reachable (image : List ℕ) (wired : ℕ) : (address kind : ℕ) → Type 0 where
-  at-reset : Reachable image wired 0xFFE 1
+  at-reset : Reachable image wired resetVector 1
   at-vector : (s : Source) → isNamed wired s ≡ true → Reachable image wired (vectorOf s) 3
   onward :
       {a kind b kind′ levels : ℕ} → Reachable image wired a kind → Leads image a kind b kind′ levels
       → Reachable image wired b kind′
 
 -- some path from an address, in code of a kind, takes so many further levels
-pub data Takes (image : List ℕ) : (address kind levels : ℕ) → Type 0 where
-  here : {a kind : ℕ} → Takes image a kind 0
+pub data UsesLevels (image : List ℕ) : (address kind levels : ℕ) → Type 0 where
+  here : {a kind : ℕ} → UsesLevels image a kind 0
   along :
-      {a kind b kind′ levels more : ℕ} → Leads image a kind b kind′ levels → Takes image b kind′ more
-      → Takes image a kind (more + levels)
+      {a kind b kind′ levels more : ℕ} → Leads image a kind b kind′ levels → UsesLevels image b kind′ more
+      → UsesLevels image a kind (more + levels)

@@ -17,7 +17,7 @@ ghost use mathlib.Core.Path.{_≡_};
 ghost use mathlib.Core.List.{[], _∷_};
 ghost use Prim.Native.Nat.{_+_, _*_, _<_};
 ghost use Rattle.certificate.specs.Successors.{listed};
-ghost use Rattle.maker.specs.Progress.{leaves, FirstEdge, linkAt, Recorded};
+ghost use Rattle.maker.specs.Making.{leaves, FirstEdge, linkAt, Recorded};
 
 const ADDRESSES: u16 = 4096;
 

@@ -1,19 +1,19 @@
-// Progress of one part of the work and then another.
-use crate::Progress;
+// Change of one part of the work and then another.
+use crate::Change;
 ghost use mathlib.Core.Path.{_≡_};
-ghost use Rattle.maker.specs.Progress.{joined};
+ghost use Rattle.maker.specs.Making.{joined};
 
 // What both parts did together.
-pub fn join(first: Progress, second: Progress) -> Progress
+pub fn join(first: Change, second: Change) -> Change
     ensures { λ r. ⌜ r ≡ joined first second ⌝ }
 {
     match first {
-        Progress::Same => second,
-        Progress::Changed => match second {
-            Progress::Same => Progress::Changed,
-            Progress::Changed => Progress::Changed,
-            Progress::Impossible => Progress::Impossible,
+        Change::Same => second,
+        Change::Changed => match second {
+            Change::Same => Change::Changed,
+            Change::Changed => Change::Changed,
+            Change::Impossible => Change::Impossible,
         },
-        Progress::Impossible => Progress::Impossible,
+        Change::Impossible => Change::Impossible,
     }
 }

@@ -19,7 +19,7 @@ pub enum Made {
 
 // What a part of the work did to the marks: nothing, since they meet its demands; it raised some; or it found that no
 // certificate can meet them.
-pub enum Progress {
+pub enum Change {
     Same,
     Changed,
     Impossible,
@@ -27,6 +27,6 @@ pub enum Progress {
 
 // What came of a visit to an address, and where its instruction leads.
 pub struct Visit {
-    pub progress: Progress,
+    pub change: Change,
     pub successors: Successors,
 }

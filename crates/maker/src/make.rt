@@ -1,6 +1,6 @@
 // Makes the least certificate.
+use crate::Change;
 use crate::Made;
-use crate::Progress;
 use crate::join::join;
 use crate::sources::seed;
 use crate::spread::spread;
@@ -13,21 +13,21 @@ use isa::table::timings;
 ghost use mathlib.Core.Path.{_≡_};
 ghost use mathlib.Core.Bool.{true};
 ghost use Rattle.isa.specs.Sources.{namesOnlySources};
-ghost use Rattle.maker.specs.Progress.{Sound};
+ghost use Rattle.maker.specs.Making.{Sound};
 ghost use Rattle.maker.specs.Make.{madeOf, Completed, Makes};
 
 // Raises the marks to the least certificate, where there is one: from the vectors along the program's paths, until the
 // check accepts them.
-fn complete(image: &[u8], marks: &mut [u8], wired: u8) -> Made
-    requires { ⌜ Sound (now image) wired (now marks) × (namesOnlySources wired ≡ true) ⌝ }
-    ensures { λ r. ⌜ Completed (now (image .entry)) wired (now (marks .exit)) (madeOf r) ⌝ }
+fn complete(image: &[u8], certificate: &mut [u8], wired: u8) -> Made
+    requires { ⌜ Sound (now image) wired (now certificate) × (namesOnlySources wired ≡ true) ⌝ }
+    ensures { λ r. ⌜ Completed (now (image .entry)) wired (now (certificate .exit)) (madeOf r) ⌝ }
 {
     let table = timings();
-    let seeded = seed(marks, wired);
-    if let Progress::Impossible = join(seeded, spread(&table, image, marks)) {
+    let seeded = seed(certificate, wired);
+    if let Change::Impossible = join(seeded, spread(&table, image, certificate)) {
         return Made::Refused(Refusal::NoCertificate);
     }
-    settle(&table, image, marks, wired)
+    settle(&table, image, certificate, wired)
 }
 
 // Writes the least certificate of an image and its wired sources into a buffer, or refuses and leaves the buffer as it

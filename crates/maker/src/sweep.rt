@@ -1,6 +1,6 @@
 // Sweeps over all marks, until the check accepts them.
+use crate::Change;
 use crate::Made;
-use crate::Progress;
 use crate::join::join;
 use crate::marking::visit;
 use crate::sources::seed;
@@ -16,68 +16,68 @@ ghost use lib.ListN.{length};
 ghost use Rattle.isa.specs.Table.{Timings};
 ghost use Rattle.isa.specs.Rom.{IsImage};
 ghost use Rattle.isa.specs.Sources.{namesOnlySources};
-ghost use Rattle.maker.specs.Progress.{Sound, VisitedEach, Swept, Stepped, Finished};
+ghost use Rattle.maker.specs.Making.{Sound, VisitedEach, Swept, Worked, Finished};
 ghost use Rattle.maker.specs.Make.{madeOf, Completed};
 
 // Visits an address with each page in place.
-fn visit_each(table: &[u8; 256], image: &[u8], marks: &mut [u8], address: u16) -> Progress
+fn visit_each(table: &[u8; 256], image: &[u8], certificate: &mut [u8], address: u16) -> Change
     requires { ⌜ Timings (now table) × IsImage (now image) ⌝ }
-    ensures { λ r. ⌜ VisitedEach (now (image .entry)) (now (marks .entry)) (now (marks .exit)) address r ⌝ }
+    ensures { λ r. ⌜ VisitedEach (now (image .entry)) (now (certificate .entry)) (now (certificate .exit)) address r ⌝ }
 {
     let spaces = spaces_in(image.len());
-    let mut progress = Progress::Same;
+    let mut change = Change::Same;
     let mut page: u8 = 0;
     while page < spaces {
-        let visited = visit(table, image, page, marks, address);
-        let here = visited.progress;
-        progress = join(progress, here);
+        let visited = visit(table, image, page, certificate, address);
+        let here = visited.change;
+        change = join(change, here);
         page += 1;
     }
-    progress
+    change
 }
 
 // Visits all addresses, upward.
-fn sweep(table: &[u8; 256], image: &[u8], marks: &mut [u8]) -> Progress
-    requires { ⌜ Timings (now table) × IsImage (now image) × (length (now marks) ≤ 4096) ⌝ }
-    ensures { λ r. ⌜ Swept (now (image .entry)) (now (marks .entry)) (now (marks .exit)) r ⌝ }
+fn sweep(table: &[u8; 256], image: &[u8], certificate: &mut [u8]) -> Change
+    requires { ⌜ Timings (now table) × IsImage (now image) × (length (now certificate) ≤ 4096) ⌝ }
+    ensures { λ r. ⌜ Swept (now (image .entry)) (now (certificate .entry)) (now (certificate .exit)) r ⌝ }
 {
-    let mut progress = Progress::Same;
-    let mut address = PROGRAM_SPACE - marks.len();
+    let mut change = Change::Same;
+    let mut address = PROGRAM_SPACE - certificate.len();
     while address < PROGRAM_SPACE {
-        let here = visit_each(table, image, marks, address as u16);
-        progress = join(progress, here);
+        let here = visit_each(table, image, certificate, address as u16);
+        change = join(change, here);
         address += 1;
     }
-    progress
+    change
 }
 
 // All demands once: those of the vectors, then those of all addresses.
-fn pass(table: &[u8; 256], image: &[u8], marks: &mut [u8], wired: u8) -> Progress
-    requires { ⌜ Timings (now table) × Sound (now image) wired (now marks) ⌝ }
-    ensures { λ r. ⌜ Stepped (now (image .entry)) wired (Finished (now (image .entry)) wired)
-        (now (marks .entry)) (now (marks .exit)) r ⌝ }
+fn pass(table: &[u8; 256], image: &[u8], certificate: &mut [u8], wired: u8) -> Change
+    requires { ⌜ Timings (now table) × Sound (now image) wired (now certificate) ⌝ }
+    ensures { λ r. ⌜ Worked (now (image .entry)) wired (Finished (now (image .entry)) wired)
+        (now (certificate .entry)) (now (certificate .exit)) r ⌝ }
 {
-    let seeded = seed(marks, wired);
-    join(seeded, sweep(table, image, marks))
+    let seeded = seed(certificate, wired);
+    join(seeded, sweep(table, image, certificate))
 }
 
 // Raises the marks until the check accepts them, or no certificate can be accepted. Where nothing was left out before,
 // the first check decides, or a single pass after it: the levels can still be too many.
-pub fn settle(table: &[u8; 256], image: &[u8], marks: &mut [u8], wired: u8) -> Made
-    requires { ⌜ Timings (now table) × Sound (now image) wired (now marks) × (namesOnlySources wired ≡ true) ⌝ }
-    ensures { λ r. ⌜ Completed (now (image .entry)) wired (now (marks .exit)) (madeOf r) ⌝ }
+pub fn settle(table: &[u8; 256], image: &[u8], certificate: &mut [u8], wired: u8) -> Made
+    requires { ⌜ Timings (now table) × Sound (now image) wired (now certificate) × (namesOnlySources wired ≡ true) ⌝ }
+    ensures { λ r. ⌜ Completed (now (image .entry)) wired (now (certificate .exit)) (madeOf r) ⌝ }
 {
     loop {
-        match check(image, marks, wired) {
+        match check(image, certificate, wired) {
             Checked::Accepted(levels) => {
                 return Made::Written(levels);
             }
-            Checked::Refused(_) => match pass(table, image, marks, wired) {
-                Progress::Same => {
+            Checked::Refused(_) => match pass(table, image, certificate, wired) {
+                Change::Same => {
                     return Made::Refused(Refusal::NoCertificate);
                 }
-                Progress::Changed => {}
-                Progress::Impossible => {
+                Change::Changed => {}
+                Change::Impossible => {
                     return Made::Refused(Refusal::NoCertificate);
                 }
             },

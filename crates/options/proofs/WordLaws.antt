@@ -3,7 +3,7 @@ use Prim.Native.Nat.{ℕ, suc, _+_, _≤_, _<_}
 use native.Mathlib.Omega.{arith}
 use native.Mathlib.Numerals.{add-one}
 use mathlib.Core.Path.{_≡_, refl, ap}
-use mathlib.Core.Bool.{Bool, true, false, cond, _||_}
+use mathlib.Core.Bool.{Bool, true, false, _||_, false≢true, and-eq-true-iff, and-false}
 use mathlib.Core.List.{List, [], _∷_}
 use lib.Dec.{eqb}
 use lib.ListN.{length, drop, getD, drop-of-length-le}
@@ -12,21 +12,13 @@ use borrow.Author.Tests.{eqb-true, eq-eqb, ne-eqb}
 use Rattle.options.specs.declared.words.Word.the-variants as word
 use Rattle.options.specs.Words.{otherWord, same, SameIsEqual}
 
-never : false ≡ true → ⊥
-never e = let z : _≡_ {A = ℕ} 0 1 = cc in omega arith
-
--- both parts of a choice with `false`
-both : (x y : Bool) → cond x y false ≡ true → (x ≡ true) × (y ≡ true)
-both true y e = (refl, e)
-both false y e = absurd (never e)
-
 equal : (a b : List ℕ) → same a b ≡ true → a ≡ b
 unfolding same
 equal [] [] e = refl
-equal [] (y ∷ b) e = absurd (never e)
-equal (x ∷ a) [] e = absurd (never e)
+equal [] (y ∷ b) e = absurd (false≢true e)
+equal (x ∷ a) [] e = absurd (false≢true e)
 equal (x ∷ a) (y ∷ b) e =
-    let p = both (eqb x y) (same a b) e in
+    let p = and-eq-true-iff (eqb x y) (same a b) .0 e in
     rw (eqb-true x y (p .0), equal a b (p .1))
 
 itself : (a : List ℕ) → same a a ≡ true
@@ -43,11 +35,7 @@ unfolding same
 other-length [] [] n = absurd (n refl)
 other-length [] (y ∷ b) n = refl
 other-length (x ∷ a) [] n = refl
-other-length (x ∷ a) (y ∷ b) n = go (eqb x y) (other-length a b (λ e. n (ap suc e)))
-  where
-    go : (t : Bool) → same a b ≡ false → cond t (same a b) false ≡ false
-    go true e = e
-    go false e = refl
+other-length (x ∷ a) (y ∷ b) n = rw (other-length a b (λ e. n (ap suc e))) (and-false (eqb x y))
 
 module _ (a b : List ℕ) (i : ℕ) (p : i < length a) (q : i < length b) where
   -- from a letter on: it differs, or the letters after it decide

@@ -1,7 +1,7 @@
 -- The words of a command line: commands and options by their names.
 use Prim.Native.Nat.{ℕ}
 use mathlib.Core.Path.{_≡_}
-use mathlib.Core.Bool.{Bool, true, false, cond}
+use mathlib.Core.Bool.{Bool, true, false, cond, _&&_}
 use mathlib.Core.List.{List, [], _∷_}
 use lib.Dec.{eqb}
 use Rattle.isa.specs.Refusals.{unless}
@@ -17,7 +17,7 @@ unfoldable pub same : (a b : List ℕ) → Bool
 same [] [] = true
 same [] (y ∷ b) = false
 same (x ∷ a) [] = false
-same (x ∷ a) (y ∷ b) = cond (eqb x y) (same a b) false
+same (x ∷ a) (y ∷ b) = eqb x y && same a b
 
 -- words are the same exactly where they are equal
 -- proved by same-is-equal, proofs/WordLaws

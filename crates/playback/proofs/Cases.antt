@@ -21,7 +21,7 @@ use Rattle.bench.proofs.Unrolled.{none-asks}
 use Rattle.playback.specs.Entries.{entriesOf}
 use Rattle.playback.specs.Record.{bodyOf, bodyIn}
 use Rattle.playback.specs.Play.{playFrom, playOf}
-use Rattle.playback.specs.Cases.{entries11, session11, P11Played}
+use Rattle.playback.specs.Cases.{entries11, recording11, P11Played}
 use Rattle.playback.proofs.Safety.{played-safely}
 
 -- NMI's request asks for NMI alone
@@ -29,15 +29,15 @@ nmi-asks : AsksOnly 0x01 0x01
 nmi-asks s is = is
 
 pub p11-played : P11Played
-unfolding leaves levelsInUse resetOf freshOf hostStoreOf Step.stepOf Step.advancedOf Step.respondOf
-    Step.uninterruptedOf Step.decodedOf Step.executedOf Step.completedOf Step.takenOf Step.takenBy executeOf effectOf
+unfolding leaves levelsInUse resetOf freshOf hostStoreOf Step.stepOf Step.actionOf Step.dueOf
+    Step.unrequestedAction Step.actedOf Step.executedOf Step.completedOf Step.takenOf Step.takenBy executeOf effectOf
     WellFormed.addressesFit WellFormed.wellFormed Requests.requestedOf Requests.servingOf Requests.takeOf
     Transfers.callOf Transfers.returnFromInterruptOf Transfers.advanceOf Stack.pushOf Stack.popOf
     Map.entryOf Table.bytesOf Table.cyclesOf Map.formAs Map.formOf Rom.spaceOf Rom.pageOf Rom.fixedOf Rom.romAt Rom.operandAt Decode.decodeAt
     ControlFlow.flowOf entriesOf bodyOf bodyIn playFrom playOf
 p11-played = record {
   within =
-      played-safely _ _ 0x01 2 (check-cases .p11) session11 entries11 refl
+      played-safely _ _ 0x01 2 (check-cases .p11) recording11 entries11 refl
       (none-asks 1, (none-asks 1, (none-asks 1, (nmi-asks, (tt, (tt, tt))))));
   playing = playFrom image11 0 0 freshOf entries11;
   plays = refl;

@@ -5,15 +5,14 @@ use mathlib.Core.Bool.{Bool, true, false, cond}
 use mathlib.Core.List.{List}
 use lib.Dec.{ltb}
 use lib.ListN.{length}
-use Rattle.isa.specs.Refusals.{plain, Answer, done, refused, unless}
+use Rattle.isa.specs.Refusals.{plain, Answer, done, refused}
 use Rattle.isa.specs.Displacement.{forwardOf}
 use Rattle.isa.specs.Map.{Entry, entryOf, formOf}
 use Rattle.isa.specs.Map.{JRNZ, JRNC, JRZ, JRC, CALL, JP, JRR, JRS, RES, SET}
 use Rattle.isa.specs.Map.{LD-A, LD-to, INC, DEC, ADD, SUB, AND, CP}
 use Rattle.isa.specs.Map.{LDI-A, LDI-rr, ADDI, SUBI, ANDI, CPI, COM, RLC, RET, RETI, STOP, WAIT, #}
 use Rattle.isa.specs.Table.{bytesOf, cyclesOf}
-use Rattle.isa.specs.Rom.{isSpace, isImage, romAt, operandAt}
-use Rattle.isa.specs.Sources.{namesOnlySources}
+use Rattle.isa.specs.Rom.{isSpace, romAt, operandAt}
 use Rattle.isa.specs.Decode.{Decoding, instruction, withForm, withSecond, withFirst, withOpcode, decodeOf, decodeAt}
 use Rattle.isa.specs.declared.Form.{Form}
 use Rattle.isa.specs.declared.Form.the-variants.{Is, Undefined}
@@ -21,15 +20,16 @@ use Rattle.isa.specs.declared.rom.RomByte.{RomByte}
 use Rattle.isa.specs.declared.rom.RomByte.the-variants.{Byte, Outside}
 use Rattle.control.specs.declared.Stop.{Stop}
 use Rattle.control.specs.declared.Stop.the-variants as stop
-use Rattle.control.specs.declared.Requested.{Requested}
-use Rattle.control.specs.declared.Requested.the-variants.{Nothing, Taken}
-use Rattle.control.specs.Requests.{requestedOf, takeOf}
+use Rattle.control.specs.Requests.{takeOf}
 use Rattle.data.specs.Space.{programOf}
 use Rattle.machine.specs.declared.Machine.{Machine}
 use Rattle.machine.specs.Execute.{Execution, executeOf}
-use Rattle.machine.specs.State.{viewOf, isWellFormed}
-use Rattle.machine.specs.Advance.{stoppedOf, servedOf, takenBy, takenOf, afterOf, completedOf, executedOf, decodedOf}
-use Rattle.machine.specs.Advance.{doneOf, refusedOf, uninterruptedOf, respondOf, enabledOf, advancedOf}
+use Rattle.machine.specs.State.{viewOf}
+use Rattle.machine.specs.Actions.{StepAction, actionOf}
+use Rattle.machine.specs.Advance.{stoppedOf, servedOf, takenBy, takenOf, afterOf, completedOf}
+use Rattle.machine.specs.Advance.{executedOf, doneOf, actedOf}
+use Rattle.machine.proofs.Due.{Due, taking, idling, executing, undecoding, is-due, ActionTested}
+use Rattle.machine.proofs.Due.{refusing, passing, is-tested}
 use Rattle.machine.specs.Step.{stepOf}
 
 -- an answer in at most 255 cycles
@@ -110,41 +110,25 @@ module _ (space : List ℕ) (m : Machine) where
   unless-stopped stop.Full after n few = tt
   unless-stopped stop.Empty after n few = tt
 
-  decoded-short : (a : Answer Decoding) → ShortCode a → Short (decodedOf space m a .answer)
-  unfolding decodedOf executedOf completedOf
-  decoded-short (done (instruction i bytes cycles)) few =
-      let x : Execution = executeOf space (viewOf m) (m .stack) (m .control) i (forwardOf (m .control .pc) bytes) in
-      unless-stopped (x .stop) (afterOf m x) cycles few
-  decoded-short (refused why) few = tt
-
-  uninterrupted-short : Short (uninterruptedOf space m .answer)
-  unfolding uninterruptedOf
-  uninterrupted-short = by-sleep (m .control .asleep)
-    where
-      by-sleep :
-          (b : Bool) → Short (cond b (doneOf m 0) (decodedOf space m (decodeAt space (m .control .pc))) .answer)
-      by-sleep true = omega arith
-      by-sleep false = decoded-short (decodeAt space (m .control .pc)) (decode-short space (m .control .pc))
-
-  responds-short : (r : Requested) → Short (respondOf space m r .answer)
-  unfolding respondOf takenOf takenBy
-  responds-short (Taken source) =
+  -- what is due takes few cycles, or stops
+  by-due : (request : ℕ) (a : StepAction) → Due space m request a → Short (actedOf space m a .answer)
+  unfolding actedOf takenOf takenBy executedOf completedOf
+  by-due request _ (taking source is) =
       let t = takeOf (m .stack) (m .control) source in unless-stopped (t .stop) (servedOf m t) 1 (omega arith)
-  responds-short Nothing = uninterrupted-short
+  by-due request _ (idling nothing asleep) = omega arith
+  by-due request _ (executing i bytes cycles nothing awake at) =
+      let x : Execution = executeOf space (viewOf m) (m .stack) (m .control) i (forwardOf (m .control .pc) bytes) in
+      let few : ShortCode (done (instruction i bytes cycles)) = rw at at (decode-short space (m .control .pc)) in
+      unless-stopped (x .stop) (afterOf m x) cycles few
+  by-due request _ (undecoding why nothing awake at) = tt
 
 pub step-short : (image : List ℕ) (m : Machine) (request : ℕ) → Short (stepOf image m request .answer)
-unfolding stepOf advancedOf
-step-short image m request = by-tests (isImage (length image)) (isWellFormed m) (namesOnlySources request)
+unfolding stepOf actedOf
+step-short image m request = by-test (actionOf image m request) (is-tested image m request)
   where
-    by-tests :
-        (i w n : Bool) →
-        Short
-        (unless i (refusedOf m (plain 1))
-        (unless w (refusedOf m (plain 2))
-        (unless n (refusedOf m (plain 11)) (advancedOf (programOf image (m .bytes)) m request)))
-        .answer)
-    by-tests true true true =
-        responds-short (programOf image (m .bytes)) m (requestedOf (m .control .mode) (enabledOf (m .bytes)) request)
-    by-tests true true false = tt
-    by-tests true false n = tt
-    by-tests false w n = tt
+    by-test :
+        (a : StepAction) → ActionTested image m request a →
+        Short (actedOf (programOf image (m .bytes)) m a .answer)
+    by-test _ (refusing why is) = tt
+    by-test _ (passing size formed sources) =
+        by-due (programOf image (m .bytes)) m request _ (is-due (programOf image (m .bytes)) m request)

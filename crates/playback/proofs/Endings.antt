@@ -45,10 +45,11 @@ later-safely f rest _ _ (ends.store-refused number address value is) =
     ends.store-refused (suc number) address value (one-later _ f rest number is)
 
 later :
-    (f : Entry) (rest : List Entry) (number : ℕ) (ending : Ended) → EndsOrStops rest number ending →
-    EndsOrStops (f ∷ rest) (suc number) ending
-later f rest _ _ (ends.safely number ending is) = ends.safely (suc number) ending (later-safely f rest number ending is)
-later f rest _ _ (ends.step-stops number request reason is stop) =
+    (m : Machine) (f : Entry) (rest : List Entry) (number : ℕ) (ending : Ended) → EndsOrStops m rest number ending →
+    EndsOrStops m (f ∷ rest) (suc number) ending
+later m f rest _ _ (ends.safely number ending is) =
+    ends.safely (suc number) ending (later-safely f rest number ending is)
+later m f rest _ _ (ends.step-stops number request reason is stop) =
     ends.step-stops (suc number) request reason (one-later _ f rest number is) stop
 
 module _ (image : List ℕ) (all : Bytes image) (size : isImage (length image) ≡ true) where
@@ -56,14 +57,14 @@ module _ (image : List ℕ) (all : Bytes image) (size : isImage (length image) �
   record Ends (n : ℕ) (entries : List Entry) (p : Playing) : Type 0 where
     pub count : ℕ
     pub number : p .entries ≡ n + count
-    pub ends : EndsOrStops entries count (p .ending)
+    pub ends : EndsOrStops (p .machine) entries count (p .ending)
 
   one-before : (n : ℕ) (e : Entry) (rest : List Entry) (p : Playing) → Ends (n + 1) rest p → Ends n (e ∷ rest) p
   one-before n e rest p w =
       record {
         count = suc (w .count);
         number = omega (arith, w .number);
-        ends = later e rest (w .count) (p .ending) (w .ends);
+        ends = later (p .machine) e rest (w .count) (p .ending) (w .ends);
       }
 
   -- the rest is played on any machine that is well formed
@@ -73,7 +74,7 @@ module _ (image : List ℕ) (all : Bytes image) (size : isImage (length image) �
   module _ (n cycles : ℕ) (m : Machine) (formed : isWellFormed m ≡ true) (rest : List Entry) (more : Rest rest) where
     step-ends :
         (request : ℕ) (reason : Numbered) → StepRefused image m request reason →
-        EndsOrStops (Step request ∷ rest) 0 (refused reason)
+        EndsOrStops m (Step request ∷ rest) 0 (refused reason)
     step-ends request _ (why.image-length i) = absurd (false≢true (sym i ∙ size))
     step-ends request _ (why.ill-formed i w) = absurd (false≢true (sym w ∙ formed))
     step-ends request _ (why.unknown-source i w u) =
@@ -135,12 +136,12 @@ fresh-formed = stays-well-formed .by-reset _
 
 pub ends-by-entry : EndsByEntry
 unfolding playOf
-ends-by-entry image all session entries reads p plays = by-size (isImage (length image)) refl plays
+ends-by-entry image all recording entries reads p plays = by-size (isImage (length image)) refl plays
   where
     by-size :
         (i : Bool) → isImage (length image) ≡ i →
-        unless i (refused (plain 1)) (playedBy image (entriesIn session)) ≡ done p →
-        EndsOrStops entries (p .entries) (p .ending)
+        unless i (refused (plain 1)) (playedBy image (entriesIn recording)) ≡ done p →
+        EndsOrStops (p .machine) entries (p .entries) (p .ending)
     by-size false size plays = let z : _≡_ {A = ℕ} 0 1 = cc in absurd (omega arith)
     by-size true size plays =
         let whole = sym (ap (playedBy image) reads) ∙ plays in

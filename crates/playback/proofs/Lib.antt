@@ -17,3 +17,4 @@ pub mod ValueWalk
 pub mod ArrayWalk
 pub mod OnePage
 pub mod NoTrace
+pub mod UnderWindow

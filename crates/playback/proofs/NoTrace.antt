@@ -29,7 +29,7 @@ asks-first wired (suc k) (e ∷ entries) asks = (asks .0, asks-first wired k ent
 
 pub played-no-trace : PlayedNoTrace
 unfolding playOf freshOf
-played-no-trace image certificate wired levels accepts session entries reads asks =
+played-no-trace image certificate wired levels accepts recording entries reads asks =
     let ok = agreement image certificate wired levels .sound accepts in
     let g =
     reset-invariant image certificate wired levels ok

@@ -50,4 +50,4 @@ module _ (image : List ℕ) (is : isSpace (length image) ≡ true) where
 
 pub playback-as-before : PlaybackAsBefore
 unfolding playOf
-playback-as-before image is session = rw (space-image image is, is) (played-is image is (entriesIn session))
+playback-as-before image is recording = rw (space-image image is, is) (played-is image is (entriesIn recording))

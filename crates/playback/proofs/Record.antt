@@ -45,14 +45,14 @@ module _ (entries : List Entry) where
 
   short-header : BodyAt (1 ∷ n / 256 ∷ n % 256 ∷ body) 3
   short-header =
-      let session : List ℕ = 1 ∷ n / 256 ∷ n % 256 ∷ body in
-      let counted : countOf session ≡ n = omega arith in
+      let recording : List ℕ = 1 ∷ n / 256 ∷ n % 256 ∷ body in
+      let counted : countOf recording ≡ n = omega arith in
       why.version-1 refl (omega (arith, counted))
 
   long-header : 65536 ≤ n → n ≤ 1048576 → BodyAt (2 ∷ n / 65536 ∷ n / 256 % 256 ∷ n % 256 ∷ body) 4
   long-header some few =
-      let session : List ℕ = 2 ∷ n / 65536 ∷ n / 256 % 256 ∷ n % 256 ∷ body in
-      let counted : longCountOf session ≡ n = omega arith in
+      let recording : List ℕ = 2 ∷ n / 65536 ∷ n / 256 % 256 ∷ n % 256 ∷ body in
+      let counted : longCountOf recording ≡ n = omega arith in
       why.version-2 refl (omega (arith, counted)) (omega (arith, counted, some)) (omega (arith, counted, few))
 
   pub whole : n ≤ 1048576 → entriesIn (recordBytes entries) ≡ done entries
@@ -65,8 +65,8 @@ module _ (entries : List Entry) where
 
 -- a body behind a right header is written behind that header again
 behind :
-    (session : List ℕ) → Bytes session → (start : ℕ) → BodyAt session start → (body : List ℕ) →
-    body ≡ drop start session → headerBytes (length body) ++ body ≡ session
+    (recording : List ℕ) → Bytes recording → (start : ℕ) → BodyAt recording start → (body : List ℕ) →
+    body ≡ drop start recording → headerBytes (length body) ++ body ≡ recording
 behind [] bytes _ (why.version-1 one counted) body is = absurd (omega (arith, counted))
 behind (version ∷ []) bytes _ (why.version-1 one counted) body is = absurd (omega (arith, counted))
 behind (version ∷ high ∷ []) bytes _ (why.version-1 one counted) body is = absurd (omega (arith, counted))
@@ -88,25 +88,26 @@ behind (version ∷ high ∷ middle ∷ low ∷ rest) bytes _ (why.version-2 two
     rw (is, long, above, between, below, two)
 
 -- a record that is read has a right header, and a body that is the writing of its entries
-pub record ReadFrom (session : List ℕ) (entries : List Entry) : Type 0 where
+pub record ReadFrom (recording : List ℕ) (entries : List Entry) : Type 0 where
   pub start : ℕ
-  pub after : BodyAt session start
-  pub writes : bodyBytes entries ≡ drop start session
+  pub after : BodyAt recording start
+  pub writes : bodyBytes entries ≡ drop start recording
 
-pub read-from : (session : List ℕ) (entries : List Entry) → entriesIn session ≡ done entries → ReadFrom session entries
-read-from session entries reads = go (bodyIn session) (headed session) reads
+pub read-from : (recording : List ℕ) (entries : List Entry) → entriesIn recording ≡ done entries →
+    ReadFrom recording entries
+read-from recording entries reads = go (bodyIn recording) (headed recording) reads
   where
-    go : (a : Answer (List ℕ)) → Headed session a → readBody a ≡ done entries → ReadFrom session entries
+    go : (a : Answer (List ℕ)) → Headed recording a → readBody a ≡ done entries → ReadFrom recording entries
     go _ (header.refusing n why) reads = let z : _≡_ {A = ℕ} 0 1 = cc in absurd (omega arith)
     go _ (header.starting start after) reads =
-        record { start = start; after = after; writes = written-read (drop start session) entries reads }
+        record { start = start; after = after; writes = written-read (drop start recording) entries reads }
 
 again :
-    (session : List ℕ) → Bytes session → (entries : List Entry) → entriesIn session ≡ done entries →
-    recordBytes entries ≡ session
-again session bytes entries reads =
-    let from = read-from session entries reads in
-    behind session bytes (from .start) (from .after) (bodyBytes entries) (from .writes)
+    (recording : List ℕ) → Bytes recording → (entries : List Entry) → entriesIn recording ≡ done entries →
+    recordBytes entries ≡ recording
+again recording bytes entries reads =
+    let from = read-from recording entries reads in
+    behind recording bytes (from .start) (from .after) (bodyBytes entries) (from .writes)
 
 pub records-read-back : RecordsReadBack
 records-read-back = record {

@@ -19,68 +19,69 @@ use Rattle.playback.proofs.HeaderCases.{Headed, headed, starts, refuses
 use Rattle.playback.proofs.HeaderCases as header
 use Rattle.playback.proofs.Record.{written-nowhere, nowhere-read}
 
-module _ (image session : List ℕ) where
+module _ (image recording : List ℕ) where
   -- a record is refused, or its entries are played
   data Outcome : Answer Playing → Type 0 where
-    refusing : (n : Numbered) → PlayRefused image session n → Outcome (refused n)
+    refusing : (n : Numbered) → PlayRefused image recording n → Outcome (refused n)
     playing :
-        (start : ℕ) → BodyAt session start → (entries : List Entry) → bodyBytes entries ≡ drop start session →
+        (start : ℕ) → BodyAt recording start → (entries : List Entry) → bodyBytes entries ≡ drop start recording →
         Outcome (done (playFrom image 0 0 freshOf entries))
 
   module _ (size : isImage (length image) ≡ true) where
     by-entries :
-        (start : ℕ) → BodyAt session start → (a : Answer (List Entry)) → entriesOf (drop start session) ≡ a →
+        (start : ℕ) → BodyAt recording start → (a : Answer (List Entry)) → entriesOf (drop start recording) ≡ a →
         Outcome (playedBy image a)
     by-entries start after (done entries) is =
-        playing start after entries (written-read (drop start session) entries is)
+        playing start after entries (written-read (drop start recording) entries is)
     by-entries start after (refused n) is =
-        rw (only-29 (drop start session) n is)
-        (refusing (plain 29) (why.no-entries start size after (written-nowhere (drop start session) n is)))
+        rw (only-29 (drop start recording) n is)
+        (refusing (plain 29) (why.no-entries start size after (written-nowhere (drop start recording) n is)))
 
-    by-header : (a : Answer (List ℕ)) → Headed session a → Outcome (playedBy image (readBody a))
+    by-header : (a : Answer (List ℕ)) → Headed recording a → Outcome (playedBy image (readBody a))
     by-header _ (header.refusing n which) = refusing n (why.header n size which)
-    by-header _ (header.starting start after) = by-entries start after (entriesOf (drop start session)) refl
+    by-header _ (header.starting start after) = by-entries start after (entriesOf (drop start recording)) refl
 
   by-size :
       (i : Bool) → isImage (length image) ≡ i →
-      Outcome (unless i (refused (plain 1)) (playedBy image (entriesIn session)))
+      Outcome (unless i (refused (plain 1)) (playedBy image (entriesIn recording)))
   by-size false size = refusing (plain 1) (why.image-length size)
-  by-size true size = by-header size (bodyIn session) (headed session)
+  by-size true size = by-header size (bodyIn recording) (headed recording)
 
-  outcome : Outcome (playOf image session)
+  outcome : Outcome (playOf image recording)
   unfolding playOf
   outcome = by-size (isImage (length image)) refl
 
-  given : (n : Numbered) → PlayRefused image session n → playOf image session ≡ refused n
+  given : (n : Numbered) → PlayRefused image recording n → playOf image recording ≡ refused n
   unfolding playOf
   given _ (why.image-length i) = rw i
-  given _ (why.header n i which) = rw (i, refuses session n which)
+  given _ (why.header n i which) = rw (i, refuses recording n which)
   given _ (why.no-entries start i after none) =
-      rw (i, starts session start after, nowhere-read (drop start session) none)
+      rw (i, starts recording start after, nowhere-read (drop start recording) none)
 
-  only-by : (a : Answer Playing) → Outcome a → (n : Numbered) → a ≡ refused n → PlayRefused image session n
+  only-by : (a : Answer Playing) → Outcome a → (n : Numbered) → a ≡ refused n → PlayRefused image recording n
   only-by _ (refusing k says) n is = let same : k ≡ n = cc in rw same at says
   only-by _ (playing start after entries writes) n is = let z : _≡_ {A = ℕ} 0 1 = cc in absurd (omega arith)
 
   else-by :
-      (a : Answer Playing) → Outcome a → playOf image session ≡ a → ((n : Numbered) → PlayRefused image session n → ⊥) →
-      Plays image session
+      (a : Answer Playing) → Outcome a → playOf image recording ≡ a → ((n : Numbered) →
+      PlayRefused image recording n → ⊥) →
+      Plays image recording
   else-by _ (refusing k says) is nowhere = absurd (nowhere k says)
   else-by _ (playing start after entries writes) is nowhere =
       record { start = start; after = after; entries = entries; writes = writes; plays = is }
 
 -- what is played has entries
-pub record HasEntries (session : List ℕ) : Type 0 where
+pub record HasEntries (recording : List ℕ) : Type 0 where
   pub entries : List Entry
-  pub reads : entriesIn session ≡ done entries
+  pub reads : entriesIn recording ≡ done entries
 
-pub has-entries : (image session : List ℕ) (p : Playing) → playOf image session ≡ done p → HasEntries session
+pub has-entries : (image recording : List ℕ) (p : Playing) → playOf image recording ≡ done p → HasEntries recording
 unfolding playOf
-has-entries image session p plays = go (isImage (length image)) (entriesIn session) refl plays
+has-entries image recording p plays = go (isImage (length image)) (entriesIn recording) refl plays
   where
     go :
-        (i : Bool) (a : Answer (List Entry)) → entriesIn session ≡ a →
-        unless i (refused (plain 1)) (playedBy image a) ≡ done p → HasEntries session
+        (i : Bool) (a : Answer (List Entry)) → entriesIn recording ≡ a →
+        unless i (refused (plain 1)) (playedBy image a) ≡ done p → HasEntries recording
     go true (done entries) reads plays = record { entries = entries; reads = reads }
     go true (refused n) reads plays = let z : _≡_ {A = ℕ} 0 1 = cc in absurd (omega arith)
     go false a reads plays = let z : _≡_ {A = ℕ} 0 1 = cc in absurd (omega arith)
@@ -88,6 +89,6 @@ has-entries image session p plays = go (isImage (length image)) (entriesIn sessi
 pub play-refusals : PlayRefusals
 play-refusals = record {
   given = given;
-  only = λ image session. only-by image session (playOf image session) (outcome image session);
-  played-else = λ image session. else-by image session (playOf image session) (outcome image session) refl;
+  only = λ image recording. only-by image recording (playOf image recording) (outcome image recording);
+  played-else = λ image recording. else-by image recording (playOf image recording) (outcome image recording) refl;
 }

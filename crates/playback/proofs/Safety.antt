@@ -2,11 +2,9 @@
 use Prim.Native.Nat.{ℕ, suc, _+_, _≤_}
 use native.Mathlib.Omega.{arith}
 use mathlib.Core.Path.{_≡_}
-use mathlib.Core.Logic.{_⊎_, inl, inr}
-use mathlib.Core.Bool.{true}
+use mathlib.Core.Logic.{inl, inr}
 use mathlib.Core.List.{List, [], _∷_}
-use lib.ListN.{length, replicate}
-use Rattle.isa.specs.Rom.{isImage}
+use lib.ListN.{replicate}
 use Rattle.machine.specs.declared.Machine.{Machine}
 use Rattle.machine.specs.State.{machineOf, resetControl, clearedPairs, freshOf}
 use Rattle.certificate.proofs.Agreement.{agreement}
@@ -65,7 +63,7 @@ module _ (image : List ℕ) (levels : ℕ) where
 
 pub played-safely : PlayedSafely
 unfolding playOf freshOf
-played-safely image certificate wired levels accepts session entries reads asks =
+played-safely image certificate wired levels accepts recording entries reads asks =
     let size = agreement image certificate wired levels .sound accepts .image-length in
     let promised = never-stops image certificate wired levels accepts in
     let kept =

@@ -22,43 +22,43 @@ use Rattle.playback.proofs.HeaderCases.{as-before}
 use Rattle.playback.proofs.Record.{whole, read-from}
 
 -- 1 is not 2
-not-two : (session : List ℕ) → getD session 0 0 ≡ 1 → getD session 0 0 ≡ 2 → ⊥
-not-two session one two = omega (arith, one, two)
+not-two : (recording : List ℕ) → getD recording 0 0 ≡ 1 → getD recording 0 0 ≡ 2 → ⊥
+not-two recording one two = omega (arith, one, two)
 
-others : (image session : List ℕ) → (getD session 0 0 ≡ 2 → ⊥) → playOf image session ≡ playBefore image session
+others : (image recording : List ℕ) → (getD recording 0 0 ≡ 2 → ⊥) → playOf image recording ≡ playBefore image recording
 unfolding playOf
-others image session other = rw (as-before session other)
+others image recording other = rw (as-before recording other)
 
 reader-before :
-    (image session : List ℕ) → isImage (length image) ≡ true → 3 ≤ length session → getD session 0 0 ≡ 2 →
-    playBefore image session ≡ refused (plain 27)
+    (image recording : List ℕ) → isImage (length image) ≡ true → 3 ≤ length recording → getD recording 0 0 ≡ 2 →
+    playBefore image recording ≡ refused (plain 27)
 unfolding bodyOf
-reader-before image session size long two =
-    rw (size, le-leb 3 (length session) long, ne-eqb (getD session 0 0) 1 (λ one. not-two session one two))
+reader-before image recording size long two =
+    rw (size, le-leb 3 (length recording) long, ne-eqb (getD recording 0 0) 1 (λ one. not-two recording one two))
 
 pub old-records-play-as-before : OldRecordsPlayAsBefore
 old-records-play-as-before = record {
-  body = λ session one. as-before session (not-two session one);
-  plays = λ image session one. others image session (not-two session one);
+  body = λ recording one. as-before recording (not-two recording one);
+  plays = λ image recording one. others image recording (not-two recording one);
   others = others;
   reader-before = reader-before;
 }
 
 -- a right header's first byte is the version for the count, which is that of the bytes
 version-for :
-    (session : List ℕ) → Bytes session → (start : ℕ) → BodyAt session start →
-    VersionFor (length session - start) (getD session 0 0)
-version-for session bytes _ (why.version-1 one counted) =
+    (recording : List ℕ) → Bytes recording → (start : ℕ) → BodyAt recording start →
+    VersionFor (length recording - start) (getD recording 0 0)
+version-for recording bytes _ (why.version-1 one counted) =
     rw one (version.one (omega (arith, counted, bytes 1, bytes 2)))
-version-for session bytes _ (why.version-2 two counted some few) =
+version-for recording bytes _ (why.version-2 two counted some few) =
     rw two (version.two (omega (arith, counted, some)) (omega (arith, counted, few)))
 
 only : (entries : List Entry) (v : ℕ) → Carries v entries → VersionFor (length (bodyBytes entries)) v
 only entries v carries =
-    let session = carries .session in
-    let from = read-from session entries (carries .reads) in
-    let same = ap length (from .writes) ∙ length-drop (from .start) session in
-    rw (same, ← carries .first) (version-for session (carries .bytes) (from .start) (from .after))
+    let recording = carries .recording in
+    let from = read-from recording entries (carries .reads) in
+    let same = ap length (from .writes) ∙ length-drop (from .start) recording in
+    rw (same, ← carries .first) (version-for recording (carries .bytes) (from .start) (from .after))
 
 same-version : (count v w : ℕ) → VersionFor count v → VersionFor count w → v ≡ w
 same-version count _ _ (version.one _) (version.one _) = refl
@@ -86,7 +86,7 @@ module _ (entries : List Entry) (bytes : Bytes (bodyBytes entries)) where
       let is : recordBytes entries ≡ 1 ∷ short = rw (lt-leb 65536 n (omega (arith, most))) in
       let counted = cons-bytes (n / 256) (n % 256 ∷ bodyBytes entries) (omega (arith, most)) lowest in
       record {
-        session = 1 ∷ short;
+        recording = 1 ∷ short;
         bytes = cons-bytes 1 short (omega arith) counted;
         first = refl;
         reads = rw is at (whole entries (omega (arith, most)));
@@ -97,7 +97,7 @@ module _ (entries : List Entry) (bytes : Bytes (bodyBytes entries)) where
       let counted =
       cons-bytes (n / 65536) (n / 256 % 256 ∷ n % 256 ∷ bodyBytes entries) (omega (arith, most)) middle in
       record {
-        session = 2 ∷ long;
+        recording = 2 ∷ long;
         bytes = cons-bytes 2 long (omega arith) counted;
         first = refl;
         reads = rw is at (whole entries most);

@@ -1,3 +1,4 @@
+-- what a reader must believe: definitions of operations, and claims
 pub mod Entries
 pub mod Record
 pub mod Play
@@ -6,6 +7,8 @@ pub mod Versions
 pub mod Keys
 pub mod Safety
 pub mod Cases
-pub mod Turn
 pub mod OnePage
 pub mod NoTrace
+pub mod UnderWindow
+-- for the contracts of functions inside; no claim uses them
+pub mod Turn

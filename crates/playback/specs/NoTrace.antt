@@ -18,9 +18,9 @@ abbrev pub pressedIn : Playing → List Entry → List Call
 pressedIn p entries = callsOf (take (p .entries) entries)
 
 -- a record with these entries is played
-pub record PlaysWithoutTrace (image session : List ℕ) (entries : List Entry) : Type 0 where
+pub record PlaysWithoutTrace (image recording : List ℕ) (entries : List Entry) : Type 0 where
   pub playing : Playing
-  pub plays : playOf image session ≡ done playing
+  pub plays : playOf image recording ≡ done playing
   -- it is a list of calls without runs on a fresh machine, which leaves the machine that is answered
   pub no-runs : AllSingle (pressedIn playing entries)
   pub machine : playing .machine ≡ leavesAll image (pressedIn playing entries) freshOf
@@ -33,5 +33,6 @@ pub record PlaysWithoutTrace (image session : List ℕ) (entries : List Entry) :
 abbrev pub PlayedNoTrace : Type 0
 PlayedNoTrace =
     (image certificate : List ℕ) (wired levels : ℕ) → checkOf image certificate wired ≡ accepted levels
-    → (session : List ℕ) (entries : List Entry) → entriesIn session ≡ done entries → AllAskOnly wired (callsOf entries)
-    → PlaysWithoutTrace image session entries
+    → (recording : List ℕ) (entries : List Entry) → entriesIn recording ≡ done entries →
+    AllAskOnly wired (callsOf entries)
+    → PlaysWithoutTrace image recording entries

@@ -38,12 +38,12 @@ abbrev pub playedUnpaged : (image : List ℕ) → Answer (List Entry) → Answer
 playedUnpaged image (done entries) = done (playFromUnpaged image 0 0 freshOf entries)
 playedUnpaged image (refused n) = refused n
 
-abbrev pub playUnpaged : (image session : List ℕ) → Answer Playing
-playUnpaged image session =
-    unless (isSpace (length image)) (refused (plain 1)) (playedUnpaged image (entriesIn session))
+abbrev pub playUnpaged : (image recording : List ℕ) → Answer Playing
+playUnpaged image recording =
+    unless (isSpace (length image)) (refused (plain 1)) (playedUnpaged image (entriesIn recording))
 
 -- proved by playback-as-before, proofs/OnePage
 abbrev pub PlaybackAsBefore : Type 0
 PlaybackAsBefore =
-    (image : List ℕ) → isSpace (length image) ≡ true → (session : List ℕ) →
-    playOf image session ≡ playUnpaged image session
+    (image : List ℕ) → isSpace (length image) ≡ true → (recording : List ℕ) →
+    playOf image recording ≡ playUnpaged image recording

@@ -72,8 +72,8 @@ playedBy image (refused n) = refused n
 abbrev pub playRead : (image : List ℕ) → Answer (List Entry) → Answer Playing
 playRead image read = unless (isImage (length image)) (refused (plain 1)) (playedBy image read)
 
-unfoldable pub playOf : (image session : List ℕ) → Answer Playing
-playOf image session = playRead image (entriesIn session)
+unfoldable pub playOf : (image recording : List ℕ) → Answer Playing
+playOf image recording = playRead image (entriesIn recording)
 
 -- the program's answer by the papers' numbers
 abbrev pub playAnswerOf : Machine → PlayAnswer → Answer Playing

@@ -16,42 +16,42 @@ use Rattle.playback.specs.Entries.{bodyBytes, entriesOf}
 -- it.
 
 -- "a two-byte big-endian count of the bytes after it": it stands after the version
-abbrev pub countOf : (session : List ℕ) → ℕ
-countOf session = getD session 1 0 * 256 + getD session 2 0
+abbrev pub countOf : (recording : List ℕ) → ℕ
+countOf recording = getD recording 1 0 * 256 + getD recording 2 0
 
 -- "A record is version 1, a two-byte big-endian count of the bytes after it, then entries": the body of a record by its
 -- version, or "27 for a first byte other than 1, 28 for [..] a wrong count"
-abbrev pub bodyBy : (version : ℕ) → (session : List ℕ) → Answer (List ℕ)
-bodyBy version session =
+abbrev pub bodyBy : (version : ℕ) → (recording : List ℕ) → Answer (List ℕ)
+bodyBy version recording =
     unless (eqb version 1) (refused (plain 27))
-    (unless (eqb (length session - 3) (countOf session)) (refused (plain 28))
-    (done (drop 3 session)))
+    (unless (eqb (length recording - 3) (countOf recording)) (refused (plain 28))
+    (done (drop 3 recording)))
 
 -- "28 for a record under three bytes [..]; a record under three bytes is tried first"
-unfoldable pub bodyOf : (session : List ℕ) → Answer (List ℕ)
-bodyOf session = unless (leb 3 (length session)) (refused (plain 28)) (bodyBy (getD session 0 0) session)
+unfoldable pub bodyOf : (recording : List ℕ) → Answer (List ℕ)
+bodyOf recording = unless (leb 3 (length recording)) (refused (plain 28)) (bodyBy (getD recording 0 0) recording)
 
 -- Version 2's header, W-207.
 
 -- "Version 2 carries a three-byte big-endian count": one more byte than version 1's
-abbrev pub longCountOf : (session : List ℕ) → ℕ
-longCountOf session = countOf session * 256 + getD session 3 0
+abbrev pub longCountOf : (recording : List ℕ) → ℕ
+longCountOf recording = countOf recording * 256 + getD recording 3 0
 
 -- "It refuses with 28 a version 2 record under four bytes or whose count is below 65,536, and with 30 one above
 -- 1,048,576, straight after 28": a wrong count is 28 as in version 1, also where it is above 1,048,576
-unfoldable pub longBodyOf : (session : List ℕ) → Answer (List ℕ)
-longBodyOf session =
-    unless (leb 4 (length session)) (refused (plain 28))
-    (unless (eqb (length session - 4) (longCountOf session)) (refused (plain 28))
-    (unless (leb 65536 (longCountOf session)) (refused (plain 28))
-    (unless (leb (longCountOf session) 1048576) (refused (plain 30))
-    (done (drop 4 session)))))
+unfoldable pub longBodyOf : (recording : List ℕ) → Answer (List ℕ)
+longBodyOf recording =
+    unless (leb 4 (length recording)) (refused (plain 28))
+    (unless (eqb (length recording - 4) (longCountOf recording)) (refused (plain 28))
+    (unless (leb 65536 (longCountOf recording)) (refused (plain 28))
+    (unless (leb (longCountOf recording) 1048576) (refused (plain 30))
+    (done (drop 4 recording)))))
 
 -- Both versions.
 
 -- the body of a record: any first byte but 2 is read as before, so that 27 is said "for any first byte but 1 and 2"
-unfoldable pub bodyIn : (session : List ℕ) → Answer (List ℕ)
-bodyIn session = cond (eqb (getD session 0 0) 2) (longBodyOf session) (bodyOf session)
+unfoldable pub bodyIn : (recording : List ℕ) → Answer (List ℕ)
+bodyIn recording = cond (eqb (getD recording 0 0) 2) (longBodyOf recording) (bodyOf recording)
 
 -- .. and, after its refusals, "29 for an unknown or cut entry"
 abbrev pub readBody : Answer (List ℕ) → Answer (List Entry)
@@ -59,8 +59,8 @@ readBody (done body) = entriesOf body
 readBody (refused n) = refused n
 
 -- the entries of a record
-abbrev pub entriesIn : (session : List ℕ) → Answer (List Entry)
-entriesIn session = readBody (bodyIn session)
+abbrev pub entriesIn : (recording : List ℕ) → Answer (List Entry)
+entriesIn recording = readBody (bodyIn recording)
 
 -- version and count: "version 2 is only for a count above 65,535"
 abbrev pub headerBytes : (count : ℕ) → List ℕ
@@ -91,13 +91,13 @@ pub record RecordsReadBack : Type 0 where
   pub record-read :
       (entries : List Entry) → length (bodyBytes entries) ≤ 1048576 → entriesIn (recordBytes entries) ≡ done entries
   pub record-written :
-      (session : List ℕ) → Bytes session → (entries : List Entry) → entriesIn session ≡ done entries →
-      recordBytes entries ≡ session
+      (recording : List ℕ) → Bytes recording → (entries : List Entry) → entriesIn recording ≡ done entries →
+      recordBytes entries ≡ recording
 
 -- What the functions inside the crate promise; no claim uses it.
 
 -- the body begins there, and is short enough that the cycles of its entries have 32 bits
-unfoldable pub BodyFound : (session : List ℕ) → Body → Type 0
-BodyFound session (From start) =
-    (start ≤ length session) × (length session ≤ 0xFFFFFF) × (bodyIn session ≡ done (drop start session))
-BodyFound session (Refused reason) = bodyIn session ≡ refused (numbered reason)
+unfoldable pub BodyFound : (recording : List ℕ) → Body → Type 0
+BodyFound recording (From start) =
+    (start ≤ length recording) × (length recording ≤ 0xFFFFFF) × (bodyIn recording ≡ done (drop start recording))
+BodyFound recording (Refused reason) = bodyIn recording ≡ refused (numbered reason)

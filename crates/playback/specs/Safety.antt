@@ -6,6 +6,7 @@ use mathlib.Core.List.{List, _∷_}
 use lib.ListN.{length, drop}
 use Rattle.isa.specs.Refusals.{Numbered, Ended, plain, done, refused}
 use Rattle.isa.specs.RoundTrip.{Bytes}
+use Rattle.machine.specs.declared.Machine.{Machine}
 use Rattle.machine.specs.Laws.{IsStop}
 use Rattle.certificate.specs.Check.{checkOf, accepted}
 use Rattle.bench.specs.Calls.{AllAskOnly}
@@ -29,25 +30,25 @@ pub data EndsSafely (entries : List Entry) : (number : ℕ) → Ended → Type 0
       (number address value : ℕ) → IsEntry entries number (Store address value) →
       EndsSafely entries number (refused (plain 10))
 
--- .. or a step stops: "A stop is a step's 4, 5, 6 or 7"
-pub data EndsOrStops (entries : List Entry) : (number : ℕ) → Ended → Type 0 where
-  safely : (number : ℕ) (ending : Ended) → EndsSafely entries number ending → EndsOrStops entries number ending
+-- .. or a step stops, on the machine that is answered: "A stop is a step's 4, 5, 6 or 7", with its PC
+pub data EndsOrStops (m : Machine) (entries : List Entry) : (number : ℕ) → Ended → Type 0 where
+  safely : (number : ℕ) (ending : Ended) → EndsSafely entries number ending → EndsOrStops m entries number ending
   step-stops :
-      (number request : ℕ) (why : Numbered) → IsEntry entries number (Step request) → IsStop why →
-      EndsOrStops entries number (refused why)
+      (number request : ℕ) (why : Numbered) → IsEntry entries number (Step request) → IsStop m why →
+      EndsOrStops m entries number (refused why)
 
 -- "An entry's own refusal or stop ends the playing": with any image it is 10, 11 or a stop, never 1 or 2, since the
 -- image has passed and every machine of a playing is well formed
 -- proved by ends-by-entry, proofs/Endings
 abbrev pub EndsByEntry : Type 0
 EndsByEntry =
-    (image : List ℕ) → Bytes image → (session : List ℕ) (entries : List Entry) → entriesIn session ≡ done entries
-    → (p : Playing) → playOf image session ≡ done p → EndsOrStops entries (p .entries) (p .ending)
+    (image : List ℕ) → Bytes image → (recording : List ℕ) (entries : List Entry) → entriesIn recording ≡ done entries
+    → (p : Playing) → playOf image recording ≡ done p → EndsOrStops (p .machine) entries (p .entries) (p .ending)
 
 -- a record with these entries is played, ends with no stop, and leaves a machine with at most so many levels in use
-pub record PlaysWithin (image session : List ℕ) (entries : List Entry) (levels : ℕ) : Type 0 where
+pub record PlaysWithin (image recording : List ℕ) (entries : List Entry) (levels : ℕ) : Type 0 where
   pub playing : Playing
-  pub plays : playOf image session ≡ done playing
+  pub plays : playOf image recording ≡ done playing
   pub ends : EndsSafely entries (playing .entries) (playing .ending)
   pub within : levelsInUse (playing .machine) ≤ levels
   pub at-most-six : levels ≤ 6
@@ -59,5 +60,6 @@ pub record PlaysWithin (image session : List ℕ) (entries : List Entry) (levels
 abbrev pub PlayedSafely : Type 0
 PlayedSafely =
     (image certificate : List ℕ) (wired levels : ℕ) → checkOf image certificate wired ≡ accepted levels
-    → (session : List ℕ) (entries : List Entry) → entriesIn session ≡ done entries → AllAskOnly wired (callsOf entries)
-    → PlaysWithin image session entries levels
+    → (recording : List ℕ) (entries : List Entry) → entriesIn recording ≡ done entries →
+    AllAskOnly wired (callsOf entries)
+    → PlaysWithin image recording entries levels

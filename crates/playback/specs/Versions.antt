@@ -13,21 +13,21 @@ use Rattle.playback.specs.Record.{bodyOf, bodyIn, readBody, entriesIn}
 use Rattle.playback.specs.Play.{Playing, playRead, playOf}
 
 -- a playing by the reader before W-207, which knows version 1's header alone
-abbrev pub playBefore : (image session : List ℕ) → Answer Playing
-playBefore image session = playRead image (readBody (bodyOf session))
+abbrev pub playBefore : (image recording : List ℕ) → Answer Playing
+playBefore image recording = playRead image (readBody (bodyOf recording))
 
 -- proved by old-records-play-as-before, proofs/Versions
 pub record OldRecordsPlayAsBefore : Type 0 where
   -- "Stored version 1 records play as before", and are refused as before
-  pub body : (session : List ℕ) → getD session 0 0 ≡ 1 → bodyIn session ≡ bodyOf session
-  pub plays : (image session : List ℕ) → getD session 0 0 ≡ 1 → playOf image session ≡ playBefore image session
+  pub body : (recording : List ℕ) → getD recording 0 0 ≡ 1 → bodyIn recording ≡ bodyOf recording
+  pub plays : (image recording : List ℕ) → getD recording 0 0 ≡ 1 → playOf image recording ≡ playBefore image recording
   -- and so does a record with any first byte but 2
   pub others :
-      (image session : List ℕ) → (getD session 0 0 ≡ 2 → ⊥) → playOf image session ≡ playBefore image session
+      (image recording : List ℕ) → (getD recording 0 0 ≡ 2 → ⊥) → playOf image recording ≡ playBefore image recording
   -- "A reader built before this request meets the new first byte and says 27"
   pub reader-before :
-      (image session : List ℕ) → isImage (length image) ≡ true → 3 ≤ length session → getD session 0 0 ≡ 2 →
-      playBefore image session ≡ refused (plain 27)
+      (image recording : List ℕ) → isImage (length image) ≡ true → 3 ≤ length recording → getD recording 0 0 ≡ 2 →
+      playBefore image recording ≡ refused (plain 27)
 
 -- the version for a number of bytes: "version 2 is only for a count above 65,535", "up to 1,048,576"
 pub data VersionFor (count : ℕ) : (version : ℕ) → Type 0 where
@@ -36,10 +36,10 @@ pub data VersionFor (count : ℕ) : (version : ℕ) → Type 0 where
 
 -- a version carries a list of entries: a record with that first byte is read as them
 pub record Carries (version : ℕ) (entries : List Entry) : Type 0 where
-  pub session : List ℕ
-  pub bytes : Bytes session
-  pub first : getD session 0 0 ≡ version
-  pub reads : entriesIn session ≡ done entries
+  pub recording : List ℕ
+  pub bytes : Bytes recording
+  pub first : getD recording 0 0 ≡ version
+  pub reads : entriesIn recording ≡ done entries
 
 -- proved by one-version-each, proofs/Versions
 pub record OneVersionEach : Type 0 where

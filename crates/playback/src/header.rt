@@ -24,19 +24,19 @@ const LEAST_LONG: usize = 65_536;
 const MOST_LONG: usize = 1_048_576;
 
 // The count in a record's second and third byte, the high one first.
-fn count_of(session: &[u8]) -> usize
-    requires { ⌜ 3 ≤ length (now session) ⌝ }
-    ensures { λ r. ⌜ r ≡ countOf (now (session .entry)) ⌝ }
+fn count_of(recording: &[u8]) -> usize
+    requires { ⌜ 3 ≤ length (now recording) ⌝ }
+    ensures { λ r. ⌜ r ≡ countOf (now (recording .entry)) ⌝ }
 {
-    session[1] as usize * 256 + session[2] as usize
+    recording[1] as usize * 256 + recording[2] as usize
 }
 
 // The same with the fourth byte, the lowest.
-fn long_count_of(session: &[u8]) -> usize
-    requires { ⌜ 4 ≤ length (now session) ⌝ }
-    ensures { λ r. ⌜ r ≡ longCountOf (now (session .entry)) ⌝ }
+fn long_count_of(recording: &[u8]) -> usize
+    requires { ⌜ 4 ≤ length (now recording) ⌝ }
+    ensures { λ r. ⌜ r ≡ longCountOf (now (recording .entry)) ⌝ }
 {
-    count_of(session) * 256 + session[3] as usize
+    count_of(recording) * 256 + recording[3] as usize
 }
 
 // Where a record's body begins, or why it has none.
@@ -47,15 +47,15 @@ pub enum Body {
 
 // Finds the body of a record of LONG_VERSION. Refuses with 28 one under four bytes, a wrong count and a count below the
 // least, then with 30 a count above the greatest.
-fn find_long_body(session: &[u8]) -> Body
-    requires { ⌜ (3 ≤ length (now session)) × (getD (now session) 0 0 ≡ 2) ⌝ }
-    ensures { λ r. ⌜ BodyFound (now (session .entry)) r ⌝ }
+fn find_long_body(recording: &[u8]) -> Body
+    requires { ⌜ (3 ≤ length (now recording)) × (getD (now recording) 0 0 ≡ 2) ⌝ }
+    ensures { λ r. ⌜ BodyFound (now (recording .entry)) r ⌝ }
 {
-    if session.len() < LONG_HEADER_BYTES {
+    if recording.len() < LONG_HEADER_BYTES {
         return Body::Refused(Refusal::RecordLength);
     }
-    let count = long_count_of(session);
-    if session.len() - LONG_HEADER_BYTES != count {
+    let count = long_count_of(recording);
+    if recording.len() - LONG_HEADER_BYTES != count {
         return Body::Refused(Refusal::RecordLength);
     }
     if count < LEAST_LONG {
@@ -69,19 +69,19 @@ fn find_long_body(session: &[u8]) -> Body
 
 // Finds the body, by the version. Refuses with 28 a record under three bytes, then with 27 a version that is neither of
 // the two, then with 28 a wrong count; one of LONG_VERSION as `find_long_body` does.
-pub fn find_body(session: &[u8]) -> Body
-    ensures { λ r. ⌜ BodyFound (now (session .entry)) r ⌝ }
+pub fn find_body(recording: &[u8]) -> Body
+    ensures { λ r. ⌜ BodyFound (now (recording .entry)) r ⌝ }
 {
-    if session.len() < HEADER_BYTES {
+    if recording.len() < HEADER_BYTES {
         return Body::Refused(Refusal::RecordLength);
     }
-    if session[0] == LONG_VERSION {
-        return find_long_body(session);
+    if recording[0] == LONG_VERSION {
+        return find_long_body(recording);
     }
-    if session[0] != VERSION {
+    if recording[0] != VERSION {
         return Body::Refused(Refusal::RecordVersion);
     }
-    if session.len() - HEADER_BYTES != count_of(session) {
+    if recording.len() - HEADER_BYTES != count_of(recording) {
         return Body::Refused(Refusal::RecordLength);
     }
     Body::From(HEADER_BYTES)

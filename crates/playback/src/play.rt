@@ -91,15 +91,15 @@ fn play_body(image: &[u8], body: &[u8]) -> Played
 
 // Plays a session's record on a fresh machine. Refuses with 1, then as its header is refused (28, 27, 28, 30), then
 // with 29, before the first entry is played.
-pub fn play(image: &[u8], session: &[u8]) -> Played
-    ensures { λ r. ⌜ playedOf r ≡ playOf (now (image .entry)) (now (session .entry)) ⌝ }
+pub fn play(image: &[u8], recording: &[u8]) -> Played
+    ensures { λ r. ⌜ playedOf r ≡ playOf (now (image .entry)) (now (recording .entry)) ⌝ }
 {
     if !is_image_length(image.len()) {
         return refused_play(Refusal::ImageLength);
     }
-    let body = find_body(session);
+    let body = find_body(recording);
     match body {
         Body::Refused(reason) => refused_play(reason),
-        Body::From(start) => play_body(image, &session[start..]),
+        Body::From(start) => play_body(image, &recording[start..]),
     }
 }

@@ -27,24 +27,24 @@ use listing::pages::choices_in;
 const MOST_PASSES: u32 = 32768;
 
 // Sets the mark of an address in ROM.
-fn set_mark(marks: &mut [u8], address: u16, mark: u8) {
-    let end = address as usize + marks.len();
+fn set_mark(certificate: &mut [u8], address: u16, mark: u8) {
+    let end = address as usize + certificate.len();
     if PROGRAM_SPACE <= address as usize {
         return;
     }
     if end < PROGRAM_SPACE {
         return;
     }
-    marks[end - PROGRAM_SPACE] = mark;
+    certificate[end - PROGRAM_SPACE] = mark;
 }
 
 // Marks an address with a kind, unless it is marked: the first kind to come stays.
-fn begin(marks: &mut [u8], address: u16, kind: u8) -> bool {
-    if mark_at(marks, address) != 0 {
+fn begin(certificate: &mut [u8], address: u16, kind: u8) -> bool {
+    if mark_at(certificate, address) != 0 {
         return false;
     }
-    set_mark(marks, address, mark_of(kind, 0));
-    mark_at(marks, address) != 0
+    set_mark(certificate, address, mark_of(kind, 0));
+    mark_at(certificate, address) != 0
 }
 
 // The mark of a kind and a need, 00h where there is none.
@@ -59,9 +59,9 @@ fn mark_of(kind: u8, need: u8) -> u8 {
 }
 
 // Raises the need of an address, as far as a mark can have it, to what a successor asks for.
-fn raise(marks: &mut [u8], address: u16, successor: Successor) -> bool {
-    let mark = mark_at(marks, address);
-    let there = mark_at(marks, successor.address);
+fn raise(certificate: &mut [u8], address: u16, successor: Successor) -> bool {
+    let mark = mark_at(certificate, address);
+    let there = mark_at(certificate, successor.address);
     if kind_of(there) != successor.kind {
         return false;
     }
@@ -74,13 +74,13 @@ fn raise(marks: &mut [u8], address: u16, successor: Successor) -> bool {
     if need <= need_of(mark) {
         return false;
     }
-    set_mark(marks, address, mark_of(mark / 16, need));
+    set_mark(certificate, address, mark_of(mark / 16, need));
     true
 }
 
-fn follow(marks: &mut [u8], address: u16, successor: Successor) -> bool {
-    let begun = begin(marks, successor.address, successor.kind);
-    let raised = raise(marks, address, successor);
+fn follow(certificate: &mut [u8], address: u16, successor: Successor) -> bool {
+    let begun = begin(certificate, successor.address, successor.kind);
+    let raised = raise(certificate, address, successor);
     begun || raised
 }
 
@@ -89,10 +89,10 @@ fn visit<'a>(
     table: &[u8; 256],
     page: &'a [u8],
     fixed: &'a [u8],
-    marks: &mut [u8],
+    certificate: &mut [u8],
     address: u16,
 ) -> bool {
-    let kind = kind_of(mark_at(marks, address));
+    let kind = kind_of(mark_at(certificate, address));
     if kind == 0 {
         return false;
     }
@@ -104,22 +104,22 @@ fn visit<'a>(
     }
     match successors_of(kind, flow, next) {
         Successors::None => false,
-        Successors::One(successor) => follow(marks, address, successor),
+        Successors::One(successor) => follow(certificate, address, successor),
         Successors::Two(first, second) => {
-            let changed = follow(marks, address, first);
-            let later = follow(marks, address, second);
+            let changed = follow(certificate, address, first);
+            let later = follow(certificate, address, second);
             changed || later
         }
     }
 }
 
 // Visits all addresses, downward: most instructions lead upward, and needs come back from there.
-fn pass<'a>(table: &[u8; 256], page: &'a [u8], fixed: &'a [u8], marks: &mut [u8]) -> bool {
+fn pass<'a>(table: &[u8; 256], page: &'a [u8], fixed: &'a [u8], certificate: &mut [u8]) -> bool {
     let mut changed = false;
     let mut address = 4096u16;
     while 0 < address {
         address -= 1;
-        if visit(table, page, fixed, marks, address) {
+        if visit(table, page, fixed, certificate, address) {
             changed = true;
         }
     }
@@ -127,13 +127,13 @@ fn pass<'a>(table: &[u8; 256], page: &'a [u8], fixed: &'a [u8], marks: &mut [u8]
 }
 
 // A pass with each page in place: what can be reached with any of them is reached.
-fn pass_pages(table: &[u8; 256], image: &[u8], marks: &mut [u8]) -> bool {
+fn pass_pages(table: &[u8; 256], image: &[u8], certificate: &mut [u8]) -> bool {
     let fixed = fixed_of(image);
     let pages = choices_in(image.len());
     let mut changed = false;
     let mut page = 0u8;
     while page < pages {
-        if pass(table, page_of(image, page), fixed, marks) {
+        if pass(table, page_of(image, page), fixed, certificate) {
             changed = true;
         }
         page += 1;
@@ -141,28 +141,28 @@ fn pass_pages(table: &[u8; 256], image: &[u8], marks: &mut [u8]) -> bool {
     changed
 }
 
-fn begin_source(marks: &mut [u8], wired: u8, source: Source) {
+fn begin_source(certificate: &mut [u8], wired: u8, source: Source) {
     if names(wired, source) {
-        begin(marks, vector_of(source), SERVICE);
+        begin(certificate, vector_of(source), SERVICE);
     }
 }
 
-fn begin_vectors(marks: &mut [u8], wired: u8) {
-    begin(marks, RESET_VECTOR, START_UP);
-    begin_source(marks, wired, Source::Nmi);
-    begin_source(marks, wired, Source::First);
-    begin_source(marks, wired, Source::Second);
-    begin_source(marks, wired, Source::Third);
-    begin_source(marks, wired, Source::Fourth);
+fn begin_vectors(certificate: &mut [u8], wired: u8) {
+    begin(certificate, RESET_VECTOR, START_UP);
+    begin_source(certificate, wired, Source::Nmi);
+    begin_source(certificate, wired, Source::First);
+    begin_source(certificate, wired, Source::Second);
+    begin_source(certificate, wired, Source::Third);
+    begin_source(certificate, wired, Source::Fourth);
 }
 
 // Marks, in marks that are all 00h, what can be reached.
-pub fn attempt(image: &[u8], wired: u8, marks: &mut [u8]) {
+pub fn attempt(image: &[u8], wired: u8, certificate: &mut [u8]) {
     let table = timings();
-    begin_vectors(marks, wired);
+    begin_vectors(certificate, wired);
     let mut passes = MOST_PASSES;
     while 0 < passes {
-        if !pass_pages(&table, image, marks) {
+        if !pass_pages(&table, image, certificate) {
             return;
         }
         passes -= 1;

@@ -3,7 +3,7 @@ use crate::machine_lines::data_name;
 use crate::machine_lines::mode_name;
 use alu::Flags;
 use control::Control;
-use control::Mode;
+use control::modes::mode_number;
 use listing::Line;
 use machine::FlagPairs;
 use machine::Machine;
@@ -56,17 +56,6 @@ fn flag_changes(line: Line, before: FlagPairs, after: FlagPairs) -> Line {
     let line = pair_changes(line, normal_before, normal_after);
     let line = pair_changes(line, interrupt_before, interrupt_after);
     pair_changes(line, nmi_before, nmi_after)
-}
-
-// A mode's number, to compare it.
-fn mode_number(mode: Mode) -> u8 {
-    match mode {
-        Mode::Reset => 0,
-        Mode::Normal => 1,
-        Mode::Interrupt => 2,
-        Mode::NmiOverNormal => 3,
-        Mode::NmiOverInterrupt => 4,
-    }
 }
 
 fn control_changes(line: Line, before: Control, after: Control) -> Line {

@@ -78,28 +78,28 @@ fn put_wrong_kind(
     certificate: &[u8],
     at: u16,
     to: Successor,
-    ok: bool,
+    is_written: bool,
 ) -> bool {
     let there = to.address;
     let begun = instruction_at(image, bank, at).word(b" leads to ");
     let led = paged_address(begun, image.len(), bank, there);
     let RomByte::Byte(_) = rom_in(image, bank, there) else {
-        return put(led.word(b", which is outside ROM"), ok);
+        return put(led.word(b", which is outside ROM"), is_written);
     };
     let is_put = put(
         mark_text(led.word(b", which is "), mark_at(certificate, there)),
-        ok,
+        is_written,
     );
     let wanted = Line::new().word(b"there must be a mark of kind ");
     put(kind_name(wanted, to.kind % 16 * 16), is_put)
 }
 
 // 17 where no mark would do: the need of a subroutine that calls itself has no bound.
-fn put_bottomless(image: &[u8], bank: u8, at: u16, ok: bool) -> bool {
+fn put_bottomless(image: &[u8], bank: u8, at: u16, is_written: bool) -> bool {
     let line = instruction_at(image, bank, at).word(
         b" leads deeper than six levels, or into a subroutine that calls itself",
     );
-    put(line, ok)
+    put(line, is_written)
 }
 
 // 17: the levels that the instruction needs, and those that its mark allows.
@@ -109,15 +109,15 @@ fn put_shallow(
     certificate: &[u8],
     at: u16,
     to: Successor,
-    ok: bool,
+    is_written: bool,
 ) -> bool {
     if (MOST_LEVELS as u32) < asked(certificate, to) {
-        return put_bottomless(image, bank, at, ok);
+        return put_bottomless(image, bank, at, is_written);
     }
     let line = instruction_at(image, bank, at).word(b" needs ");
     let line = counted(line, asked(certificate, to), b"further level").word(b"; its mark allows ");
     let need = need_of(mark_at(certificate, at));
-    let is_put = put(line.decimal(need as u32), ok);
+    let is_put = put(line.decimal(need as u32), is_written);
     let there = to.address;
     let cause = Line::new().word(b"it leads to ");
     let cause = paged_address(cause, image.len(), bank, there).word(b", which is ");
@@ -134,32 +134,38 @@ fn successors_at(image: &[u8], bank: u8, certificate: &[u8], address: u16) -> Su
     }
 }
 
-fn put_successor_kind(image: &[u8], bank: u8, certificate: &[u8], at: u16, ok: bool) -> bool {
+fn put_successor_kind(
+    image: &[u8],
+    bank: u8,
+    certificate: &[u8],
+    at: u16,
+    is_written: bool,
+) -> bool {
     match successors_at(image, bank, certificate, at) {
-        Successors::None => ok,
-        Successors::One(one) => put_wrong_kind(image, bank, certificate, at, one, ok),
+        Successors::None => is_written,
+        Successors::One(one) => put_wrong_kind(image, bank, certificate, at, one, is_written),
         Successors::Two(first, second) => {
             let wrong = wrong_kind(certificate, first, second);
-            put_wrong_kind(image, bank, certificate, at, wrong, ok)
+            put_wrong_kind(image, bank, certificate, at, wrong, is_written)
         }
     }
 }
 
-fn put_need(image: &[u8], bank: u8, certificate: &[u8], at: u16, ok: bool) -> bool {
+fn put_need(image: &[u8], bank: u8, certificate: &[u8], at: u16, is_written: bool) -> bool {
     match successors_at(image, bank, certificate, at) {
-        Successors::None => ok,
-        Successors::One(one) => put_shallow(image, bank, certificate, at, one, ok),
+        Successors::None => is_written,
+        Successors::One(one) => put_shallow(image, bank, certificate, at, one, is_written),
         Successors::Two(first, second) => {
             let deep = deeper(certificate, first, second);
-            put_shallow(image, bank, certificate, at, deep, ok)
+            put_shallow(image, bank, certificate, at, deep, is_written)
         }
     }
 }
 
 // 15: the code that RET or RETI stands in, and where each may stand.
-fn put_misplaced(image: &[u8], bank: u8, certificate: &[u8], at: u16, ok: bool) -> bool {
+fn put_misplaced(image: &[u8], bank: u8, certificate: &[u8], at: u16, is_written: bool) -> bool {
     let line = instruction_at(image, bank, at).word(b" stands in code of kind ");
-    let is_put = put(mark_text(line, mark_at(certificate, at)), ok);
+    let is_put = put(mark_text(line, mark_at(certificate, at)), is_written);
     put(
         Line::new().word(b"RET stands only in subroutines, RETI only in start-up and service code"),
         is_put,
@@ -167,12 +173,12 @@ fn put_misplaced(image: &[u8], bank: u8, certificate: &[u8], at: u16, ok: bool) 
 }
 
 // 18: the vector, and the kind that it must have.
-fn put_vector(certificate: &[u8], vector: u16, ok: bool) -> bool {
+fn put_vector(certificate: &[u8], vector: u16, is_written: bool) -> bool {
     let named = Line::new()
         .word(b"the vector ")
         .address(vector)
         .word(b" is ");
-    let is_put = put(mark_text(named, mark_at(certificate, vector)), ok);
+    let is_put = put(mark_text(named, mark_at(certificate, vector)), is_written);
     if vector == RESET_VECTOR {
         return put(
             Line::new().word(b"reset begins there: it must be start-up code"),
@@ -186,63 +192,85 @@ fn put_vector(certificate: &[u8], vector: u16, ok: bool) -> bool {
 }
 
 // 5: the byte that is no opcode.
-fn put_undefined(image: &[u8], bank: u8, at: u16, ok: bool) -> bool {
+fn put_undefined(image: &[u8], bank: u8, at: u16, is_written: bool) -> bool {
     let RomByte::Byte(byte) = rom_in(image, bank, at) else {
-        return ok;
+        return is_written;
     };
     let line = Line::new().word(b"the byte ").byte(byte).word(b" at ");
     let line = paged_address(line, image.len(), bank, at);
-    put(line.word(b" is no instruction"), ok)
+    put(line.word(b" is no instruction"), is_written)
 }
 
 // Words for the address of an instruction, before and after it.
-fn put_located(before: &[u8], length: usize, bank: u8, at: u16, after: &[u8], ok: bool) -> bool {
+fn put_located(
+    before: &[u8],
+    length: usize,
+    bank: u8,
+    at: u16,
+    after: &[u8],
+    is_written: bool,
+) -> bool {
     let line = paged_address(Line::new().word(before), length, bank, at);
-    put(line.word(after), ok)
+    put(line.word(after), is_written)
 }
 
-fn put_words(words: &[u8], ok: bool) -> bool {
-    put(Line::new().word(words), ok)
+fn put_words(words: &[u8], is_written: bool) -> bool {
+    put(Line::new().word(words), is_written)
 }
 
 // 13: how many marks there must be.
-fn put_marks_wanted(length: usize, ok: bool) -> bool {
+fn put_marks_wanted(length: usize, is_written: bool) -> bool {
     if 1 < choices_in(length) {
-        return put_words(b"there must be 4096 marks, one for each address", ok);
+        return put_words(
+            b"there must be 4096 marks, one for each address",
+            is_written,
+        );
     }
-    put_words(b"there must be one mark for each byte of the image", ok)
+    put_words(
+        b"there must be one mark for each byte of the image",
+        is_written,
+    )
 }
 
 // 14: the mark stands for its address with every page.
-fn put_malformed(at: u16, ok: bool) -> bool {
+fn put_malformed(at: u16, is_written: bool) -> bool {
     let line = Line::new().word(b"the mark at ").address(at);
     put(
         line.word(b" is malformed: its kind is 1 to 4, its need 0 to 6, or it is 00"),
-        ok,
+        is_written,
     )
 }
 
 // Refusals of operations on a machine and of records: what was refused, in words.
-fn put_plain(length: usize, refusal: Refusal, ok: bool) -> bool {
+fn put_plain(length: usize, refusal: Refusal, is_written: bool) -> bool {
     match refusal {
-        Refusal::ImageLength => put_words(b"an image has 1 to 10 halves of 2048 bytes", ok),
-        Refusal::WindowAddress => put_words(b"a host store to 40h-7Fh, the ROM window", ok),
-        Refusal::UnknownSource => put_words(b"a request byte has only bits 0 to 4", ok),
-        Refusal::CertificateLength => put_marks_wanted(length, ok),
-        Refusal::NoSleep => put_words(b"the program does not sleep within 65535 steps", ok),
-        Refusal::RecordVersion => put_words(b"a record's first byte is 1 or 2, its version", ok),
+        Refusal::ImageLength => put_words(b"an image has 1 to 10 halves of 2048 bytes", is_written),
+        Refusal::WindowAddress => put_words(b"a host store to 40h-7Fh, the ROM window", is_written),
+        Refusal::UnknownSource => put_words(b"a request byte has only bits 0 to 4", is_written),
+        Refusal::CertificateLength => put_marks_wanted(length, is_written),
+        Refusal::NoSleep => put_words(b"the program does not sleep within 65535 steps", is_written),
+        Refusal::RecordVersion => put_words(
+            b"a record's first byte is 1 or 2, its version",
+            is_written,
+        ),
         Refusal::RecordLength => put_words(
             b"the record's length is not what its version and count say",
-            ok,
+            is_written,
         ),
-        Refusal::RecordEntry => put_words(b"an entry of an unknown kind, or one that is cut", ok),
-        Refusal::RecordTooLong => put_words(b"a record has at most 1048576 bytes of entries", ok),
-        _ => ok,
+        Refusal::RecordEntry => put_words(
+            b"an entry of an unknown kind, or one that is cut",
+            is_written,
+        ),
+        Refusal::RecordTooLong => put_words(
+            b"a record has at most 1048576 bytes of entries",
+            is_written,
+        ),
+        _ => is_written,
     }
 }
 
 // A step that stopped: 6 and 7.
-fn put_stop(length: usize, bank: u8, refusal: Refusal, ok: bool) -> bool {
+fn put_stop(length: usize, bank: u8, refusal: Refusal, is_written: bool) -> bool {
     match refusal {
         Refusal::StackFull(at) => put_located(
             b"a push on six levels at ",
@@ -250,7 +278,7 @@ fn put_stop(length: usize, bank: u8, refusal: Refusal, ok: bool) -> bool {
             bank,
             at,
             b": the seventh",
-            ok,
+            is_written,
         ),
         Refusal::StackEmpty(at) => put_located(
             b"a pop of an empty stack at ",
@@ -258,9 +286,9 @@ fn put_stop(length: usize, bank: u8, refusal: Refusal, ok: bool) -> bool {
             bank,
             at,
             b"",
-            ok,
+            is_written,
         ),
-        _ => put_plain(length, refusal, ok),
+        _ => put_plain(length, refusal, is_written),
     }
 }
 
@@ -271,7 +299,7 @@ fn put_rule(
     certificate: &[u8],
     wired: u8,
     refusal: Refusal,
-    ok: bool,
+    is_written: bool,
 ) -> bool {
     match refusal {
         Refusal::OutsideRom(at) => put_located(
@@ -280,16 +308,16 @@ fn put_rule(
             bank,
             at,
             b" is not wholly in ROM",
-            ok,
+            is_written,
         ),
-        Refusal::UndefinedOpcode(at) => put_undefined(image, bank, at, ok),
-        Refusal::MalformedMark(at) => put_malformed(at, ok),
-        Refusal::MisplacedReturn(at) => put_misplaced(image, bank, certificate, at, ok),
-        Refusal::SuccessorKind(at) => put_successor_kind(image, bank, certificate, at, ok),
-        Refusal::NeedTooSmall(at) => put_need(image, bank, certificate, at, ok),
-        Refusal::VectorKind(vector) => put_vector(certificate, vector, ok),
-        Refusal::TooManyLevels => put_levels(certificate, wired, ok),
-        _ => put_stop(image.len(), bank, refusal, ok),
+        Refusal::UndefinedOpcode(at) => put_undefined(image, bank, at, is_written),
+        Refusal::MalformedMark(at) => put_malformed(at, is_written),
+        Refusal::MisplacedReturn(at) => put_misplaced(image, bank, certificate, at, is_written),
+        Refusal::SuccessorKind(at) => put_successor_kind(image, bank, certificate, at, is_written),
+        Refusal::NeedTooSmall(at) => put_need(image, bank, certificate, at, is_written),
+        Refusal::VectorKind(vector) => put_vector(certificate, vector, is_written),
+        Refusal::TooManyLevels => put_levels(certificate, wired, is_written),
+        _ => put_stop(image.len(), bank, refusal, is_written),
     }
 }
 
@@ -314,9 +342,9 @@ pub fn put_reason(
     certificate: &[u8],
     wired: u8,
     refusal: Refusal,
-    ok: bool,
+    is_written: bool,
 ) -> bool {
-    let told = put_rule(image, bank, certificate, wired, refusal, ok);
+    let told = put_rule(image, bank, certificate, wired, refusal, is_written);
     let pages = choices_in(image.len());
     if pages <= 1 {
         return told;

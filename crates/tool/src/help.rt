@@ -24,163 +24,172 @@ use reports::output::put_text;
 use reports::output::put_to;
 
 // Help on `check`.
-fn put_check(ok: bool) -> bool {
-    let ok = put_text(
+fn put_check(is_written: bool) -> bool {
+    let is_written = put_text(
         b"usage: st62 check --wired SOURCES [--marks FILE] IMAGE\n",
-        ok,
+        is_written,
     );
-    let ok = put_text(
+    let is_written = put_text(
         b"Says whether the program ever needs a seventh level, and how many it uses at most.\n",
-        ok,
+        is_written,
     );
-    let ok = put_text(
+    let is_written = put_text(
         b"Without --marks the least certificate is made, and then checked.\n",
-        ok,
+        is_written,
     );
-    let ok = put_text(
+    let is_written = put_text(
         b"  --wired SOURCES  every source that the program can enable, and nmi if its pin\n",
-        ok,
+        is_written,
     );
-    let ok = put_text(b"                   can move; never assumed\n", ok);
+    let is_written = put_text(b"                   can move; never assumed\n", is_written);
     put_text(
         b"  --marks FILE     a certificate, Intel HEX or raw: a mark for each ROM address\n",
-        ok,
+        is_written,
     )
 }
 
 // Help on `certify`.
-fn put_certify(ok: bool) -> bool {
-    let ok = put_text(b"usage: st62 certify --wired SOURCES IMAGE -o FILE\n", ok);
-    let ok = put_text(
-        b"Writes the least certificate that is accepted, raw, or says why there is none.\n",
-        ok,
+fn put_certify(is_written: bool) -> bool {
+    let is_written = put_text(
+        b"usage: st62 certify --wired SOURCES IMAGE -o FILE\n",
+        is_written,
     );
-    let ok = put_text(b"  --wired SOURCES  as for check\n", ok);
+    let is_written = put_text(
+        b"Writes the least certificate that is accepted, raw, or says why there is none.\n",
+        is_written,
+    );
+    let is_written = put_text(b"  --wired SOURCES  as for check\n", is_written);
     put_text(
         b"  -o FILE          a new file, made only where there is a certificate\n",
-        ok,
+        is_written,
     )
 }
 
 // Help on `list`.
-fn put_list(ok: bool) -> bool {
-    let ok = put_text(
+fn put_list(is_written: bool) -> bool {
+    let is_written = put_text(
         b"usage: st62 list [--wired SOURCES | --marks FILE] IMAGE\n",
-        ok,
+        is_written,
     );
-    let ok = put_text(
+    let is_written = put_text(
         b"Lists what is marked: address, bytes, instruction, mark, kind, need; what lies\nbelow 800h page by page, as 2:3F0, where there are several.\n",
-        ok,
+        is_written,
     );
     put_text(
         b"Without --marks the marks are made for the SOURCES, none if not given; with\nboth, --wired says nothing.\n",
-        ok,
+        is_written,
     )
 }
 
 // Help on `trace`.
-fn put_trace(ok: bool) -> bool {
-    let ok = put_text(
+fn put_trace(is_written: bool) -> bool {
+    let is_written = put_text(
         b"usage: st62 trace IMAGE --steps N [--request STEP=SOURCE]...\n",
-        ok,
+        is_written,
     );
-    let ok = put_text(
+    let is_written = put_text(
         b"Runs a fresh machine for N steps (at most 65535), one line for each.\n",
-        ok,
+        is_written,
     );
     put_text(
         b"  --request STEP=SOURCE  the source asks at that step, counted from 0\n",
-        ok,
+        is_written,
     )
 }
 
 // Help on `size`.
-fn put_size(ok: bool) -> bool {
-    let ok = put_text(b"usage: st62 size IMAGE [--marks FILE] --count N\n", ok);
-    let ok = put_text(
+fn put_size(is_written: bool) -> bool {
+    let is_written = put_text(
+        b"usage: st62 size IMAGE [--marks FILE] --count N\n",
+        is_written,
+    );
+    let is_written = put_text(
         b"The width in millimetres that the gauge would show for the slide count N\n",
-        ok,
+        is_written,
     );
     put_text(
         b"(0 to 255), and the steps. Without --marks the certificate is made. Images of 2K\nand 4K only.\n",
-        ok,
+        is_written,
     )
 }
 
 // Help on `play`.
-fn put_play(ok: bool) -> bool {
-    let ok = put_text(b"usage: st62 play IMAGE RECORD\n", ok);
-    let ok = put_text(
+fn put_play(is_written: bool) -> bool {
+    let is_written = put_text(b"usage: st62 play IMAGE RECORD\n", is_written);
+    let is_written = put_text(
         b"Plays a session's record on a fresh machine, and shows the last machine, or the\n",
-        ok,
+        is_written,
     );
-    put_text(b"entry that ended the playing, with its reason.\n", ok)
+    put_text(
+        b"entry that ended the playing, with its reason.\n",
+        is_written,
+    )
 }
 
 // All commands.
-fn put_commands(output: i32, ok: bool) -> bool {
-    let ok = put_to(
+fn put_commands(output: i32, is_written: bool) -> bool {
+    let is_written = put_to(
         output,
         b"usage: st62 check   --wired SOURCES [--marks FILE] IMAGE\n",
-        ok,
+        is_written,
     );
-    let ok = put_to(
+    let is_written = put_to(
         output,
         b"       st62 certify --wired SOURCES IMAGE -o FILE\n",
-        ok,
+        is_written,
     );
-    let ok = put_to(
+    let is_written = put_to(
         output,
         b"       st62 list    [--wired SOURCES | --marks FILE] IMAGE\n",
-        ok,
+        is_written,
     );
-    let ok = put_to(
+    let is_written = put_to(
         output,
         b"       st62 trace   IMAGE --steps N [--request STEP=SOURCE]...\n",
-        ok,
+        is_written,
     );
-    let ok = put_to(
+    let is_written = put_to(
         output,
         b"       st62 size    IMAGE [--marks FILE] --count N\n",
-        ok,
+        is_written,
     );
-    let ok = put_to(output, b"       st62 play    IMAGE RECORD\n", ok);
+    let is_written = put_to(output, b"       st62 play    IMAGE RECORD\n", is_written);
     put_to(
         output,
         b"       st62 --help | --version | COMMAND --help\n",
-        ok,
+        is_written,
     )
 }
 
 // What all commands have in common.
-fn put_common(ok: bool) -> bool {
-    let ok = put_text(
+fn put_common(is_written: bool) -> bool {
+    let is_written = put_text(
         b"IMAGE is Intel HEX (it begins with a colon), 2K or 4K; or raw bytes, 2K, 4K, or\n6K to 20K: pages of 2K, then the fixed half.\n",
-        ok,
+        is_written,
     );
-    let ok = put_text(
+    let is_written = put_text(
         b"SOURCES are names with commas between them, of nmi, 1, 2, 3, 4; or none.\n",
-        ok,
+        is_written,
     );
-    let ok = put_text(
+    let is_written = put_text(
         b"  --rom 2K|4K   the size of a HEX file's image; else by the lowest address named\n",
-        ok,
+        is_written,
     );
-    let ok = put_text(
+    let is_written = put_text(
         b"  --fill HH     the byte where a HEX file names none, 00 if not given\n",
-        ok,
+        is_written,
     );
-    let ok = put_text(
+    let is_written = put_text(
         b"  --raw         IMAGE is raw, even if it begins with a colon\n",
-        ok,
+        is_written,
     );
-    let ok = put_text(
+    let is_written = put_text(
         b"  --quiet       only the answer: no reason, no line of the image\n",
-        ok,
+        is_written,
     );
     put_text(
         b"Exit status: 0 accepted or done, 1 refused or stopped, 2 usage, input or output.\n",
-        ok,
+        is_written,
     )
 }
 
@@ -199,16 +208,16 @@ pub fn put_help(command: Command) -> u8 {
 }
 
 // The version, the toolchain, and what is proved and what is not.
-fn put_about(ok: bool) -> bool {
-    let ok = put_text(b"st62 0.1\n", ok);
-    let ok = put_text(b"built with rattle-kit-5b\n", ok);
-    let ok = put_text(
+fn put_about(is_written: bool) -> bool {
+    let is_written = put_text(b"st62 0.1\n", is_written);
+    let is_written = put_text(b"built with rattle-kit-5b\n", is_written);
+    let is_written = put_text(
         b"proved: Intel HEX and listing as defined; machine, check, maker, gauge, records by the papers; every function returns\n",
-        ok,
+        is_written,
     );
     put_text(
         b"not proved: wording, files, terminals, the C library's calls; the toolchain's prover and compiler are trusted\n",
-        ok,
+        is_written,
     )
 }
 

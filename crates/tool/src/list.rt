@@ -34,10 +34,10 @@ fn put_address(image: &[u8], page: u8, marks: &[u8], address: u16, is_written: b
 }
 
 // The marked addresses of a half of program space, upward, with a page in place.
-fn put_half(image: &[u8], page: u8, marks: &[u8], first: u16, ok: bool) -> bool
+fn put_half(image: &[u8], page: u8, marks: &[u8], first: u16, is_written: bool) -> bool
     requires { ⌜ first ≤ 2048 ⌝ }
 {
-    let mut is_written = ok;
+    let mut is_written = is_written;
     let mut i = 0u16;
     while i < 2048 {
         is_written = put_address(image, page, marks, first + i, is_written);
@@ -47,9 +47,9 @@ fn put_half(image: &[u8], page: u8, marks: &[u8], first: u16, ok: bool) -> bool
 }
 
 // Page by page below 800h.
-fn put_pages(image: &[u8], marks: &[u8], ok: bool) -> bool {
+fn put_pages(image: &[u8], marks: &[u8], is_written: bool) -> bool {
     let pages = choices_in(image.len());
-    let mut is_written = ok;
+    let mut is_written = is_written;
     let mut page = 0u8;
     while page < pages {
         is_written = put_half(image, page, marks, 0, is_written);

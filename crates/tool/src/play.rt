@@ -89,8 +89,8 @@ fn put_refused(image: &[u8], refusal: Refusal, subject: Subject) -> u8 {
     finish(REFUSED, put_end(image, subject, told))
 }
 
-fn answer(image: &[u8], session: &[u8], subject: Subject) -> u8 {
-    let played = play(image, session);
+fn answer(image: &[u8], recording: &[u8], subject: Subject) -> u8 {
+    let played = play(image, recording);
     let m = played.machine;
     let answer = played.answer;
     match answer {

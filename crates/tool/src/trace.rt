@@ -10,19 +10,17 @@ use bench::services::ended_request;
 use bench::services::latest_source;
 use control::Control;
 use control::Requested;
-use control::requests::requested;
-use isa::Decoded;
 use isa::Source;
-use isa::decode::decode;
 use listing::Line;
 use listing::instruction::instruction;
 use listing::pages::choices_in;
 use listing::pages::paged_address;
+use machine::Action;
 use machine::Machine;
 use machine::StepAnswer;
 use machine::StepReport;
 use machine::Stepped;
-use machine::is_enabled;
+use machine::request_in;
 use machine::state::fresh;
 use machine::step::step;
 use options::Command;
@@ -80,40 +78,27 @@ fn source_name(line: Line, source: Source) -> Line {
     }
 }
 
-// The request that a step takes, if any.
-fn taken_by(m: Machine, request: u8) -> Requested {
-    let c = m.control;
-    let mode = c.mode;
-    let bytes = m.bytes;
-    requested(mode, is_enabled(&bytes), request)
-}
-
 // What a step does: it takes a request, sleeps on, or executes an instruction.
-fn what(line: Line, image: &[u8], m: Machine, taken: Requested) -> Line {
-    let c = m.control;
-    if let Requested::Taken(source) = taken {
-        return source_name(line.word(b"takes "), source);
-    }
-    if c.asleep {
-        return line.word(b"sleeps");
-    }
-    match decode(image, bank_of(m), c.pc) {
-        Decoded::Valid {
-            instruction: decoded,
+fn what(line: Line, action: Action, pc: u16) -> Line {
+    match action {
+        Action::Takes(source) => source_name(line.word(b"takes "), source),
+        Action::Idles => line.word(b"sleeps"),
+        Action::Executes {
+            instruction: executed,
             length: _,
             cycles: _,
-        } => instruction(line, decoded, c.pc),
-        Decoded::Refused(_) => line,
+        } => instruction(line, executed, pc),
+        Action::Refused(_) => line,
     }
 }
 
 // The step's number, the address, and what it does.
-fn begin_line(image: &[u8], m: Machine, taken: Requested, number: u16) -> Line {
+fn begin_line(length: usize, m: Machine, action: Action, number: u16) -> Line {
     let c = m.control;
-    let wide = page_columns(image.len());
+    let wide = page_columns(length);
     let line = Line::new().decimal(number as u32).spaces_to(PC);
-    let line = paged_address(line, image.len(), bank_of(m), c.pc);
-    what(line.spaces_to(WHAT + wide), image, m, taken)
+    let line = paged_address(line, length, bank_of(m), c.pc);
+    what(line.spaces_to(WHAT + wide), action, c.pc)
 }
 
 // A step's line: its number, the address, what it does, where its data operand came from, levels, cycles, and what changed, which may be
@@ -155,27 +140,36 @@ fn service_note(
     line
 }
 
-// Writes the line of a step that completed, which another function has begun. `latest` is the source taken last.
+// Writes the line of a step that completed. `latest` is the source taken last.
 fn put_step(
-    begun: Line,
+    number: u16,
     length: usize,
     before: Machine,
     stepped: Stepped,
-    taken: Requested,
     latest: Source,
-    ok: bool,
+    is_written: bool,
 ) -> bool {
     let after = stepped.machine;
     let report = stepped.report;
     let answer = report.answer;
+    let action = report.action;
     let StepAnswer::Done(cycles) = answer else {
-        return ok;
+        return is_written;
     };
+    let begun = begin_line(length, before, action, number);
     let line = step_line(begun, length, before, after, report, cycles);
+    let taken = request_in(action);
     put(
         service_note(line, before.control, after.control, taken, latest),
-        ok,
+        is_written,
     )
+}
+
+// The source taken last, after a step.
+fn latest_after(latest: Source, stepped: Stepped) -> Source {
+    let report = stepped.report;
+    let action = report.action;
+    latest_source(latest, request_in(action))
 }
 
 // Whether a step was refused or stopped.
@@ -189,14 +183,14 @@ fn is_stopped(stepped: Stepped) -> bool {
 }
 
 // Why a step was refused or stopped, after the job program's line of it. A stop leaves the machine as it was.
-fn put_stop(image: &[u8], subject: Subject, stepped: Stepped, ok: bool) -> u8 {
+fn put_stop(image: &[u8], subject: Subject, stepped: Stepped, is_written: bool) -> u8 {
     let m = stepped.machine;
     let report = stepped.report;
     let answer = report.answer;
     match answer {
-        StepAnswer::Done(_) => finish(DONE, ok),
+        StepAnswer::Done(_) => finish(DONE, is_written),
         StepAnswer::Refused(refusal) => {
-            let begun = put(refusal_line(Line::new(), refusal), ok);
+            let begun = put(refusal_line(Line::new(), refusal), is_written);
             if subject.quiet {
                 return finish(REFUSED, begun);
             }
@@ -214,14 +208,12 @@ fn put_steps(image: &[u8], requests: &[u8; MOST_STEPS], steps: u16, subject: Sub
     let mut i = 0u16;
     while i < steps {
         let request = requests[i as usize];
-        let taken = taken_by(m, request);
-        let begun = begin_line(image, m, taken, i);
         let stepped = step(image, m, request);
         if is_stopped(stepped) {
             return put_stop(image, subject, stepped, is_written);
         }
-        latest = latest_source(latest, taken);
-        is_written = put_step(begun, image.len(), m, stepped, taken, latest, is_written);
+        latest = latest_after(latest, stepped);
+        is_written = put_step(i, image.len(), m, stepped, latest, is_written);
         m = stepped.machine;
         i += 1;
     }

@@ -32,6 +32,7 @@ use denote.Triple.Table.{cited}
 use denote.Triple.Walked.{Stays, walkOf, Walks, walked}
 use denote.Exit.{yes}
 use Rattle.machine.specs.Step.{steppedOf, stepOf}
+use Rattle.machine.specs.Actions.{actionAs, actionOf}
 use Rattle.machine.specs.Operands.{stepReadOf}
 use Rattle.machine.specs.declared.Machine.{Machine}
 use Rattle.bench.proofs.KeyWalk as key-walk
@@ -114,7 +115,8 @@ module _ {M : Type 1} (𝓤 : URA M) (H : Heap 𝓤) (A : Atoms 𝓤) (W : Given
         -- [_5; …; _4; …; _3; …; _2; …; _1; …; _0; …; obs; the borrow; the token; P]
         move ! (12 ∷ 13 ∷ 14 ∷ 15 ∷ 0 ∷ 2 ∷ 8 ∷ 10 ∷ []) $
         asked W fm step.ended (step.clauses 𝓤 H A at-mem run) known to
-        (λ r. (steppedOf r ≡ stepOf (s .now) h n) × (r .report .read ≡ stepReadOf (s .now) h n))
+        (λ r. (steppedOf r ≡ stepOf (s .now) h n) × (r .report .read ≡ stepReadOf (s .now) h n)
+        × (actionAs (r .report .action) ≡ actionOf (s .now) h n))
         (λ r ws. refl) S′.mir (stepped 𝓤 H A W .typed) b o h ! refl refl asks
         (and-then ! (load ! (from ! (stop !)) (look ! 13 refl))
         (and-then ! (load ! (from ! (stop !)) (look ! 5 refl))

@@ -5,8 +5,9 @@ use mathlib.Core.Bool.{true}
 use lib.ListN.{length}
 use borrow.Author.Tests.{not-true, not-false}
 use Rattle.isa.specs.Rom.{isSpace}
-use Rattle.hex.specs.Place.{blank}
-use Rattle.hex.proofs.ReadLaws.{image-within, reads-nothing, reads-refused, reads-whole}
+use Rattle.hex.specs.Place.{noneNamed}
+use Rattle.isa.proofs.Halves.{space-most}
+use Rattle.hex.proofs.ReadLaws.{reads-nothing, reads-refused, reads-whole}
 use borrow.Author.Needs.{needs}
 use Rattle.hex.proofs.read.read.Statement.{statement}
 use Rattle.hex.proofs.read.read.Tie as tie
@@ -26,7 +27,7 @@ returns c =
 sub-first : tie.Need-sub-first
 sub-first c =
     let asked = c .before .is-space-length in
-    image-within _ (sym (asked .ensures) ∙ not-false (asked .result) (c .if1 .left))
+    space-most _ (sym (asked .ensures) ∙ not-false (asked .result) (c .if1 .left))
 
 read-lines-requires : tie.Need-read-lines-requires
 read-lines-requires c κs = search needs
@@ -45,13 +46,13 @@ fill-image-requires c κs =
     let asked = at-is-space-length .is-space-length in
     let size = length (start .args .image .now) in
     let is : isSpace size ≡ true = sym (asked .ensures) ∙ not-false (asked .result) (at-if1 .if1 .left) in
-    omega (arith, image-within size is)
+    omega (arith, space-most size is)
 
 lowest-of-requires : tie.Need-lowest-of-requires
 lowest-of-requires c κs = search needs
 
 returns-2 : tie.Need-returns-2
-unfolding blank
+unfolding noneNamed
 returns-2 c =
     let at-reading = c .before in
     let at-read-lines = at-reading .before .before in
@@ -70,7 +71,7 @@ same-length : tie.Need-same-length
 same-length c = search needs
 
 returns-3 : tie.Need-returns-3
-unfolding blank
+unfolding noneNamed
 returns-3 c =
     let at-fill-image = c .before .before .before .before in
     let at-enum-told = at-fill-image .before .before .before in

@@ -1,6 +1,7 @@
 -- `run_step::advance` meets its contract.
 use borrow.Author.Needs.{needs}
-use Rattle.machine.specs.Advance.{respondOf, advancedOf}
+use Rattle.machine.specs.Actions.{dueOf}
+use Rattle.machine.specs.Advance.{actedOf, advancedOf}
 use Rattle.machine.proofs.run_step.advance.Statement.{statement}
 use Rattle.machine.proofs.run_step.advance.Tie as tie
 
@@ -23,7 +24,7 @@ uninterrupted-requires : tie.Need-uninterrupted-requires
 uninterrupted-requires c κs = search needs
 
 returns : tie.Need-returns
-unfolding respondOf advancedOf
+unfolding dueOf actedOf advancedOf
 returns c =
     let k = c .before .before .before .before .before in (
       λ pairs. rw
@@ -36,7 +37,7 @@ same-length : tie.Need-same-length
 same-length c = search needs
 
 returns-2 : tie.Need-returns-2
-unfolding respondOf advancedOf
+unfolding dueOf advancedOf
 returns-2 c =
     let u = c .before .before in
     let told = u .before .before .before .before in

@@ -9,7 +9,7 @@ use Rattle.isa.specs.Decode as decode
 use Rattle.isa.proofs.AtAddress.{in-range}
 use Rattle.isa.proofs.Halves.{is-space}
 use Rattle.data.specs.Space.{programOf}
-use Rattle.machine.specs.Advance.{decodedOf}
+use Rattle.machine.specs.Advance.{actedOf}
 use Rattle.machine.proofs.StepByStep.{idle, awake}
 use Rattle.machine.proofs.run_step.uninterrupted.Statement.{statement}
 use Rattle.machine.proofs.run_step.uninterrupted.Tie as tie
@@ -35,7 +35,7 @@ same-length : tie.Need-same-length
 same-length c = search needs
 
 returns-2 : tie.Need-returns-2
-unfolding decodedOf
+unfolding actedOf
 returns-2 c =
     let k = c .before .before .before .before .before .before in
     let start = k .before .before .before .before .before in
@@ -59,7 +59,7 @@ same-length-2 : tie.Need-same-length-2
 same-length-2 c = search needs
 
 returns-3 : tie.Need-returns-3
-unfolding decodedOf
+unfolding actedOf
 returns-3 c =
     let k = c .before .before .before .before .before .before .before .before in
     let start = k .before .before .before .before .before in

@@ -156,7 +156,7 @@ loop-again c =
       omega (arith, loop .inv .2, c .before .before .known-told .given),
       formed-step image (λ j. known .given j .fits)
           (machineOf (loop .c) (loop .stack) (withPairOf clearedPairs (loop .c .mode) (loop .flags)) (loop .bytes))
-          (loop .inv .3) _ (start .pre .4) _
+          (loop .inv .3) _ _
           (at-advance .advance .ensures .0 clearedPairs),
       search needs,
       at-advance .advance .ensures .1,

@@ -28,8 +28,8 @@ mul-wanted c = search needs
 add-wanted : tie.Need-add-wanted
 add-wanted c = search needs
 
-slice-write-marks : tie.Need-slice-write-marks
-slice-write-marks c = search needs
+slice-write-certificate : tie.Need-slice-write-certificate
+slice-write-certificate c = search needs
 
 same-length : tie.Need-same-length
 same-length c = search needs
@@ -40,8 +40,8 @@ returns-4 c = is-raised _ _ _ _ _ _ (omega arith) (omega arith) refl refl (inl (
 returns-5 : tie.Need-returns-5
 returns-5 c = is-clash _ _ _ _ _ _ (omega arith) (omega arith) refl refl (c .before .if4 .left) (c .if5 .taken)
 
-slice-write-marks-2 : tie.Need-slice-write-marks-2
-slice-write-marks-2 c = search needs
+slice-write-certificate-2 : tie.Need-slice-write-certificate-2
+slice-write-certificate-2 c = search needs
 
 same-length-2 : tie.Need-same-length-2
 same-length-2 c = search needs
@@ -67,11 +67,11 @@ demand-spec =
     slice-read-mark
     mul-wanted
     add-wanted
-    slice-write-marks
+    slice-write-certificate
     same-length
     returns-4
     returns-5
-    slice-write-marks-2
+    slice-write-certificate-2
     same-length-2
     returns-6
     returns-7)

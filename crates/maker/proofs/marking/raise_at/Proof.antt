@@ -13,7 +13,7 @@ use Rattle.maker.proofs.marking.raise_at.Tie as tie
 abbrev index : tie.Else4 → ℕ
 index c =
     let args = c .before .before .before .before .before .args in
-    args .address + length (args .marks .now) - 4096
+    args .address + length (args .certificate .now) - 4096
 
 add-end : tie.Need-add-end
 add-end c = search needs
@@ -33,14 +33,14 @@ returns-3 c = is-enough _ _ _ _ _ (omega arith) (omega arith) refl refl (c .if3 
 returns-4 : tie.Need-returns-4
 returns-4 c = is-too-deep _ _ _ _ (c .if4 .taken)
 
-mul-marks : tie.Need-mul-marks
-mul-marks c = omega (arith, c .before .before .slice-known .given (index c))
+mul-certificate : tie.Need-mul-certificate
+mul-certificate c = omega (arith, c .before .before .slice-known .given (index c))
 
-add-marks : tie.Need-add-marks
-add-marks c = omega (arith, c .before .before .slice-known .given (index c))
+add-certificate : tie.Need-add-certificate
+add-certificate c = omega (arith, c .before .before .slice-known .given (index c))
 
-slice-write-marks : tie.Need-slice-write-marks
-slice-write-marks c = search needs
+slice-write-certificate : tie.Need-slice-write-certificate
+slice-write-certificate c = search needs
 
 same-length : tie.Need-same-length
 same-length c = search needs
@@ -58,8 +58,8 @@ raise-at-spec =
     slice-read-mark
     returns-3
     returns-4
-    mul-marks
-    add-marks
-    slice-write-marks
+    mul-certificate
+    add-certificate
+    slice-write-certificate
     same-length
     returns-5)

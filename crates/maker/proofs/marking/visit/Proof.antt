@@ -13,7 +13,7 @@ use Rattle.certificate.specs.declared.successors.Successor.{Successor}
 use Rattle.certificate.specs.Marks.{markAt, kindOf}
 use Rattle.certificate.specs.Successors.{successorsOf}
 use Rattle.maker.proofs.Following.{in-space, possible, successors-small, visits-none, visits-undecodable, visits-misplaced}
-use Rattle.maker.proofs.Following.{visits-ended, visits, Continues, continues, refused-by}
+use Rattle.maker.proofs.Following.{visits-ended, visits, Continued, continues, refused-by}
 use borrow.Author.Needs.{needs}
 use Rattle.maker.proofs.marking.visit.Statement.{statement}
 use Rattle.maker.proofs.marking.visit.Tie as tie
@@ -24,7 +24,7 @@ start c = c .before .before .before .before .before .before .before
 
 -- the kind is the mark's
 kind-is : (c : tie.After-flow-in)
-    → c .before .before .kind-of .result ≡ kindOf (markAt (start c .args .marks .now) (start c .args .address))
+    → c .before .before .kind-of .result ≡ kindOf (markAt (start c .args .certificate .now) (start c .args .address))
 kind-is c = rw (c .before .before .before .mark-at .ensures) at (c .before .before .kind-of .ensures)
 
 -- an answer by its case
@@ -40,7 +40,7 @@ flows c =
 
 -- what decoding answers, from where the instruction is known to continue
 decoded : (c : tie.After-flow)
-    → Continues (start (c .before .before) .args .address)
+    → Continued (start (c .before .before) .args .address)
     (decodeOf (spaceOf (start (c .before .before) .args .image .now) (start (c .before .before) .args .page))
     (start (c .before .before) .args .address))
     (c .flow .given .0 .0) (c .flow .given .0 .1 .0)
@@ -118,7 +118,7 @@ successors-of-requires c κs = search needs
 follow-all-requires : tie.Need-follow-all-requires
 follow-all-requires c κs =
     let at-flow-in = c .before .before .before .before .before .before .before in
-    successors-small (markAt (start at-flow-in .args .marks .now) (start at-flow-in .args .address))
+    successors-small (markAt (start at-flow-in .args .certificate .now) (start at-flow-in .args .address))
     (kind-is at-flow-in) (at-flow-in .before .if1 .left) _ _ (c .before .successors-of .ensures)
 
 enum-told-2 : tie.Need-enum-told-2

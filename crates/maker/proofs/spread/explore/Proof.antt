@@ -1,20 +1,20 @@
 -- `spread::explore` meets its contract.
 use mathlib.Core.Path.{_≡_}
 use lib.ListN.{length}
-use Rattle.maker.specs.Progress.{Explored}
+use Rattle.maker.specs.Making.{Explored}
 use Rattle.maker.proofs.Edges.{explored-none, explored-more}
 use borrow.Author.Needs.{needs}
 use Rattle.maker.proofs.spread.explore.Statement.{statement}
 use Rattle.maker.proofs.spread.explore.Tie as tie
 
 abbrev Inv-loop : tie.InvT-loop
-Inv-loop table image spaces marks₀ edges₀ notes₀ progress₀ left₀ marks edges notes progress left =
-    (length marks ≡ length marks₀)
+Inv-loop table image spaces certificate₀ edges₀ notes₀ progress₀ left₀ certificate edges notes change left =
+    (length certificate ≡ length certificate₀)
     × (length edges ≡ length edges₀)
-    × Explored image marks₀ marks edges₀ edges progress
+    × Explored image certificate₀ certificate edges₀ edges change
 
 abbrev μ-loop : tie.MeasureT-loop
-μ-loop table image spaces marks₀ edges₀ notes₀ progress₀ left₀ marks edges notes progress left = left
+μ-loop table image spaces certificate₀ edges₀ notes₀ progress₀ left₀ certificate edges notes change left = left
 
 loop-holds : tie.Need-loop-holds Inv-loop μ-loop
 loop-holds c = (search needs, search needs, explored-none)

@@ -2,20 +2,21 @@
 use Prim.Native.Nat.{_-_}
 use mathlib.Core.Path.{_≡_}
 use lib.ListN.{length}
-use Rattle.maker.specs.Progress.{Explored}
+use Rattle.maker.specs.Making.{Explored}
 use Rattle.maker.proofs.Edges.{explored-none, explored-one, explored-more}
 use borrow.Author.Needs.{needs}
 use Rattle.maker.proofs.spread.explore_at.Statement.{statement}
 use Rattle.maker.proofs.spread.explore_at.Tie as tie
 
 abbrev Inv-loop : tie.InvT-loop
-Inv-loop table image pages marks₀ edges₀ notes₀ address progress₀ page₀ marks edges notes progress page =
-    (length marks ≡ length marks₀)
+Inv-loop table image pages certificate₀ edges₀ notes₀ address progress₀ page₀ certificate edges notes change page =
+    (length certificate ≡ length certificate₀)
     × (length edges ≡ length edges₀)
-    × Explored image marks₀ marks edges₀ edges progress
+    × Explored image certificate₀ certificate edges₀ edges change
 
 abbrev μ-loop : tie.MeasureT-loop
-μ-loop table image pages marks₀ edges₀ notes₀ address progress₀ page₀ marks edges notes progress page = pages - page
+μ-loop table image pages certificate₀ edges₀ notes₀ address progress₀ page₀ certificate edges notes change page =
+    pages - page
 
 loop-holds : tie.Need-loop-holds Inv-loop μ-loop
 loop-holds c = (search needs, search needs, explored-none)

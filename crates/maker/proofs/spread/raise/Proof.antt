@@ -1,19 +1,19 @@
 -- `spread::raise` meets its contract.
 use mathlib.Core.Path.{_≡_}
 use lib.ListN.{length}
-use Rattle.maker.specs.Progress.{Raised}
+use Rattle.maker.specs.Making.{Raised}
 use Rattle.maker.proofs.Edges.{raised-none, raised-more}
 use borrow.Author.Needs.{needs}
 use Rattle.maker.proofs.spread.raise.Statement.{statement}
 use Rattle.maker.proofs.spread.raise.Tie as tie
 
 abbrev Inv-loop : tie.InvT-loop
-Inv-loop marks₀ edges notes₀ progress₀ left₀ marks notes progress left =
-    (length marks ≡ length marks₀)
-    × Raised edges marks₀ marks progress
+Inv-loop certificate₀ edges notes₀ progress₀ left₀ certificate notes change left =
+    (length certificate ≡ length certificate₀)
+    × Raised edges certificate₀ certificate change
 
 abbrev μ-loop : tie.MeasureT-loop
-μ-loop marks₀ edges notes₀ progress₀ left₀ marks notes progress left = left
+μ-loop certificate₀ edges notes₀ progress₀ left₀ certificate notes change left = left
 
 loop-holds : tie.Need-loop-holds Inv-loop μ-loop
 loop-holds c = (search needs, raised-none)

@@ -1,19 +1,19 @@
 -- `spread::raise_into` meets its contract.
 use mathlib.Core.Path.{_≡_}
 use lib.ListN.{length}
-use Rattle.maker.specs.Progress.{Raised}
+use Rattle.maker.specs.Making.{Raised}
 use Rattle.maker.proofs.Edges.{raised-none, raised-more}
 use borrow.Author.Needs.{needs}
 use Rattle.maker.proofs.spread.raise_into.Statement.{statement}
 use Rattle.maker.proofs.spread.raise_into.Tie as tie
 
 abbrev Inv-loop : tie.InvT-loop
-Inv-loop marks₀ edges notes₀ to progress₀ noted₀ left₀ marks notes progress noted left =
-    (length marks ≡ length marks₀)
-    × Raised edges marks₀ marks progress
+Inv-loop certificate₀ edges notes₀ to progress₀ noted₀ left₀ certificate notes change noted left =
+    (length certificate ≡ length certificate₀)
+    × Raised edges certificate₀ certificate change
 
 abbrev μ-loop : tie.MeasureT-loop
-μ-loop marks₀ edges notes₀ to progress₀ noted₀ left₀ marks notes progress noted left = left
+μ-loop certificate₀ edges notes₀ to progress₀ noted₀ left₀ certificate notes change noted left = left
 
 last-edge-requires : tie.Need-last-edge-requires Inv-loop μ-loop
 last-edge-requires c κs = search needs

@@ -1,16 +1,16 @@
 -- `sweep::settle` meets its contract: every mark is forced, and each pass that changes them leaves less room.
-use mathlib.Core.Path.{_≡_, refl}
-use Rattle.maker.specs.Progress.{Sound, room}
+use mathlib.Core.Path.{refl}
+use Rattle.maker.specs.Making.{Sound, room}
 use Rattle.maker.proofs.Final.{accepted-least, none-left}
 use borrow.Author.Needs.{needs}
 use Rattle.maker.proofs.sweep.settle.Statement.{statement}
 use Rattle.maker.proofs.sweep.settle.Tie as tie
 
 abbrev Inv-loop : tie.InvT-loop
-Inv-loop table image marks₀ wired marks = Sound image wired marks
+Inv-loop table image certificate₀ wired certificate = Sound image wired certificate
 
 abbrev μ-loop : tie.MeasureT-loop
-μ-loop table image marks₀ wired marks = room marks
+μ-loop table image certificate₀ wired certificate = room certificate
 
 loop-holds : tie.Need-loop-holds Inv-loop μ-loop
 loop-holds c = c .before .before .pre .1

@@ -9,13 +9,13 @@ use Rattle.maker.proofs.sweep.sweep.Statement.{statement}
 use Rattle.maker.proofs.sweep.sweep.Tie as tie
 
 abbrev Inv-loop : tie.InvT-loop
-Inv-loop table image marks₀ progress₀ address₀ marks progress address =
+Inv-loop table image certificate₀ progress₀ address₀ certificate change address =
     (address ≤ 4096)
-    × (length marks ≡ length marks₀)
-    × Passed image marks₀ marks address progress
+    × (length certificate ≡ length certificate₀)
+    × Passed image certificate₀ certificate address change
 
 abbrev μ-loop : tie.MeasureT-loop
-μ-loop table image marks₀ progress₀ address₀ marks progress address = 4096 - address
+μ-loop table image certificate₀ progress₀ address₀ certificate change address = 4096 - address
 
 sub-address : tie.Need-sub-address Inv-loop μ-loop
 sub-address c = search needs

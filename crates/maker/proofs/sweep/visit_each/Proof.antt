@@ -10,11 +10,12 @@ use Rattle.maker.proofs.sweep.visit_each.Statement.{statement}
 use Rattle.maker.proofs.sweep.visit_each.Tie as tie
 
 abbrev Inv-loop : tie.InvT-loop
-Inv-loop table image marks₀ address spaces progress₀ page₀ marks progress page =
-    (page ≤ spaces) × (length marks ≡ length marks₀) × PassedPages image marks₀ marks address page progress
+Inv-loop table image certificate₀ address spaces progress₀ page₀ certificate change page =
+    (page ≤ spaces) × (length certificate ≡ length certificate₀)
+    × PassedPages image certificate₀ certificate address page change
 
 abbrev μ-loop : tie.MeasureT-loop
-μ-loop table image marks₀ address spaces progress₀ page₀ marks progress page = spaces - page
+μ-loop table image certificate₀ address spaces progress₀ page₀ certificate change page = spaces - page
 
 spaces-in-requires : tie.Need-spaces-in-requires Inv-loop μ-loop
 spaces-in-requires c κs = search needs

@@ -55,10 +55,10 @@ returns-5 c =
     let start = counted .before .before .before .before .before .before .before in
     let long = counted .before .before .before .before .before .if1 .left in
     let known = counted .before .before .shared-slice-known3 in
-    let same : length (start .args .session .now) ≡ 3 + countOf (start .args .session .now) =
+    let same : length (start .args .recording .now) ≡ 3 + countOf (start .args .recording .now) =
     omega (arith, long, c .if4 .left, counted .count-of .ensures) in
-    let short : length (start .args .session .now) ≤ 0xFFFFFF = omega (arith, same, known .given 1, known .given 2) in
-    (long, short, starts (start .args .session .now) 3 (why.version-1 (counted .before .if3 .left) same))
+    let short : length (start .args .recording .now) ≤ 0xFFFFFF = omega (arith, same, known .given 1, known .given 2) in
+    (long, short, starts (start .args .recording .now) 3 (why.version-1 (counted .before .if3 .left) same))
 
 pub find-body-spec : {M : Type 1} → statement M
 find-body-spec =

@@ -37,7 +37,7 @@ unfolding BodyFound
 returns-3 c =
     let counted = c .before .before in
     let start = counted .before .before .before in
-    let same : length (start .args .session .now) ≡ 4 + longCountOf (start .args .session .now) =
+    let same : length (start .args .recording .now) ≡ 4 + longCountOf (start .args .recording .now) =
     omega (arith, counted .before .if1 .left, c .before .if2 .left, counted .long-count-of .ensures) in
     refuses _ (plain 28)
     (why.too-few (start .pre .1) same (omega (arith, c .if3 .taken, counted .long-count-of .ensures)))
@@ -47,7 +47,7 @@ unfolding BodyFound
 returns-4 c =
     let counted = c .before .before .before in
     let start = counted .before .before .before in
-    let same : length (start .args .session .now) ≡ 4 + longCountOf (start .args .session .now) =
+    let same : length (start .args .recording .now) ≡ 4 + longCountOf (start .args .recording .now) =
     omega (arith, counted .before .if1 .left, c .before .before .if2 .left, counted .long-count-of .ensures) in
     refuses _ (plain 30)
     (why.too-many (start .pre .1) same (omega (arith, c .if4 .taken, counted .long-count-of .ensures)))
@@ -58,14 +58,14 @@ returns-5 c =
     let counted = c .before .before .before in
     let start = counted .before .before .before in
     let long = counted .before .if1 .left in
-    let same : length (start .args .session .now) ≡ 4 + longCountOf (start .args .session .now) =
+    let same : length (start .args .recording .now) ≡ 4 + longCountOf (start .args .recording .now) =
     omega (arith, long, c .before .before .if2 .left, counted .long-count-of .ensures) in
-    let least : 65536 ≤ longCountOf (start .args .session .now) =
+    let least : 65536 ≤ longCountOf (start .args .recording .now) =
     omega (arith, c .before .if3 .left, counted .long-count-of .ensures) in
-    let most : longCountOf (start .args .session .now) ≤ 1048576 =
+    let most : longCountOf (start .args .recording .now) ≤ 1048576 =
     omega (arith, c .if4 .left, counted .long-count-of .ensures) in
-    let short : length (start .args .session .now) ≤ 0xFFFFFF = omega (arith, same, most) in
-    (long, short, starts (start .args .session .now) 4 (why.version-2 (start .pre .1) same least most))
+    let short : length (start .args .recording .now) ≤ 0xFFFFFF = omega (arith, same, most) in
+    (long, short, starts (start .args .recording .now) 4 (why.version-2 (start .pre .1) same least most))
 
 pub find-long-body-spec : {M : Type 1} → statement M
 find-long-body-spec =

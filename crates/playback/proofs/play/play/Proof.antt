@@ -40,7 +40,7 @@ sub-play-body c =
     let start = c .before .before .before .before .before .before .before .before in
     let found = c .before .before .before .find-body in
     let at = c .before .body2 .given in
-    let body = starts-at (start .args .session .now) (found .result) (at .0 .0) (found .ensures) (at .1) in
+    let body = starts-at (start .args .recording .now) (found .result) (at .0 .0) (found .ensures) (at .1) in
     body .fits
 
 part-play-body-start : tie.Need-part-play-body-start
@@ -48,7 +48,7 @@ part-play-body-start c =
     let start = c .before .before .before .before .before .before .before .before in
     let found = c .before .before .before .find-body in
     let at = c .before .body2 .given in
-    let body = starts-at (start .args .session .now) (found .result) (at .0 .0) (found .ensures) (at .1) in
+    let body = starts-at (start .args .recording .now) (found .result) (at .0 .0) (found .ensures) (at .1) in
     omega (arith, body .fits)
 
 part-play-body-end : tie.Need-part-play-body-end
@@ -59,8 +59,8 @@ play-body-requires c κs =
     let start = c .before .before .before .before .before .before .before .before .before in
     let found = c .before .before .before .before .find-body in
     let at = c .before .before .body2 .given in
-    let body = starts-at (start .args .session .now) (found .result) (at .0 .0) (found .ensures) (at .1) in
-    rw (body .part, length-drop (at .0 .0) (start .args .session .now)) (omega (arith, body .short))
+    let body = starts-at (start .args .recording .now) (found .result) (at .0 .0) (found .ensures) (at .1) in
+    rw (body .part, length-drop (at .0 .0) (start .args .recording .now)) (omega (arith, body .short))
 
 returns-2 : tie.Need-returns-2
 unfolding playOf
@@ -71,7 +71,7 @@ returns-2 c =
     let asked = c .before .before .before .before .before .before .is-image-length in
     let size : isImage (length (start .args .image .now)) ≡ true =
     sym (asked .ensures) ∙ not-false (asked .result) (c .before .before .before .before .before .if1 .left) in
-    let none = starts-nowhere (start .args .session .now) (found .result) (at .0 .0) (found .ensures) (at .1) in
+    let none = starts-nowhere (start .args .recording .now) (found .result) (at .0 .0) (found .ensures) (at .1) in
     rw (size, none) (c .refused-play2 .ensures)
 
 returns-3 : tie.Need-returns-3
@@ -80,7 +80,7 @@ returns-3 c =
     let start = c .before .before .before .before .before .before .before .before .before .before in
     let found = c .before .before .before .before .before .find-body in
     let at = c .before .before .before .body2 .given in
-    let body = starts-at (start .args .session .now) (found .result) (at .0 .0) (found .ensures) (at .1) in
+    let body = starts-at (start .args .recording .now) (found .result) (at .0 .0) (found .ensures) (at .1) in
     let asked = c .before .before .before .before .before .before .before .is-image-length in
     let size : isImage (length (start .args .image .now)) ≡ true =
     sym (asked .ensures) ∙ not-false (asked .result) (c .before .before .before .before .before .before .if1 .left) in

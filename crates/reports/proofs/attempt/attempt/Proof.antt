@@ -6,10 +6,10 @@ use Rattle.reports.proofs.attempt.attempt.Statement.{statement}
 use Rattle.reports.proofs.attempt.attempt.Tie as tie
 
 abbrev Inv-loop : tie.InvT-loop
-Inv-loop image wired marks₀ table passes₀ marks passes = length marks ≡ length marks₀
+Inv-loop image wired certificate₀ table passes₀ certificate passes = length certificate ≡ length certificate₀
 
 abbrev μ-loop : tie.MeasureT-loop
-μ-loop image wired marks₀ table passes₀ marks passes = passes
+μ-loop image wired certificate₀ table passes₀ certificate passes = passes
 
 timings-requires : tie.Need-timings-requires Inv-loop μ-loop
 timings-requires c κs = search needs

@@ -7,10 +7,10 @@ use Rattle.reports.proofs.attempt.pass.Statement.{statement}
 use Rattle.reports.proofs.attempt.pass.Tie as tie
 
 abbrev Inv-loop : tie.InvT-loop
-Inv-loop table page fixed marks₀ changed₀ address₀ marks changed address = (address ≤ 4096) × (length marks ≡ length marks₀)
+Inv-loop table page fixed certificate₀ changed₀ address₀ certificate changed address = (address ≤ 4096) × (length certificate ≡ length certificate₀)
 
 abbrev μ-loop : tie.MeasureT-loop
-μ-loop table page fixed marks₀ changed₀ address₀ marks changed address = address
+μ-loop table page fixed certificate₀ changed₀ address₀ certificate changed address = address
 
 loop-holds : tie.Need-loop-holds Inv-loop μ-loop
 loop-holds c = search needs

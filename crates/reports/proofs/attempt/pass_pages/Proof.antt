@@ -7,10 +7,10 @@ use Rattle.reports.proofs.attempt.pass_pages.Statement.{statement}
 use Rattle.reports.proofs.attempt.pass_pages.Tie as tie
 
 abbrev Inv-loop : tie.InvT-loop
-Inv-loop table image marks₀ fixed pages changed₀ page₀ marks changed page = (page ≤ pages) × (length marks ≡ length marks₀)
+Inv-loop table image certificate₀ fixed pages changed₀ page₀ certificate changed page = (page ≤ pages) × (length certificate ≡ length certificate₀)
 
 abbrev μ-loop : tie.MeasureT-loop
-μ-loop table image marks₀ fixed pages changed₀ page₀ marks changed page = pages - page
+μ-loop table image certificate₀ fixed pages changed₀ page₀ certificate changed page = pages - page
 
 fixed-of-requires : tie.Need-fixed-of-requires Inv-loop μ-loop
 fixed-of-requires c κs = search needs

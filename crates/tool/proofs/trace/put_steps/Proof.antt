@@ -22,12 +22,6 @@ cast-request c = search needs
 element-copy-out-request : tie.Need-element-copy-out-request Inv-loop μ-loop
 element-copy-out-request c = search needs
 
-taken-by-requires : tie.Need-taken-by-requires Inv-loop μ-loop
-taken-by-requires c κs = search needs
-
-begin-line-requires : tie.Need-begin-line-requires Inv-loop μ-loop
-begin-line-requires c κs = search needs
-
 step-requires : tie.Need-step-requires Inv-loop μ-loop
 step-requires c κs = search needs
 
@@ -40,15 +34,15 @@ put-stop-requires c κs = search needs
 returns : tie.Need-returns Inv-loop μ-loop
 returns c = search needs
 
-latest-source-requires : tie.Need-latest-source-requires Inv-loop μ-loop
-latest-source-requires c κs = search needs
+latest-after-requires : tie.Need-latest-after-requires Inv-loop μ-loop
+latest-after-requires c κs = search needs
 
 put-step-requires : tie.Need-put-step-requires Inv-loop μ-loop
 put-step-requires c κs = search needs
 
 add-i : tie.Need-add-i Inv-loop μ-loop
 add-i c =
-    let k = c .before .before .before .before .before .before .before .before .before in
+    let k = c .before .before .before .before .before .before .before in
     search (needs, k .loop-test .taken)
 
 loop-less : tie.Need-loop-less Inv-loop μ-loop
@@ -76,13 +70,11 @@ put-steps-spec =
     loop-holds
     cast-request
     element-copy-out-request
-    taken-by-requires
-    begin-line-requires
     step-requires
     is-stopped-requires
     put-stop-requires
     returns
-    latest-source-requires
+    latest-after-requires
     put-step-requires
     add-i
     loop-less
