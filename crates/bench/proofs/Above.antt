@@ -10,41 +10,41 @@ use lib.ListN.{length}
 use Rattle.isa.specs.declared.Source.{Source}
 use Rattle.control.specs.declared.Mode.{Mode}
 use Rattle.control.specs.declared.Mode.TheVariants.{Reset, Normal, Interrupt, NmiOverNormal, NmiOverInterrupt}
-use Rattle.control.specs.Modes.{modeBeneath, isReset}
-use Rattle.control.specs.Requests.{serviceMode}
-use Rattle.machine.specs.PairUse.{pairNumber}
+use Rattle.control.specs.Modes.{mode_beneath, is_reset}
+use Rattle.control.specs.Requests.{service_mode}
+use Rattle.machine.specs.PairUse.{pair_number}
 use Rattle.certificate.specs.Marks.{kind_at}
 use Rattle.certificate.specs.Rules.{Continues}
-use Rattle.bench.specs.ServiceEnds.{openServices}
-use Rattle.bench.specs.StackEffect.{StackEffect, by-request, by-reti}
-use Rattle.bench.proofs.StackFrames.{Over, source-normal, nmi-normal, nmi-interrupt}
+use Rattle.bench.specs.ServiceEnds.{open_services}
+use Rattle.bench.specs.StackEffect.{StackEffect, by_request, by_reti}
+use Rattle.bench.proofs.StackFrames.{Over, source_normal, nmi_normal, nmi_interrupt}
 use Rattle.bench.proofs.Moves.{Takes, nmi, first, second, third, fourth, nested, Moves}
 use Rattle.bench.proofs.Moves as moves
 
 -- a service is one more than those of the mode that it interrupted
-pub over-depth : {m under : Mode} → Over m under → openServices m ≡ suc (openServices under)
-over-depth source-normal = refl
-over-depth nmi-normal = refl
-over-depth nmi-interrupt = refl
+pub over_depth : {m under : Mode} → Over m under → open_services m ≡ suc (open_services under)
+over_depth source_normal = refl
+over_depth nmi_normal = refl
+over_depth nmi_interrupt = refl
 
-pub over-beneath : {m under : Mode} → Over m under → under ≡ modeBeneath m
-over-beneath source-normal = refl
-over-beneath nmi-normal = refl
-over-beneath nmi-interrupt = refl
+pub over_beneath : {m under : Mode} → Over m under → under ≡ mode_beneath m
+over_beneath source_normal = refl
+over_beneath nmi_normal = refl
+over_beneath nmi_interrupt = refl
 
 -- start-up code is no service
-pub over-started : {m under : Mode} → Over m under → isReset m ≡ false
-over-started source-normal = refl
-over-started nmi-normal = refl
-over-started nmi-interrupt = refl
+pub over_started : {m under : Mode} → Over m under → is_reset m ≡ false
+over_started source_normal = refl
+over_started nmi_normal = refl
+over_started nmi_interrupt = refl
 
-pub over-taken : {m : Mode} {source : Source} → Takes m source → Over (serviceMode source m) m
-over-taken nmi = nmi-normal
-over-taken first = source-normal
-over-taken second = source-normal
-over-taken third = source-normal
-over-taken fourth = source-normal
-over-taken nested = nmi-interrupt
+pub over_taken : {m : Mode} {source : Source} → Takes m source → Over (service_mode source m) m
+over_taken nmi = nmi_normal
+over_taken first = source_normal
+over_taken second = source_normal
+over_taken third = source_normal
+over_taken fourth = source_normal
+over_taken nested = nmi_interrupt
 
 -- In the service that mode M began over the return addresses q ∷ t, or in a subroutine or a service above it.
 pub data Above (certificate : List ℕ) (M : Mode) (q : ℕ) (t : List ℕ) : Mode → ℕ → List ℕ → Type 0 where
@@ -56,9 +56,9 @@ pub data Above (certificate : List ℕ) (M : Mode) (q : ℕ) (t : List ℕ) : Mo
 
 -- the RETI that ends the service
 pub record Ended (M : Mode) (q : ℕ) (t : List ℕ) (d : StackEffect) (m m' : Mode) (p' : ℕ) (s' : List ℕ) : Type 0 where
-  pub is-reti : d ≡ by-reti
-  pub in-mode : m ≡ M
-  pub mode : m' ≡ modeBeneath M
+  pub is_reti_lem : d ≡ by_reti
+  pub in_mode : m ≡ M
+  pub mode : m' ≡ mode_beneath M
   pub address : p' ≡ q
   pub levels : s' ≡ t
 
@@ -66,7 +66,7 @@ pub record Ended (M : Mode) (q : ℕ) (t : List ℕ) (d : StackEffect) (m m' : M
 pub record Stays (certificate : List ℕ) (M : Mode) (q : ℕ) (t : List ℕ) (d : StackEffect) (m m' : Mode) (p' : ℕ)
     (s' : List ℕ) : Type 0 where
   pub above : Above certificate M q t m' p' s'
-  pub not-ended : d ≡ by-reti → m ≢ M
+  pub not_ended : d ≡ by_reti → m ≢ M
 
 module _ {certificate : List ℕ} {M : Mode} {q : ℕ} {t : List ℕ} where
   pub suffix : {m : Mode} {p : ℕ} {s : List ℕ} → Above certificate M q t m p s
@@ -80,10 +80,10 @@ module _ {certificate : List ℕ} {M : Mode} {q : ℕ} {t : List ℕ} where
   deeper (subroutine a k) = let h = deeper a in omega arith
   deeper (inner o a k) = let h = deeper a in omega arith
 
-  pub deep : {m : Mode} {p : ℕ} {s : List ℕ} → Above certificate M q t m p s → openServices M ≤ openServices m
+  pub deep : {m : Mode} {p : ℕ} {s : List ℕ} → Above certificate M q t m p s → open_services M ≤ open_services m
   deep (service k) = omega arith
   deep (subroutine a k) = deep a
-  deep (inner o a k) = let h = deep a in omega (arith, over-depth o)
+  deep (inner o a k) = let h = deep a in omega (arith, over_depth o)
 
   continue : {m : Mode} {p n : ℕ} {s : List ℕ} → Above certificate M q t m p s → Continues certificate p n
       → Above certificate M q t m n s
@@ -98,66 +98,66 @@ module _ {certificate : List ℕ} {M : Mode} {q : ℕ} {t : List ℕ} where
   ret (inner o a k) e = absurd (omega arith)
 
   reti : {m : Mode} {p r : ℕ} {s : List ℕ} → Above certificate M q t m p (r ∷ s) → kind_at certificate p ≡ 3
-      → Ended M q t by-reti m (modeBeneath m) r s ⊎ Stays certificate M q t by-reti m (modeBeneath m) r s
+      → Ended M q t by_reti m (mode_beneath m) r s ⊎ Stays certificate M q t by_reti m (mode_beneath m) r s
   reti (service k) e =
-      inl (record { is-reti = refl; in-mode = refl; mode = refl; address = refl; levels = refl })
+      inl (record { is_reti_lem = refl; in_mode = refl; mode = refl; address = refl; levels = refl })
   reti (subroutine a k) e = absurd (omega arith)
   reti (inner o a k) e =
       let h = deep a in
       inr (record {
-        above = rw (over-beneath o) at a;
-        not-ended = λ _ same. omega (arith, over-depth o, ap openServices same);
+        above = rw (over_beneath o) at a;
+        not_ended = λ _ same. omega (arith, over_depth o, ap open_services same);
       })
 
-  other : {d : StackEffect} {m m' : Mode} {p' : ℕ} {s' : List ℕ} → d ≢ by-reti → Above certificate M q t m' p' s'
+  other : {d : StackEffect} {m m' : Mode} {p' : ℕ} {s' : List ℕ} → d ≢ by_reti → Above certificate M q t m' p' s'
       → Ended M q t d m m' p' s' ⊎ Stays certificate M q t d m m' p' s'
-  other n a = inr (record { above = a; not-ended = λ e. absurd (n e) })
+  other n a = inr (record { above = a; not_ended = λ e. absurd (n e) })
 
   -- a move stays above the service, or ends it
-  pub above-moved : {wired : ℕ} {d : StackEffect} {m m' : Mode} {p p' : ℕ} {s s' : List ℕ}
+  pub above_moved : {wired : ℕ} {d : StackEffect} {m m' : Mode} {p p' : ℕ} {s s' : List ℕ}
       → Moves certificate wired d m p s m' p' s' → Above certificate M q t m p s
       → Ended M q t d m m' p' s' ⊎ Stays certificate M q t d m m' p' s'
-  above-moved moves.idles a = other (λ e. let z : ◌≡◌ {A = ℕ} 0 1 = cc in omega arith) a
-  above-moved (moves.continues c) a = other (λ e. let z : ◌≡◌ {A = ℕ} 0 1 = cc in omega arith) (continue a c)
-  above-moved (moves.calls c) a =
+  above_moved moves.idles a = other (λ e. let z : ◌≡◌ {A = ℕ} 0 1 = cc in omega arith) a
+  above_moved (moves.continues c) a = other (λ e. let z : ◌≡◌ {A = ℕ} 0 1 = cc in omega arith) (continue a c)
+  above_moved (moves.calls c) a =
       other (λ e. let z : ◌≡◌ {A = ℕ} 0 1 = cc in omega arith) (subroutine (continue a c.back) c.target-kind)
-  above-moved (moves.returns k) a = other (λ e. let z : ◌≡◌ {A = ℕ} 0 1 = cc in omega arith) (ret a k)
-  above-moved (moves.leaves k) a = reti a k
-  above-moved (moves.begins e) a = absurd (let h = deeper a in omega arith)
-  above-moved (moves.takes h w) a =
-      other (λ e. let z : ◌≡◌ {A = ℕ} 0 1 = cc in omega arith) (inner (over-taken h) a w.kind)
+  above_moved (moves.returns k) a = other (λ e. let z : ◌≡◌ {A = ℕ} 0 1 = cc in omega arith) (ret a k)
+  above_moved (moves.leaves k) a = reti a k
+  above_moved (moves.begins e) a = absurd (let h = deeper a in omega arith)
+  above_moved (moves.takes h w) a =
+      other (λ e. let z : ◌≡◌ {A = ℕ} 0 1 = cc in omega arith) (inner (over_taken h) a w.kind)
 
 -- the flag pair of an interrupted mode is none of those used as deep as its service
-apart : {M under : Mode} → Over M under → (m : Mode) → openServices M ≤ openServices m → pairNumber m ≢ pairNumber under
-apart source-normal Reset h = omega arith
-apart source-normal Normal h = omega arith
-apart source-normal Interrupt h = omega arith
-apart source-normal NmiOverNormal h = omega arith
-apart source-normal NmiOverInterrupt h = omega arith
-apart nmi-normal Reset h = omega arith
-apart nmi-normal Normal h = omega arith
-apart nmi-normal Interrupt h = omega arith
-apart nmi-normal NmiOverNormal h = omega arith
-apart nmi-normal NmiOverInterrupt h = omega arith
-apart nmi-interrupt Reset h = omega arith
-apart nmi-interrupt Normal h = omega arith
-apart nmi-interrupt Interrupt h = omega arith
-apart nmi-interrupt NmiOverNormal h = omega arith
-apart nmi-interrupt NmiOverInterrupt h = omega arith
+apart : {M under : Mode} → Over M under → (m : Mode) → open_services M ≤ open_services m → pair_number m ≢ pair_number under
+apart source_normal Reset h = omega arith
+apart source_normal Normal h = omega arith
+apart source_normal Interrupt h = omega arith
+apart source_normal NmiOverNormal h = omega arith
+apart source_normal NmiOverInterrupt h = omega arith
+apart nmi_normal Reset h = omega arith
+apart nmi_normal Normal h = omega arith
+apart nmi_normal Interrupt h = omega arith
+apart nmi_normal NmiOverNormal h = omega arith
+apart nmi_normal NmiOverInterrupt h = omega arith
+apart nmi_interrupt Reset h = omega arith
+apart nmi_interrupt Normal h = omega arith
+apart nmi_interrupt Interrupt h = omega arith
+apart nmi_interrupt NmiOverNormal h = omega arith
+apart nmi_interrupt NmiOverInterrupt h = omega arith
 
-pub pairs-apart : {certificate : List ℕ} {M under : Mode} {q : ℕ} {t : List ℕ} {m : Mode} {p : ℕ} {s : List ℕ}
-    → Over M under → Above certificate M q t m p s → pairNumber m ≢ pairNumber under
-pairs-apart {m = m} o a = apart o m (deep a)
+pub pairs_apart : {certificate : List ℕ} {M under : Mode} {q : ℕ} {t : List ℕ} {m : Mode} {p : ℕ} {s : List ℕ}
+    → Over M under → Above certificate M q t m p s → pair_number m ≢ pair_number under
+pairs_apart {m = m} o a = apart o m (deep a)
 
 -- a service that a taken request begins
 pub record Begun (certificate : List ℕ) (source : Source) (m m' : Mode) (p p' : ℕ) (s s' : List ℕ) : Type 0 where
   pub takes : Takes m source
-  pub mode-set : m' ≡ serviceMode source m
+  pub mode_set_lem : m' ≡ service_mode source m
   pub above : Above certificate m' p s m' p' s'
 
 pub begun : {certificate : List ℕ} {wired : ℕ} {source : Source} {d : StackEffect} {m m' : Mode} {p p' : ℕ}
     {s s' : List ℕ}
-    → Moves certificate wired d m p s m' p' s' → d ≡ by-request source → Begun certificate source m m' p p' s s'
+    → Moves certificate wired d m p s m' p' s' → d ≡ by_request source → Begun certificate source m m' p p' s s'
 begun moves.idles e = let z : ◌≡◌ {A = ℕ} 0 1 = cc in absurd (omega arith)
 begun (moves.continues c) e = let z : ◌≡◌ {A = ℕ} 0 1 = cc in absurd (omega arith)
 begun (moves.calls c) e = let z : ◌≡◌ {A = ℕ} 0 1 = cc in absurd (omega arith)
@@ -166,4 +166,4 @@ begun (moves.leaves h) e = let z : ◌≡◌ {A = ℕ} 0 1 = cc in absurd (omega
 begun (moves.begins h) e = let z : ◌≡◌ {A = ℕ} 0 1 = cc in absurd (omega arith)
 begun {source = source} (moves.takes {source = taken} h w) e =
     let same : taken ≡ source = cc in
-    record { takes = rw same at h; mode-set = rw same refl; above = service w.kind }
+    record { takes = rw same at h; mode_set_lem = rw same refl; above = service w.kind }

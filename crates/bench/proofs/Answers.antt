@@ -29,11 +29,11 @@ use Rattle.bench.proofs.KeyWalk.{Answer}
 abbrev pub low_told : StepReport → Val
 low_told = LL.val told.the_type told'.the_laws
 
-abbrev pub low-report : Report → Val
-low-report = LL.val report.the_type report'.the_laws
+abbrev pub low_report : Report → Val
+low_report = LL.val report.the_type report'.the_laws
 
-abbrev pub low-ending : Ending → Val
-low-ending = EL.val ending.the_type ending'.the_laws
+abbrev pub low_ending : Ending → Val
+low_ending = EL.val ending.the_type ending'.the_laws
 
 module _ {M : Type 1} {𝓤 : Ura M} (𝓛 : Logic 𝓤) where
   abbrev pub stepped : Answer Stepped.the_row told.the_row
@@ -56,7 +56,7 @@ module _ {M : Type 1} {𝓤 : Ura M} (𝓛 : Logic 𝓤) where
     τ = report'.mir;
     machine = λ x. x.machine;
     result = λ x. x.report;
-    low = low-report;
+    low = low_report;
     tells = λ x v is. ap only (LL.tells Ran.the_type Ran'.the_laws x (v ∷ []) is);
     typed = λ x v is. ((LL.lawful Ran.the_type Ran'.the_laws 𝓛).typed x (v ∷ []) is).0;
     machine-is = λ x v is. (LL.owed Ran.the_type Ran'.the_laws x (v ∷ []) is).0;
@@ -70,7 +70,7 @@ module _ {M : Type 1} {𝓤 : Ura M} (𝓛 : Logic 𝓤) where
     τ = ending'.mir;
     machine = λ x. x.machine;
     result = λ x. x.ending;
-    low = low-ending;
+    low = low_ending;
     tells = λ x v is. ap only (LL.tells Stored.the_type Stored'.the_laws x (v ∷ []) is);
     typed = λ x v is. ((LL.lawful Stored.the_type Stored'.the_laws 𝓛).typed x (v ∷ []) is).0;
     machine-is = λ x v is. (LL.owed Stored.the_type Stored'.the_laws x (v ∷ []) is).0;

@@ -64,13 +64,13 @@ module _ {M : Type 1} {𝓤 : Ura M} {𝓛 : Logic 𝓤} {K : Type 0} {Γ : List
       (flent (ν ∷ []) (Behind (mem T.the_row) l 0 γ))))) (lends_ref 𝓛 T.the_row (named 0) (ν ∷ []) h l 0) $
       await t z $ pick t (λ γ. split t $ then γ)
 
-  pub come-back : K → Soaks G → (m : Machine) (ν l : ℕ) {γ : GName}
+  pub come_back : K → Soaks G → (m : Machine) (ν l : ℕ) {γ : GName}
       → (Is T.the_row m (vals m) → Seq K 𝓛 (‵ (fat full_share T'.mir l 0 (val m)) ∷ Γ) G)
       → Seq K 𝓛
       (‵ (fdead (ν ∷ [])) ∷ ‵ (flent (ν ∷ []) (Behind (mem T.the_row) l 0 γ)) ∷ ‵
       (fres γ ((T.the_row).coded.code m)) ∷ Γ) G
   unfolding part_of
-  come-back t z m ν l {γ} then =
+  come_back t z m ν l {γ} then =
       use3 𝓛 (later (‵ ((mem T.the_row).own_at m l 0))) (ref_back 𝓛 T.the_row (ν ∷ []) γ m l 0) $ await t z $
       fpick t (λ vs. fsplit t $
       spelt t T.the_row (Is T.the_row) (shows 𝓛 T.the_row) vals
@@ -162,4 +162,4 @@ module _ {M : Type 1} {𝓤 : Ura M} (𝓛 : Logic 𝓤) {n : ℕ} (ps : List (S
         facts t R (Is R) (shows 𝓛 R) r (v ∷ []) (λ is.
         -- [the tokens; the machine's last value; the lender's part; p; d; …]
         land t (from_at t at-d (stop t)) (init t 4 refl (typed r v is)) $ split t $ lft_end t tt $
-        move t (0 ∷ 3 ∷ 2 ∷ []) $ come-back t tt ws.0 ν l (λ gm. then ws.0 r v e gm is)))))))
+        move t (0 ∷ 3 ∷ 2 ∷ []) $ come_back t tt ws.0 ν l (λ gm. then ws.0 r v e gm is)))))))

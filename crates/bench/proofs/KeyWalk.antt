@@ -50,7 +50,7 @@ use Rattle.machine.specs.declared.Machine.{Machine}
 use Rattle.machine.specs.contracts.Machine as T
 use Rattle.machine.proofs.Machine.TheLaws as T'
 use Rattle.bench.proofs.FunctionWalk.{from_at, Met, Of, Tokens, Says, said, ends, dropped, fit_all, Silents}
-use Rattle.bench.proofs.FunctionWalk.{go-dropped, had-none, Ends}
+use Rattle.bench.proofs.FunctionWalk.{go_dropped, had_none, Ends}
 
 -- the machine value of a machine, and the list of it
 abbrev pub val : Machine → Val
@@ -113,13 +113,13 @@ module _ {M : Type 1} {𝓤 : Ura M} {𝓛 : Logic 𝓤} {K : Type 0} {Γ : List
         peeks t T.the_row (Is T.the_row) (shows 𝓛 T.the_row) h (vals h) (λ was. move t (1 ∷ 0 ∷ []) $ next was))
 
 -- a machine's value has the machine's type
-pub typed-machine : {M : Type 1} {𝓤 : Ura M} (𝓛 : Logic 𝓤) (m : Machine)
+pub typed_machine : {M : Type 1} {𝓤 : Ura M} (𝓛 : Logic 𝓤) (m : Machine)
     → Is T.the_row m (vals m) → Holds (has_ty T'.mir (val m)) × WT (val m)
-typed-machine 𝓛 m is = ((LL.lawful T.the_type T'.the_laws 𝓛).typed m (vals m) is).0
+typed_machine 𝓛 m is = ((LL.lawful T.the_type T'.the_laws 𝓛).typed m (vals m) is).0
 
 -- what is known of a machine at some machine value is known of it at its own
-pub known-machine : (m : Machine) (v : Val) → Is T.the_row m (v ∷ []) → Is T.the_row m (vals m)
-known-machine m v is = LL.owes T.the_type T'.the_laws m (LL.owed T.the_type T'.the_laws m (v ∷ []) is)
+pub known_machine : (m : Machine) (v : Val) → Is T.the_row m (v ∷ []) → Is T.the_row m (vals m)
+known_machine m v is = LL.owes T.the_type T'.the_laws m (LL.owed T.the_type T'.the_laws m (v ∷ []) is)
 
 -- what is had of an open borrow of the machine h
 abbrev pub Open : {M : Type 1} (𝓤 : Ura M) → Lft → Share → ℕ → ℕ → GName → Machine → List (Item 𝓤) → List (Item 𝓤)
@@ -159,7 +159,7 @@ asked {M} {𝓤} 𝓛 fm Op c known y φ says-φ τ typed b o h t at_a at-k asks
     opened t tt h b o (λ was.
     -- [the machine's cell; what it owns; the open borrow; obs; auth; P; k; a; 1; …]
     assigns t (of_opd t (load t (from t (hop t (look t 8 refl) (stop t))) (look_raw t 0 refl)))
-    (from_at t at-k (stop t)) (init t 6 refl (typed-machine 𝓛 h was)) $
+    (from_at t at-k (stop t)) (init t 6 refl (typed_machine 𝓛 h was)) $
     move t (5 ∷ 1 ∷ []) $ use2 𝓛 (raw ((Met 𝓛 Op c).pre y)) asks $
     calls_at t fm (Met 𝓛 Op c) known y opds (λ v.
     use1 𝓛 (later
@@ -195,9 +195,9 @@ pub record Answer (S R : RattleType) : Type 2 where
       → v ≡ vstruct (vcons (val (machine x)) (vcons (low (result x)) vnil))
   pub typed : (x : S.Denot) (v : Val) → Is S x (v ∷ [])
       → Holds (has_ty (ty_struct ν (tcons T'.mir (tcons τ tnil))) v) × WT v
-  pub machine-is : (x : S.Denot) (v : Val) → Is S x (v ∷ []) → Is T.the_row (machine x) (vals (machine x))
-  pub result-is : (x : S.Denot) (v : Val) → Is S x (v ∷ []) → Is R (result x) (low (result x) ∷ [])
-  pub result-typed : (y : R.Denot) → Is R y (low y ∷ []) → Holds (has_ty τ (low y)) × WT (low y)
+  pub machine_is : (x : S.Denot) (v : Val) → Is S x (v ∷ []) → Is T.the_row (machine x) (vals (machine x))
+  pub result_is : (x : S.Denot) (v : Val) → Is S x (v ∷ []) → Is R (result x) (low (result x) ∷ [])
+  pub result_typed : (y : R.Denot) → Is R y (low y ∷ []) → Holds (has_ty τ (low y)) × WT (low y)
 
 abbrev AnswerTy : {S R : RattleType} → Answer S R → Ty
 AnswerTy ans = ty_struct ans.ν (tcons T'.mir (tcons ans.τ tnil))
@@ -226,7 +226,7 @@ answers {M} {𝓤} 𝓛 ans x v is b o h t {lₐ = lₐ} at_a = step (λ s.
     rewrite t 6 (λ (u : Val). ‵ (fat full_share (AnswerTy ans) lₐ 0 u)) (ans.tells x v is) refl $
     assigns t (of_opd t (load t (from_at t at_a (fld t refl (stop t))) (look_in t 6 (sub t 0 refl (whole t)))))
     (from t (hop t (look t 7 refl) (stop t)))
-    (store_raw t 1 refl (typed-machine 𝓛 (ans.machine x) (ans.machine-is x v is))) $
+    (store_raw t 1 refl (typed_machine 𝓛 (ans.machine x) (ans.machine-is x v is))) $
     assigns t (of_opd t (load t (from_at t at_a (fld t refl (stop t))) (look_in t 6 (sub t 1 refl (whole t)))))
     (from t (stop t)) (init t 8 refl (ans.result-typed (ans.result x) (ans.result-is x v is))) $
     closed t tt b o (ans.machine x) (ans.machine-is x v is) $ returns t (look t 7 refl) $ s)
@@ -246,7 +246,7 @@ module _ {n : ℕ} where
 
     module _ {M : Type 1} {𝓤 : Ura M} (𝓛 : Logic 𝓤) where
       pub goes : Silents 𝓛 ps ks → AllGo 𝓛 n Key.signature.params Key.kept stayed
-      goes qs = (Goes-ref 𝓛 n 0 ok (plain (λ _. T.the_row)), go-dropped 𝓛 ps ks qs)
+      goes qs = (Goes-ref 𝓛 n 0 ok (plain (λ _. T.the_row)), go_dropped 𝓛 ps ks qs)
 
       -- the end of a key's walk: the reference is at the machine m, and the result r at the machine value v
       module _ (c : Clauses 𝓤 Key) (κs : Lfts n) (qs : Shares n) (outlive : AllOutlive n bs κs) (b o : ℕ) (γ : GName)
@@ -267,7 +267,7 @@ module _ {n : ℕ} where
             (fbor (meet_at n (0 ∷ []) ok κs) (Behind (mem T.the_row) b o γ)) ∷ raw
             (alive 𝓛 Key.signature κs qs) ∷ []) ∵
             lends ! b o m $
-            use0 𝓛 (‵ (has_of κs ps ks (dropped ps ks) xs ws vss)) (had-none 𝓛 κs ps ks xs ws vss) $
+            use0 𝓛 (‵ (has_of κs ps ks (dropped ps ks) xs ws vss)) (had_none 𝓛 κs ps ks xs ws vss) $
             move ! (1 ∷ 0 ∷ []) $ fjoin ! $
             by ! (ends 𝓛 Key stayed c ((κs, qs, outlive, args, (vptr b o ∷ [], vss)), g) (m, ws)
             (tt, fit_all κs ps ks xs ws) r v says-it made)

@@ -4,20 +4,20 @@ use Prim.Native.Nat.{ℕ, ◌+◌, ◌≤◌}
 use native.Mathlib.Omega.{arith}
 use mathlib.Core.Path.{◌≡◌, ◌∙◌}
 use mathlib.Core.List.{List, [], ◌∷◌}
-use Rattle.isa.specs.Sources.{vectorOf}
+use Rattle.isa.specs.Sources.{vector_of}
 use Rattle.isa.specs.declared.Source.{Source}
 use Rattle.isa.specs.declared.Source.TheVariants.{Nmi, First, Second, Third, Fourth}
 use Rattle.control.specs.declared.Mode.{Mode}
 use Rattle.control.specs.declared.Mode.TheVariants.{Reset, Normal, Interrupt}
-use Rattle.control.specs.Modes.{modeBeneath}
-use Rattle.control.specs.Requests.{serviceMode}
-use Rattle.certificate.specs.Marks.{kind_at, needAt}
-use Rattle.certificate.specs.Levels.{sourceLevels, levelsFor}
+use Rattle.control.specs.Modes.{mode_beneath}
+use Rattle.control.specs.Requests.{service_mode}
+use Rattle.certificate.specs.Marks.{kind_at, need_at}
+use Rattle.certificate.specs.Levels.{source_levels, levels_for}
 use Rattle.certificate.specs.Rules.{Continues, Calls, EndsStartUp}
-use Rattle.certificate.proofs.SourceLevels.{source-levels}
-use Rattle.bench.specs.StackEffect.{StackEffect, by-request, by_call, by-ret, by-reti, by-start-up, none}
-use Rattle.bench.proofs.StackFrames.{bound, Over, source-normal, nmi-normal, nmi-interrupt, StackFrames}
-use Rattle.bench.proofs.StackFrames.{start_up, main, subroutine, service, within}
+use Rattle.certificate.proofs.SourceLevels.{source_levels_lem}
+use Rattle.bench.specs.StackEffect.{StackEffect, by_request, by_call, by_ret, by_reti, by_start_up, none}
+use Rattle.bench.proofs.StackFrames.{bound, Over, source_normal, nmi_normal, nmi_interrupt, StackFrames}
+use Rattle.bench.proofs.StackFrames.{start_up_lem, main, subroutine, service, within}
 
 -- a source that a mode takes
 pub data Takes : Mode → Source → Type 0 where
@@ -30,8 +30,8 @@ pub data Takes : Mode → Source → Type 0 where
 
 -- a wired source, as the certificate has it
 pub record Wired (certificate : List ℕ) (wired : ℕ) (source : Source) : Type 0 where
-  pub levels : levelsFor certificate wired source ≡ 1 + needAt certificate (vectorOf source)
-  pub kind : kind_at certificate (vectorOf source) ≡ 3
+  pub levels : levels_for certificate wired source ≡ 1 + need_at certificate (vector_of source)
+  pub kind : kind_at certificate (vector_of source) ≡ 3
 
 -- what a step can do to mode, PC and return addresses, each with what the certificate says there; the first index is
 -- its effect on the stack
@@ -41,33 +41,33 @@ pub data Moves (certificate : List ℕ) (wired : ℕ) : StackEffect → Mode →
   calls : {m : Mode} {p t n : ℕ} {s : List ℕ} → Calls certificate p t n
       → Moves certificate wired by_call m p s m t (n ∷ s)
   returns : {m : Mode} {p r : ℕ} {s : List ℕ} → kind_at certificate p ≡ 4
-      → Moves certificate wired by-ret m p (r ∷ s) m r s
+      → Moves certificate wired by_ret m p (r ∷ s) m r s
   leaves : {m : Mode} {p r : ℕ} {s : List ℕ} → kind_at certificate p ≡ 3
-      → Moves certificate wired by-reti m p (r ∷ s) (modeBeneath m) r s
-  begins : {p n : ℕ} → EndsStartUp certificate p n → Moves certificate wired by-start-up Reset p [] Normal n []
+      → Moves certificate wired by_reti m p (r ∷ s) (mode_beneath m) r s
+  begins : {p n : ℕ} → EndsStartUp certificate p n → Moves certificate wired by_start_up Reset p [] Normal n []
   takes : {m : Mode} {source : Source} {p : ℕ} {s : List ℕ} → Takes m source → Wired certificate wired source
-      → Moves certificate wired (by-request source) m p s (serviceMode source m) (vectorOf source) (p ∷ s)
+      → Moves certificate wired (by_request source) m p s (service_mode source m) (vector_of source) (p ∷ s)
 
 -- each of the sources 1 to 4 takes at most what all of them take
 pub record EachWithin (certificate : List ℕ) (wired : ℕ) : Type 0 where
-  pub one : levelsFor certificate wired First ≤ sourceLevels certificate wired
-  pub two : levelsFor certificate wired Second ≤ sourceLevels certificate wired
-  pub three : levelsFor certificate wired Third ≤ sourceLevels certificate wired
-  pub four : levelsFor certificate wired Fourth ≤ sourceLevels certificate wired
+  pub one : levels_for certificate wired First ≤ source_levels certificate wired
+  pub two : levels_for certificate wired Second ≤ source_levels certificate wired
+  pub three : levels_for certificate wired Third ≤ source_levels certificate wired
+  pub four : levels_for certificate wired Fourth ≤ source_levels certificate wired
 
 each_within : (certificate : List ℕ) (wired : ℕ) → EachWithin certificate wired
 each_within certificate wired =
     record {
-      one = rw source-levels (omega arith);
-      two = rw source-levels (omega arith);
-      three = rw source-levels (omega arith);
-      four = rw source-levels (omega arith);
+      one = rw source_levels_lem (omega arith);
+      two = rw source_levels_lem (omega arith);
+      three = rw source_levels_lem (omega arith);
+      four = rw source_levels_lem (omega arith);
     }
 
 module _ {certificate : List ℕ} {wired : ℕ} where
   continue : {m : Mode} {p n : ℕ} {s : List ℕ} → StackFrames certificate wired m p s → Continues certificate p n
       → StackFrames certificate wired m n s
-  continue (start_up k h) c = start_up (c.kind ∙ k) (omega arith)
+  continue (start_up_lem k h) c = start_up_lem (c.kind ∙ k) (omega arith)
   continue (main k h) c = main (c.kind ∙ k) (omega arith)
   continue (subroutine f k h) c = subroutine f (c.kind ∙ k) (omega arith)
   continue (service o f k h) c = service o f (c.kind ∙ k) (omega arith)
@@ -82,44 +82,44 @@ module _ {certificate : List ℕ} {wired : ℕ} where
   return (service o f k h) e = absurd (omega arith)
 
   back : {m under : Mode} {q : ℕ} {s : List ℕ} → Over m under → StackFrames certificate wired under q s
-      → StackFrames certificate wired (modeBeneath m) q s
-  back source-normal f = f
-  back nmi-normal f = f
-  back nmi-interrupt f = f
+      → StackFrames certificate wired (mode_beneath m) q s
+  back source_normal f = f
+  back nmi_normal f = f
+  back nmi_interrupt f = f
 
   leave : {m : Mode} {p q : ℕ} {s : List ℕ} → StackFrames certificate wired m p (q ∷ s) → kind_at certificate p ≡ 3
-      → StackFrames certificate wired (modeBeneath m) q s
+      → StackFrames certificate wired (mode_beneath m) q s
   leave (subroutine f k h) e = absurd (omega arith)
   leave (service o f k h) e = back o f
 
   begin : {p n : ℕ} → StackFrames certificate wired Reset p [] → EndsStartUp certificate p n
       → StackFrames certificate wired Normal n []
   unfolding bound
-  begin (start_up k h) e = main e.next-kind (omega arith)
+  begin (start_up_lem k h) e = main e.next-kind (omega arith)
 
   take : {m : Mode} {source : Source} {p : ℕ} {s : List ℕ} → Takes m source → Wired certificate wired source
       → StackFrames certificate wired m p s
-      → StackFrames certificate wired (serviceMode source m) (vectorOf source) (p ∷ s)
+      → StackFrames certificate wired (service_mode source m) (vector_of source) (p ∷ s)
   unfolding bound
-  take nmi w f = let h = within f in service nmi-normal f w.kind (omega arith)
+  take nmi w f = let h = within f in service nmi_normal f w.kind (omega arith)
   take first w f =
-      let h = within f in service source-normal f w.kind (omega (arith, (each_within certificate wired).one))
+      let h = within f in service source_normal f w.kind (omega (arith, (each_within certificate wired).one))
   take second w f =
-      let h = within f in service source-normal f w.kind (omega (arith, (each_within certificate wired).two))
+      let h = within f in service source_normal f w.kind (omega (arith, (each_within certificate wired).two))
   take third w f =
-      let h = within f in service source-normal f w.kind (omega (arith, (each_within certificate wired).three))
+      let h = within f in service source_normal f w.kind (omega (arith, (each_within certificate wired).three))
   take fourth w f =
-      let h = within f in service source-normal f w.kind (omega (arith, (each_within certificate wired).four))
-  take nested w f = let h = within f in service nmi-interrupt f w.kind (omega arith)
+      let h = within f in service source_normal f w.kind (omega (arith, (each_within certificate wired).four))
+  take nested w f = let h = within f in service nmi_interrupt f w.kind (omega arith)
 
   -- every move keeps the frames
-  pub frames-kept : {d : StackEffect} {m m' : Mode} {p p' : ℕ} {s s' : List ℕ}
+  pub frames_kept : {d : StackEffect} {m m' : Mode} {p p' : ℕ} {s s' : List ℕ}
       → Moves certificate wired d m p s m' p' s'
       → StackFrames certificate wired m p s → StackFrames certificate wired m' p' s'
-  frames-kept idles f = f
-  frames-kept (continues c) f = continue f c
-  frames-kept (calls c) f = call f c
-  frames-kept (returns k) f = return f k
-  frames-kept (leaves k) f = leave f k
-  frames-kept (begins e) f = begin f e
-  frames-kept (takes t w) f = take t w f
+  frames_kept idles f = f
+  frames_kept (continues c) f = continue f c
+  frames_kept (calls c) f = call f c
+  frames_kept (returns k) f = return f k
+  frames_kept (leaves k) f = leave f k
+  frames_kept (begins e) f = begin f e
+  frames_kept (takes t w) f = take t w f

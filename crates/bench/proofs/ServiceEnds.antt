@@ -6,190 +6,190 @@ use mathlib.Core.Bool.{Bool, true, false, cond}
 use mathlib.Core.List.{List, [], ◌∷◌, ◌++◌}
 use lib.Dec.{ltb}
 use borrow.Author.Tests.{ltb-true}
-use Rattle.isa.specs.Sources.{namesOnlySources}
+use Rattle.isa.specs.Sources.{names_only_sources}
 use Rattle.isa.specs.declared.Source.{Source}
 use Rattle.control.specs.declared.Mode.{Mode}
 use Rattle.control.specs.declared.Mode.TheVariants.{Interrupt}
 use Rattle.control.specs.declared.Requested.{Requested}
 use Rattle.control.specs.declared.Requested.TheVariants.{Nothing, Taken}
-use Rattle.control.specs.Requests.{requestedOf, serviceMode}
+use Rattle.control.specs.Requests.{requested_of, service_mode}
 use Rattle.machine.specs.declared.Machine.{Machine}
-use Rattle.machine.specs.State.{resetOf}
-use Rattle.machine.specs.Step.{enabledOf, step_of}
+use Rattle.machine.specs.State.{reset_of}
+use Rattle.machine.specs.Step.{enabled_of, step_of}
 use Rattle.certificate.specs.Rules.{Rules}
 use Rattle.certificate.proofs.Agreement.{agreement}
-use Rattle.bench.specs.Calls.{Call, step, run, store, reset, leaves, leavesAll, AsksOnly, AllAskOnly, unrolled}
-use Rattle.bench.specs.StackEffect.{StackEffect, by-reti}
+use Rattle.bench.specs.Calls.{Call, step, run, store, reset, leaves, leaves_all, AsksOnly, AllAskOnly, unrolled}
+use Rattle.bench.specs.StackEffect.{StackEffect, by_reti}
 use Rattle.bench.specs.NoTrace.{RetiIn, NoneEnding, TakesRequest, InService, interrupted, current, NextStep}
-use Rattle.bench.specs.NoTrace.{afterStep, EndsService}
-use Rattle.bench.specs.ServiceEnds.{openServices, latestOf, servedIn, ended_of, latestAfter, latestAfterAll}
+use Rattle.bench.specs.NoTrace.{after_step, EndsService}
+use Rattle.bench.specs.ServiceEnds.{open_services, latest_of, served_in, ended_of, latest_after, latest_after_all}
 use Rattle.bench.specs.ServiceEnds.{EndTold}
-use Rattle.bench.proofs.StackFrames.{Over, source-normal, nmi-normal, nmi-interrupt}
+use Rattle.bench.proofs.StackFrames.{Over, source_normal, nmi_normal, nmi_interrupt}
 use Rattle.bench.proofs.Moves.{Takes, nmi, first, second, third, fourth, nested, Moves}
 use Rattle.bench.proofs.Moves as moves
-use Rattle.bench.proofs.Requests.{IfTaken, taken-takes}
-use Rattle.bench.proofs.Invariant.{MachineInvariant, reset-invariant}
-use Rattle.bench.proofs.Steps.{step-goes, step-refused}
-use Rattle.bench.proofs.Unrolled.{asks-split, asks-unrolled}
-use Rattle.bench.proofs.Above.{over-depth, over-taken, deep, begun}
-use Rattle.bench.proofs.Reti.{reti-executed, request-effect}
-use Rattle.bench.proofs.NoTrace.{Serving, Goes, call-serves, all-kept, at-moment, back_by}
+use Rattle.bench.proofs.Requests.{IfTaken, taken_takes}
+use Rattle.bench.proofs.Invariant.{MachineInvariant, reset_invariant}
+use Rattle.bench.proofs.Steps.{step_goes, step_refused}
+use Rattle.bench.proofs.Unrolled.{asks_split, asks_unrolled}
+use Rattle.bench.proofs.Above.{over_depth, over_taken, deep, begun}
+use Rattle.bench.proofs.Reti.{reti_executed, request_effect}
+use Rattle.bench.proofs.NoTrace.{Serving, Goes, call_serves, all_kept, at_moment, back_by}
 
 -- a taking sets a mode that serves it
-taking-served : {m : Mode} {source : Source} → Takes m source → (latest : Source)
-    → servedIn (serviceMode source m) (latestOf latest (Taken source)) ≡ Taken source
-taking-served nmi latest = refl
-taking-served first latest = refl
-taking-served second latest = refl
-taking-served third latest = refl
-taking-served fourth latest = refl
-taking-served nested latest = refl
+taking_served : {m : Mode} {source : Source} → Takes m source → (latest : Source)
+    → served_in (service_mode source m) (latest_of latest (Taken source)) ≡ Taken source
+taking_served nmi latest = refl
+taking_served first latest = refl
+taking_served second latest = refl
+taking_served third latest = refl
+taking_served fourth latest = refl
+taking_served nested latest = refl
 
 -- within a service no source is taken but NMI
-latest-kept : (m : Mode) → 1 ≤ openServices m → (latest : Source) (r : Requested) → IfTaken (Takes m) r
-    → latestOf latest r ≡ latest
-latest-kept _ inside latest Nothing t = refl
-latest-kept _ inside latest (Taken source) nmi = refl
-latest-kept _ inside latest (Taken source) first = absurd (omega arith)
-latest-kept _ inside latest (Taken source) second = absurd (omega arith)
-latest-kept _ inside latest (Taken source) third = absurd (omega arith)
-latest-kept _ inside latest (Taken source) fourth = absurd (omega arith)
-latest-kept _ inside latest (Taken source) nested = refl
+latest_kept : (m : Mode) → 1 ≤ open_services m → (latest : Source) (r : Requested) → IfTaken (Takes m) r
+    → latest_of latest r ≡ latest
+latest_kept _ inside latest Nothing t = refl
+latest_kept _ inside latest (Taken source) nmi = refl
+latest_kept _ inside latest (Taken source) first = absurd (omega arith)
+latest_kept _ inside latest (Taken source) second = absurd (omega arith)
+latest_kept _ inside latest (Taken source) third = absurd (omega arith)
+latest_kept _ inside latest (Taken source) fourth = absurd (omega arith)
+latest_kept _ inside latest (Taken source) nested = refl
 
 -- so what its mode serves stays
-served-kept : {M under : Mode} → Over M under → (m : Mode) → openServices M ≤ openServices m → (enabled : Bool)
+served_kept : {M under : Mode} → Over M under → (m : Mode) → open_services M ≤ open_services m → (enabled : Bool)
     (request : ℕ) (latest : Source)
-    → servedIn M (latestOf latest (requestedOf m enabled request)) ≡ servedIn M latest
-served-kept source-normal m inside enabled request latest =
-    rw (latest-kept m (within-one inside) latest (requestedOf m enabled request) (taken-takes m enabled request)) refl
+    → served_in M (latest_of latest (requested_of m enabled request)) ≡ served_in M latest
+served_kept source_normal m inside enabled request latest =
+    rw (latest_kept m (within_one inside) latest (requested_of m enabled request) (taken_takes m enabled request)) refl
   where
-    within-one : openServices Interrupt ≤ openServices m → 1 ≤ openServices m
-    within-one h = let e = over-depth source-normal in omega arith
-served-kept nmi-normal m inside enabled request latest = refl
-served-kept nmi-interrupt m inside enabled request latest = refl
+    within_one : open_services Interrupt ≤ open_services m → 1 ≤ open_services m
+    within_one h = let e = over_depth source_normal in omega arith
+served_kept nmi_normal m inside enabled request latest = refl
+served_kept nmi_interrupt m inside enabled request latest = refl
 
 -- the RETI of a service leaves fewer services inside
-ended-over : {M under : Mode} → Over M under → (a b : Mode) → a ≡ M → b ≡ under → (latest : Source)
-    → ended_of a b latest ≡ servedIn M latest
+ended_over : {M under : Mode} → Over M under → (a b : Mode) → a ≡ M → b ≡ under → (latest : Source)
+    → ended_of a b latest ≡ served_in M latest
 unfolding ended_of
-ended-over source-normal a b before after latest = rw (before, after) refl
-ended-over nmi-normal a b before after latest = rw (before, after) refl
-ended-over nmi-interrupt a b before after latest = rw (before, after) refl
+ended_over source_normal a b before after latest = rw (before, after) refl
+ended_over nmi_normal a b before after latest = rw (before, after) refl
+ended_over nmi_interrupt a b before after latest = rw (before, after) refl
 
 fewer : (r : Requested) (source : Source) (b : Bool) → cond b r Nothing ≡ Taken source → b ≡ true
 fewer r source true e = refl
 fewer r source false e = let z : ◌≡◌ {A = ℕ} 0 1 = cc in absurd (omega arith)
 
-fewer-open : (m m' : Mode) (latest source : Source) → ended_of m m' latest ≡ Taken source
-    → openServices m' < openServices m
+fewer_open : (m m' : Mode) (latest source : Source) → ended_of m m' latest ≡ Taken source
+    → open_services m' < open_services m
 unfolding ended_of
-fewer-open m m' latest source e =
-    ltb-true (openServices m') (openServices m)
-    (fewer (servedIn m latest) source (ltb (openServices m') (openServices m)) e)
+fewer_open m m' latest source e =
+    ltb-true (open_services m') (open_services m)
+    (fewer (served_in m latest) source (ltb (open_services m') (open_services m)) e)
 
 -- a move that leaves fewer services inside is a RETI
-fewer-moved : {certificate : List ℕ} {wired : ℕ} {d : StackEffect} {m m' : Mode} {p p' : ℕ} {s s' : List ℕ}
-    → Moves certificate wired d m p s m' p' s' → openServices m' < openServices m → d ≡ by-reti
-fewer-moved moves.idles h = absurd (omega arith)
-fewer-moved (moves.continues c) h = absurd (omega arith)
-fewer-moved (moves.calls c) h = absurd (omega arith)
-fewer-moved (moves.returns k) h = absurd (omega arith)
-fewer-moved (moves.leaves k) h = refl
-fewer-moved (moves.begins e) h = absurd (omega arith)
-fewer-moved (moves.takes t w) h = absurd (omega (arith, over-depth (over-taken t)))
+fewer_moved : {certificate : List ℕ} {wired : ℕ} {d : StackEffect} {m m' : Mode} {p p' : ℕ} {s s' : List ℕ}
+    → Moves certificate wired d m p s m' p' s' → open_services m' < open_services m → d ≡ by_reti
+fewer_moved moves.idles h = absurd (omega arith)
+fewer_moved (moves.continues c) h = absurd (omega arith)
+fewer_moved (moves.calls c) h = absurd (omega arith)
+fewer_moved (moves.returns k) h = absurd (omega arith)
+fewer_moved (moves.leaves k) h = refl
+fewer_moved (moves.begins e) h = absurd (omega arith)
+fewer_moved (moves.takes t w) h = absurd (omega (arith, over_depth (over_taken t)))
 
 -- the source taken last, after one list and another
-latest-append : (image : List ℕ) (xs ys : List Call) (m : Machine) (latest : Source)
-    → latestAfterAll image (xs ++ ys) m latest
-    ≡ latestAfterAll image ys (leavesAll image xs m) (latestAfterAll image xs m latest)
-latest-append image [] ys m latest = refl
-latest-append image (c ∷ xs) ys m latest = latest-append image xs ys (leaves image c m) (latestAfter c m latest)
+latest_append : (image : List ℕ) (xs ys : List Call) (m : Machine) (latest : Source)
+    → latest_after_all image (xs ++ ys) m latest
+    ≡ latest_after_all image ys (leaves_all image xs m) (latest_after_all image xs m latest)
+latest_append image [] ys m latest = refl
+latest_append image (c ∷ xs) ys m latest = latest_append image xs ys (leaves image c m) (latest_after c m latest)
 
 module _ (image certificate : List ℕ) (wired number : ℕ) (ok : Rules image certificate wired number) where
   -- a call within a service
-  call-follows : (c : Call) {m₀ : Machine} {M : Mode} {m : Machine} → Serving certificate m₀ M m → (latest : Source)
-      → servedIn M (latestAfter c m latest) ≡ servedIn M latest
-  call-follows (step request) {m₀} {M} {m} s latest = by-test (namesOnlySources request)
+  call_follows : (c : Call) {m₀ : Machine} {M : Mode} {m : Machine} → Serving certificate m₀ M m → (latest : Source)
+      → served_in M (latest_after c m latest) ≡ served_in M latest
+  call_follows (step request) {m₀} {M} {m} s latest = by_test (names_only_sources request)
     where
-      by-test : (known : Bool)
-          → servedIn M
-          (cond known (latestOf latest (requestedOf m.control.mode (enabledOf m.bytes) request)) latest)
-          ≡ servedIn M latest
-      by-test true =
-          served-kept s.over m.control.mode (deep s.above) (enabledOf m.bytes) request latest
-      by-test false = refl
-  call-follows (run requests n) s latest = refl
-  call-follows (store address value) s latest = refl
-  call-follows reset s latest = refl
+      by_test : (known : Bool)
+          → served_in M
+          (cond known (latest_of latest (requested_of m.control.mode (enabled_of m.bytes) request)) latest)
+          ≡ served_in M latest
+      by_test true =
+          served_kept s.over m.control.mode (deep s.above) (enabled_of m.bytes) request latest
+      by_test false = refl
+  call_follows (run requests n) s latest = refl
+  call_follows (store address value) s latest = refl
+  call_follows reset s latest = refl
 
-  all-follow : (calls : List Call) {m₀ : Machine} {M : Mode} {m : Machine} → AllAskOnly wired calls
+  all_follow : (calls : List Call) {m₀ : Machine} {M : Mode} {m : Machine} → AllAskOnly wired calls
       → NoneEnding image M calls m → Goes image certificate wired number ok m₀ M m → (latest : Source)
-      → servedIn M (latestAfterAll image calls m latest) ≡ servedIn M latest
-  all-follow [] asks none g latest = refl
-  all-follow (c ∷ calls) {m₀} {M} {m} asks none g latest =
-      all-follow calls asks.1 none.1
-      (call-serves image certificate wired number ok c asks.0 none.0 g) (latestAfter c m latest)
-      ∙ call-follows c g.1 latest
+      → served_in M (latest_after_all image calls m latest) ≡ served_in M latest
+  all_follow [] asks none g latest = refl
+  all_follow (c ∷ calls) {m₀} {M} {m} asks none g latest =
+      all_follow calls asks.1 none.1
+      (call_serves image certificate wired number ok c asks.0 none.0 g) (latest_after c m latest)
+      ∙ call_follows c g.1 latest
 
   -- at its taking, whatever was taken before
-  begin-follows : (m : Machine) → MachineInvariant certificate wired m → (request : ℕ) → AsksOnly wired request
+  begin_follows : (m : Machine) → MachineInvariant certificate wired m → (request : ℕ) → AsksOnly wired request
       → (source : Source) → TakesRequest m request source → (latest : Source)
-      → servedIn (step_of image m request).machine.control.mode (latestAfter (step request) m latest) ≡ Taken source
-  begin-follows m g request asks source t latest =
+      → served_in (step_of image m request).machine.control.mode (latest_after (step request) m latest) ≡ Taken source
+  begin_follows m g request asks source t latest =
       let b =
-      begun (step-goes image certificate wired number ok m g request t.named asks).moves
-      (request-effect image m request source t.takes) in
-      rw (b.mode-set, t.named, t.takes) (taking-served b.takes latest)
+      begun (step_goes image certificate wired number ok m g request t.named asks).moves
+      (request_effect image m request source t.takes) in
+      rw (b.mode-set, t.named, t.takes) (taking_served b.takes latest)
 
-  end-named : (start : Machine) (calls : List Call) → MachineInvariant certificate wired start
+  end_named : (start : Machine) (calls : List Call) → MachineInvariant certificate wired start
       → AllAskOnly wired calls → (s : InService image start calls) (request : ℕ) → NextStep s request
       → EndsService s request → (begins : Source)
-      → ended_of (current s).control.mode (afterStep s request).control.mode
-      (latestAfterAll image (s.before ++ (step s.request ∷ s.since)) start begins)
+      → ended_of (current s).control.mode (after_step s request).control.mode
+      (latest_after_all image (s.before ++ (step s.request ∷ s.since)) start begins)
       ≡ Taken s.source
   unfolding leaves
-  end-named start calls g asks s request n x begins =
-      let h = at-moment image certificate wired number ok start calls g asks s in
-      let latest = latestAfterAll image s.before start begins in
+  end_named start calls g asks s request n x begins =
+      let h = at_moment image certificate wired number ok start calls g asks s in
+      let latest = latest_after_all image s.before start begins in
       let b = back_by image certificate wired number ok x (h.next request n) in
-      rw (latest-append image s.before (step s.request ∷ s.since) start begins)
-      (ended-over h.serving.over (current s).control.mode (afterStep s request).control.mode x.in-mode
+      rw (latest_append image s.before (step s.request ∷ s.since) start begins)
+      (ended_over h.serving.over (current s).control.mode (after_step s request).control.mode x.in-mode
       b.mode _
-      ∙ all-follow s.since h.asks-since s.not-ended h.taken _
-      ∙ begin-follows (interrupted s) h.invariant s.request h.asks s.source s.taken latest)
+      ∙ all_follow s.since h.asks-since s.not-ended h.taken _
+      ∙ begin_follows (interrupted s) h.invariant s.request h.asks s.source s.taken latest)
 
-  end-only : (m : Machine) → MachineInvariant certificate wired m → (request : ℕ) → AsksOnly wired request
+  end_only : (m : Machine) → MachineInvariant certificate wired m → (request : ℕ) → AsksOnly wired request
       → (latest source : Source)
       → ended_of m.control.mode (step_of image m request).machine.control.mode latest ≡ Taken source
       → RetiIn image m.control.mode m request
-  end-only m g request asks latest source e = by-test (namesOnlySources request) refl
+  end_only m g request asks latest source e = by_test (names_only_sources request) refl
     where
-      lower : openServices (step_of image m request).machine.control.mode < openServices m.control.mode
-      lower = fewer-open m.control.mode (step_of image m request).machine.control.mode latest source e
+      lower : open_services (step_of image m request).machine.control.mode < open_services m.control.mode
+      lower = fewer_open m.control.mode (step_of image m request).machine.control.mode latest source e
 
-      by-test : (known : Bool) → namesOnlySources request ≡ known → RetiIn image m.control.mode m request
-      by-test true k =
-          reti-executed image m.control.mode m request k refl
-          (fewer-moved (step-goes image certificate wired number ok m g request k asks).moves lower)
-      by-test false k =
-          let h : openServices m.control.mode < openServices m.control.mode =
-          rw (step-refused image certificate wired number ok m g request k) at lower in
+      by_test : (known : Bool) → names_only_sources request ≡ known → RetiIn image m.control.mode m request
+      by_test true k =
+          reti_executed image m.control.mode m request k refl
+          (fewer_moved (step_goes image certificate wired number ok m g request k asks).moves lower)
+      by_test false k =
+          let h : open_services m.control.mode < open_services m.control.mode =
+          rw (step_refused image certificate wired number ok m g request k) at lower in
           absurd (omega arith)
 
-pub end-told : EndTold
+pub end_told : EndTold
 unfolding leaves
-end-told =
+end_told =
     record {
       named = λ image certificate wired number e m calls asks s request n x begins.
           let ok = (agreement image certificate wired number).sound e in
-          end-named image certificate wired number ok (resetOf m) (unrolled calls)
-          (reset-invariant image certificate wired number ok m) (asks-unrolled wired calls asks) s request n x begins;
+          end_named image certificate wired number ok (reset_of m) (unrolled calls)
+          (reset_invariant image certificate wired number ok m) (asks_unrolled wired calls asks) s request n x begins;
       only = λ image certificate wired number e m calls asks before more request place latest source told.
           let ok = (agreement image certificate wired number).sound e in
           let a =
-          asks-split wired before (step request ∷ more) (rw place at (asks-unrolled wired calls asks)) in
-          end-only image certificate wired number ok (leavesAll image before (resetOf m))
-          (all-kept image certificate wired number ok before (resetOf m) a.0
-          (reset-invariant image certificate wired number ok m))
+          asks_split wired before (step request ∷ more) (rw place at (asks_unrolled wired calls asks)) in
+          end_only image certificate wired number ok (leaves_all image before (reset_of m))
+          (all_kept image certificate wired number ok before (reset_of m) a.0
+          (reset_invariant image certificate wired number ok m))
           request a.1.0 latest source told;
     }

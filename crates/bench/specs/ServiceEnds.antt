@@ -1,84 +1,84 @@
 -- Which request's service a step ends, told by the modes before and after it (document 02, W-214): what a trace says of
 -- a RETI. The claim is `EndTold`.
 use Rattle.std.specs.Prelude.{ℕ, ◌≡◌, cond, List, [], ◌∷◌, ◌++◌, ltb}
-use Rattle.isa.specs.Sources.{namesOnlySources}
+use Rattle.isa.specs.Sources.{names_only_sources}
 use Rattle.isa.specs.declared.Source.{Source}
 use Rattle.isa.specs.declared.Source.TheVariants.{Nmi, First, Second, Third, Fourth}
 use Rattle.control.specs.declared.Mode.{Mode}
 use Rattle.control.specs.declared.Mode.TheVariants.{Reset, Normal, Interrupt, NmiOverNormal, NmiOverInterrupt}
 use Rattle.control.specs.declared.Requested.{Requested}
 use Rattle.control.specs.declared.Requested.TheVariants.{Nothing, Taken}
-use Rattle.control.specs.Requests.{requestedOf}
+use Rattle.control.specs.Requests.{requested_of}
 use Rattle.machine.specs.declared.Machine.{Machine}
-use Rattle.machine.specs.State.{resetOf}
-use Rattle.machine.specs.Step.{enabledOf}
-use Rattle.certificate.specs.Check.{checkOf, accepted}
-use Rattle.bench.specs.Calls.{Call, step, run, store, reset, leaves, leavesAll, AllAskOnly, unrolled}
-use Rattle.bench.specs.NoTrace.{RetiIn, InService, current, NextStep, afterStep, EndsService}
+use Rattle.machine.specs.State.{reset_of}
+use Rattle.machine.specs.Step.{enabled_of}
+use Rattle.certificate.specs.Check.{check_of, accepted}
+use Rattle.bench.specs.Calls.{Call, step, run, store, reset, leaves, leaves_all, AllAskOnly, unrolled}
+use Rattle.bench.specs.NoTrace.{RetiIn, InService, current, NextStep, after_step, EndsService}
 
 -- how many services a mode is in: "NMI is taken in normal and interrupt mode, the others in normal mode"
-abbrev pub openServices : Mode → ℕ
-openServices Reset = 0
-openServices Normal = 0
-openServices Interrupt = 1
-openServices NmiOverNormal = 1
-openServices NmiOverInterrupt = 2
+abbrev pub open_services : Mode → ℕ
+open_services Reset = 0
+open_services Normal = 0
+open_services Interrupt = 1
+open_services NmiOverNormal = 1
+open_services NmiOverInterrupt = 2
 
 -- of the sources 1 to 4 the one taken last, where a step takes a request or none
-abbrev pub latestOf : (latest : Source) → Requested → Source
-latestOf latest Nothing = latest
-latestOf latest (Taken Nmi) = latest
-latestOf latest (Taken First) = First
-latestOf latest (Taken Second) = Second
-latestOf latest (Taken Third) = Third
-latestOf latest (Taken Fourth) = Fourth
+abbrev pub latest_of : (latest : Source) → Requested → Source
+latest_of latest Nothing = latest
+latest_of latest (Taken Nmi) = latest
+latest_of latest (Taken First) = First
+latest_of latest (Taken Second) = Second
+latest_of latest (Taken Third) = Third
+latest_of latest (Taken Fourth) = Fourth
 
 -- the request that a mode serves: in interrupt mode it is that of the source taken last
-abbrev pub servedIn : Mode → (latest : Source) → Requested
-servedIn Reset latest = Nothing
-servedIn Normal latest = Nothing
-servedIn Interrupt latest = Taken latest
-servedIn NmiOverNormal latest = Taken Nmi
-servedIn NmiOverInterrupt latest = Taken Nmi
+abbrev pub served_in : Mode → (latest : Source) → Requested
+served_in Reset latest = Nothing
+served_in Normal latest = Nothing
+served_in Interrupt latest = Taken latest
+served_in NmiOverNormal latest = Taken Nmi
+served_in NmiOverInterrupt latest = Taken Nmi
 
 -- the request whose service a step ends: that of the mode before it, where it leaves fewer services open
 unfoldable pub ended_of : (before after : Mode) → (latest : Source) → Requested
-ended_of before after latest = cond (ltb (openServices after) (openServices before)) (servedIn before latest) Nothing
+ended_of before after latest = cond (ltb (open_services after) (open_services before)) (served_in before latest) Nothing
 
 -- the source taken last, after a call; a step with one of bits 5 to 7 set is refused and takes none, and in a list with
 -- its runs as steps there is no run
-abbrev pub latestAfter : Call → Machine → (latest : Source) → Source
-latestAfter (step request) m latest =
-    cond (namesOnlySources request)
-    (latestOf latest (requestedOf m.control.mode (enabledOf m.bytes) request)) latest
-latestAfter (run requests n) m latest = latest
-latestAfter (store address value) m latest = latest
-latestAfter reset m latest = latest
+abbrev pub latest_after : Call → Machine → (latest : Source) → Source
+latest_after (step request) m latest =
+    cond (names_only_sources request)
+    (latest_of latest (requested_of m.control.mode (enabled_of m.bytes) request)) latest
+latest_after (run requests n) m latest = latest
+latest_after (store address value) m latest = latest
+latest_after reset m latest = latest
 
 -- after a list of calls, each of which "gets the machine as the one before left it"
-abbrev pub latestAfterAll : (image : List ℕ) → List Call → Machine → (latest : Source) → Source
-latestAfterAll image [] m latest = latest
-latestAfterAll image (c ∷ calls) m latest = latestAfterAll image calls (leaves image c m) (latestAfter c m latest)
+abbrev pub latest_after_all : (image : List ℕ) → List Call → Machine → (latest : Source) → Source
+latest_after_all image [] m latest = latest
+latest_after_all image (c ∷ calls) m latest = latest_after_all image calls (leaves image c m) (latest_after c m latest)
 
 -- Of an accepted image and a list of calls as in demand 3, whatever source the list is begun with.
 -- proved by end-told, proofs/ServiceEnds
 pub record EndTold : Type 0 where
   -- of "the RETI that ends its service" the request of that service is told
   pub named :
-      (image certificate : List ℕ) (wired number : ℕ) → checkOf image certificate wired ≡ accepted number
+      (image certificate : List ℕ) (wired number : ℕ) → check_of image certificate wired ≡ accepted number
       → (m : Machine) (calls : List Call) → AllAskOnly wired calls
-      → (s : InService image (resetOf m) (unrolled calls)) (request : ℕ) → NextStep s request → EndsService s request
+      → (s : InService image (reset_of m) (unrolled calls)) (request : ℕ) → NextStep s request → EndsService s request
       → (begun : Source)
-      → ended_of (current s).control.mode (afterStep s request).control.mode
-      (latestAfterAll image (s.before ++ (step s.request ∷ s.since)) (resetOf m) begun)
+      → ended_of (current s).control.mode (after_step s request).control.mode
+      (latest_after_all image (s.before ++ (step s.request ∷ s.since)) (reset_of m) begun)
       ≡ Taken s.source
   -- and a step of which a request is told executes a RETI
   pub only :
-      (image certificate : List ℕ) (wired number : ℕ) → checkOf image certificate wired ≡ accepted number
+      (image certificate : List ℕ) (wired number : ℕ) → check_of image certificate wired ≡ accepted number
       → (m : Machine) (calls : List Call) → AllAskOnly wired calls
       → (before more : List Call) (request : ℕ) → unrolled calls ≡ before ++ (step request ∷ more)
       → (latest source : Source)
-      → ended_of (leavesAll image before (resetOf m)).control.mode
-      (leaves image (step request) (leavesAll image before (resetOf m))).control.mode latest
+      → ended_of (leaves_all image before (reset_of m)).control.mode
+      (leaves image (step request) (leaves_all image before (reset_of m))).control.mode latest
       ≡ Taken source
-      → RetiIn image (leavesAll image before (resetOf m)).control.mode (leavesAll image before (resetOf m)) request
+      → RetiIn image (leaves_all image before (reset_of m)).control.mode (leaves_all image before (reset_of m)) request

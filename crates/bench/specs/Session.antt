@@ -2,24 +2,24 @@
 -- document 01, "The certificate", last paragraph). The claim is `NeverStops`, at the end.
 use Rattle.std.specs.Prelude.{ℕ, ◌≤◌, ◌<◌, ◌≡◌, ◌⊎◌, List, [], ◌∷◌, length, get_or}
 use Rattle.isa.specs.Refusals.{plain, done, refused}
-use Rattle.control.specs.Stack.{inUse}
+use Rattle.control.specs.Stack.{in_use}
 use Rattle.machine.specs.declared.Machine.{Machine}
 use Rattle.machine.specs.State as state
-use Rattle.machine.specs.State.{HostStore, hostStoreOf, resetOf}
+use Rattle.machine.specs.State.{HostStore, host_store_of, reset_of}
 use Rattle.machine.specs.Step as stepping
 use Rattle.machine.specs.Step.{Step, step_of}
 use Rattle.machine.specs.Run.{Run, steps_of, run_of}
-use Rattle.certificate.specs.Check.{checkOf, accepted}
+use Rattle.certificate.specs.Check.{check_of, accepted}
 use Rattle.bench.specs.Calls.{Call, step, run, store, reset, leaves, AllAskOnly}
 
 -- "the return addresses on the stack", the top first
-abbrev pub returnAddresses : Machine → List ℕ
-returnAddresses m = inUse m.control.levels m.stack
+abbrev pub return_addresses : Machine → List ℕ
+return_addresses m = in_use m.control.levels m.stack
 
 -- "Levels in use are the return addresses on the stack"; that they are "the pushes since the last reset less the pops"
 -- is `Balanced`
-unfoldable pub levelsInUse : Machine → ℕ
-levelsInUse m = length (returnAddresses m)
+unfoldable pub levels_in_use : Machine → ℕ
+levels_in_use m = length (return_addresses m)
 
 -- a step is refused with a number: "a refused call leaves the machine as it was"
 pub record StepRefusedWith (m : Machine) (number : ℕ) (s : Step) : Type 0 where
@@ -35,7 +35,7 @@ pub record StepDone (s : Step) : Type 0 where
 pub record RunRefusedWith (m : Machine) (number : ℕ) (r : Run) : Type 0 where
   pub refusal : r.report.ending ≡ refused (plain number)
   pub no_steps : r.report.steps ≡ 0
-  pub no-cycles : r.report.cycles ≡ 0
+  pub no_cycles : r.report.cycles ≡ 0
   pub same : r.machine ≡ m
 
 -- a run that is not refused
@@ -48,7 +48,7 @@ pub record RunDone (image : List ℕ) (number : ℕ) (requests : List ℕ) (m : 
   -- "no step ever stops, alone or in a run"
   pub each : (j : ℕ) → j < n → StepDone (step_of image (steps_of image requests m j).machine (get_or requests j 0))
   -- "after every step of a run, the levels in use are at most that number"
-  pub within : (j : ℕ) → j ≤ n → levelsInUse (steps_of image requests m j).machine ≤ number
+  pub within : (j : ℕ) → j ≤ n → levels_in_use (steps_of image requests m j).machine ≤ number
 
 -- a host store is refused with a number, and leaves the machine as it was
 pub record StoreRefusedWith (m : Machine) (number : ℕ) (s : HostStore) : Type 0 where
@@ -67,21 +67,21 @@ Keeps image number (run requests n) m =
     (RunRefusedWith m 12 (run_of image m requests n) ⊎ RunRefusedWith m 11 (run_of image m requests n))
     ⊎ RunDone image number requests m n (run_of image m requests n)
 Keeps image number (store address value) m =
-    StoreRefusedWith m 10 (hostStoreOf m address value) ⊎ StoreDone (hostStoreOf m address value)
+    StoreRefusedWith m 10 (host_store_of m address value) ⊎ StoreDone (host_store_of m address value)
 Keeps image number reset m = Unit {0}
 
 -- every call of the list keeps the promise, on the machine as the one before left it; "after every call [..] the levels
 -- in use are at most that number"
 abbrev pub AllKeep : (image : List ℕ) → (number : ℕ) → List Call → Machine → Type 0
-AllKeep image number [] m = levelsInUse m ≤ number
+AllKeep image number [] m = levels_in_use m ≤ number
 AllKeep image number (c ∷ calls) m =
-    (levelsInUse m ≤ number) × Keeps image number c m × AllKeep image number calls (leaves image c m)
+    (levels_in_use m ≤ number) × Keeps image number c m × AllKeep image number calls (leaves image c m)
 
 -- what is promised of an image with wired sources and a number of levels, "which is at most six": "It starts from any
 -- machine just reset", "an ill-formed one too"
 abbrev pub Promised : (image : List ℕ) → (wired number : ℕ) → Type 0
 Promised image wired number =
-    (number ≤ 6) × ((m : Machine) (calls : List Call) → AllAskOnly wired calls → AllKeep image number calls (resetOf m))
+    (number ≤ 6) × ((m : Machine) (calls : List Call) → AllAskOnly wired calls → AllKeep image number calls (reset_of m))
 
 -- DEMAND 3. "Let an unpaged image, a set of wired interrupt sources and a certificate be accepted with some number of
 -- levels", and a paged one as well: "demand 3 then holds for them too, under any bank changes" (document 02, W-210).
@@ -90,5 +90,5 @@ Promised image wired number =
 -- proved by never-stops, proofs/Session
 abbrev pub NeverStops : Type 0
 NeverStops =
-    (image certificate : List ℕ) (wired number : ℕ) → checkOf image certificate wired ≡ accepted number
+    (image certificate : List ℕ) (wired number : ℕ) → check_of image certificate wired ≡ accepted number
     → Promised image wired number

@@ -2,11 +2,11 @@
 // of its answer. So the machine that a key leaves, with what it returns, is what the operation on values answers, also
 // where it refuses.
 ghost use Rattle.std.specs.Prelude.{◌≡◌};
-ghost use Rattle.machine.specs.State.{resetOf, ended_of, hostStoreOf};
-ghost use Rattle.machine.specs.Actions.{actionAs};
-ghost use Rattle.machine.specs.Step.{answer_of, actionOf, step_of};
-ghost use Rattle.machine.specs.Run.{reportOf, run_of};
-ghost use Rattle.machine.specs.Operands.{stepReadOf};
+ghost use Rattle.machine.specs.State.{reset_of, ended_of, host_store_of};
+ghost use Rattle.machine.specs.Actions.{action_as};
+ghost use Rattle.machine.specs.Step.{answer_of, action_of, step_of};
+ghost use Rattle.machine.specs.Run.{report_of, run_of};
+ghost use Rattle.machine.specs.Operands.{step_read_of};
 
 use machine::run::run;
 use machine::state::{host_store, reset};
@@ -16,8 +16,8 @@ use machine::{Ending, Machine, Report, StepReport};
 pub fn key_step(m: &mut Machine, image: &[u8], request: u8) -> StepReport
     ensures { (record { machine = m.new; answer = answer_of result.answer }
         ≡ step_of image.now m.old request)
-        × (result.read ≡ stepReadOf image.now m.old request)
-        × (actionAs result.action ≡ actionOf image.now m.old request) }
+        × (result.read ≡ step_read_of image.now m.old request)
+        × (action_as result.action ≡ action_of image.now m.old request) }
 {
     let after = step(image, *m, request);
     *m = after.machine;
@@ -25,7 +25,7 @@ pub fn key_step(m: &mut Machine, image: &[u8], request: u8) -> StepReport
 }
 
 pub fn key_run(m: &mut Machine, image: &[u8], requests: &[u8], n: u32) -> Report
-    ensures { record { machine = m.new; report = reportOf result }
+    ensures { record { machine = m.new; report = report_of result }
         ≡ run_of image.now m.old requests.now n }
 {
     let after = run(image, *m, requests, n);
@@ -34,14 +34,14 @@ pub fn key_run(m: &mut Machine, image: &[u8], requests: &[u8], n: u32) -> Report
 }
 
 pub fn key_reset(m: &mut Machine)
-    ensures { m.new ≡ resetOf m.old }
+    ensures { m.new ≡ reset_of m.old }
 {
     *m = reset(*m);
 }
 
 pub fn key_store(m: &mut Machine, address: u8, value: u8) -> Ending
     ensures { record { machine = m.new; ending = ended_of result }
-        ≡ hostStoreOf m.old address value }
+        ≡ host_store_of m.old address value }
 {
     let after = host_store(*m, address, value);
     *m = after.machine;

@@ -1,7 +1,7 @@
 // Keys pressed in turn: the bench holds one machine, and lends it to one key after the other.
 ghost use Rattle.std.specs.Prelude.{◌≡◌};
-ghost use Rattle.machine.specs.State.{resetOf, hostStoreOf};
-ghost use Rattle.machine.specs.Run.{ranOf, run_of};
+ghost use Rattle.machine.specs.State.{reset_of, host_store_of};
+ghost use Rattle.machine.specs.Run.{ran_of, run_of};
 
 use crate::keys::{key_reset, key_run, key_store};
 use machine::{Machine, Ran};
@@ -15,8 +15,8 @@ pub fn reset_store_run(
     requests: &[u8],
     n: u32,
 ) -> Ran
-    ensures { ranOf result
-        ≡ run_of image.now (hostStoreOf (resetOf m) address value).machine requests.now n }
+    ensures { ran_of result
+        ≡ run_of image.now (host_store_of (reset_of m) address value).machine requests.now n }
 {
     let mut held = m;
     key_reset(&mut held);

@@ -1,13 +1,13 @@
 // Which request's service a step ends, by the modes before and after it: what a trace says of a RETI
 // (specs/ServiceEnds.antt).
 ghost use Rattle.std.specs.Prelude.{◌≡◌};
-ghost use Rattle.bench.specs.ServiceEnds.{openServices, latestOf, servedIn, ended_of};
+ghost use Rattle.bench.specs.ServiceEnds.{open_services, latest_of, served_in, ended_of};
 
 use control::{Mode, Requested};
 use isa::Source;
 
 fn open_services(mode: Mode) -> u8
-    ensures { result ≡ openServices mode }
+    ensures { result ≡ open_services mode }
 {
     match mode {
         Mode::Reset => 0,
@@ -19,7 +19,7 @@ fn open_services(mode: Mode) -> u8
 }
 
 fn served_in(mode: Mode, latest: Source) -> Requested
-    ensures { result ≡ servedIn mode latest }
+    ensures { result ≡ served_in mode latest }
 {
     match mode {
         Mode::Reset => return Requested::Nothing,
@@ -32,7 +32,7 @@ fn served_in(mode: Mode, latest: Source) -> Requested
 
 // Of the sources 1 to 4 the one taken last, where a step takes a request or none.
 pub fn latest_source(latest: Source, requested: Requested) -> Source
-    ensures { result ≡ latestOf latest requested }
+    ensures { result ≡ latest_of latest requested }
 {
     let Requested::Taken(source) = requested else {
         return latest;

@@ -3,10 +3,10 @@ use Rattle.std.specs.Prelude.{ℕ, ◌≡◌, Bool, true, false, List, [], ◌�
 use Rattle.isa.specs.Refusals.{done}
 use Rattle.isa.specs.Cases.{placed}
 use Rattle.control.specs.declared.Mode.TheVariants.{Normal}
-use Rattle.control.specs.Stack.{inUse}
+use Rattle.control.specs.Stack.{in_use}
 use Rattle.machine.specs.declared.Machine.{Machine}
 use Rattle.machine.specs.Pairs.{pair_of}
-use Rattle.machine.specs.State.{machine_of, clearedFlags}
+use Rattle.machine.specs.State.{machine_of, cleared_flags}
 use Rattle.machine.specs.Step.{Step, step_of}
 use Rattle.certificate.specs.Cases.{P11, P12}
 
@@ -18,7 +18,7 @@ holding a cell value = set (set (replicate 256 0) 0xFF a) cell value
 abbrev pub ready : (pc : ℕ) → (bytes : List ℕ) → (zero carry : Bool) → Machine
 ready pc bytes zero carry =
     machine_of (record { pc = pc; levels = 0; mode = Normal; asleep = false }) (replicate 6 0)
-    (record { normal = record { zero = zero; carry = carry }; interrupt = clearedFlags; nmi = clearedFlags }) bytes
+    (record { normal = record { zero = zero; carry = carry }; interrupt = cleared_flags; nmi = cleared_flags }) bytes
 
 -- one step, without a request, of a program that has the bytes at an address. Where the instruction sets a flag, the
 -- cases start from
@@ -35,7 +35,7 @@ pub record Leaves (s : Step) (cell value : ℕ) (zero carry : Bool) (cycles : �
 -- where it goes, with these return addresses on the stack, and its cycles: a step that is refused goes nowhere
 pub record Reaches (s : Step) (pc : ℕ) (addresses : List ℕ) (cycles : ℕ) : Type 0 where
   pub there : s.machine.control.pc ≡ pc
-  pub stack : inUse s.machine.control.levels s.machine.stack ≡ addresses
+  pub stack : in_use s.machine.control.levels s.machine.stack ≡ addresses
   pub answer : s.answer ≡ done cycles
 
 -- "P4 CP of 10h with 11h: C 1; with 10h: C 0."

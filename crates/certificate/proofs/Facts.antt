@@ -9,65 +9,65 @@ use mathlib.Core.List.{List}
 use lib.Dec.{ltb, leb, eqb}
 use lib.ListN.{length, get_or}
 use Rattle.isa.specs.Decode as decode
-use Rattle.isa.specs.Decode.{Decoding, decodeAt}
-use Rattle.isa.specs.FlowAt as flowAt
-use Rattle.isa.specs.FlowAt.{Continuing, continuationFrom}
+use Rattle.isa.specs.Decode.{Decoding, decode_at}
+use Rattle.isa.specs.FlowAt as flow_at
+use Rattle.isa.specs.FlowAt.{Continuing, continuation_from}
 use Rattle.isa.specs.Refusals.{Numbered, located, Answer, done, refused, unless}
-use Rattle.certificate.specs.Marks.{markAt, WellFormed, kind_of, kind_at, needAt, lowest}
-use Rattle.certificate.specs.Successors.{hasKind, coversMark, covers}
+use Rattle.certificate.specs.Marks.{mark_at, WellFormed, kind_of, kind_at, need_at, lowest}
+use Rattle.certificate.specs.Successors.{has_kind, covers_mark, covers}
 use Rattle.certificate.specs.declared.successors.Successor.{Successor}
 use Rattle.certificate.specs.Findings.{Found, passes, fault, and_then}
-use Rattle.certificate.specs.Check.{flowFound, decodedFound, pagesFound, markFound, marksIn}
-use Rattle.certificate.specs.Passes.{pageFound}
+use Rattle.certificate.specs.Check.{flow_found, decoded_found, pages_found, mark_found, marks_in}
+use Rattle.certificate.specs.Passes.{page_found}
 
 -- a marked address: 14, then what decoding answers
 pub marked : (image certificate : List ℕ) (pages a mark : ℕ) → mark ≢ 0
-    → markFound image certificate pages a mark
-    ≡ unless (ltb 0 (kind_of mark)) (fault (located 14 a)) (pagesFound image certificate a mark pages)
-unfolding markFound
+    → mark_found image certificate pages a mark
+    ≡ unless (ltb 0 (kind_of mark)) (fault (located 14 a)) (pages_found image certificate a mark pages)
+unfolding mark_found
 marked image certificate pages a zero n = absurd (n refl)
 marked image certificate pages a (suc m) n = refl
 
 -- .. with one page
-pub marked-page : (program certificate : List ℕ) (a mark : ℕ) → mark ≢ 0
-    → pageFound program certificate a mark
-    ≡ unless (ltb 0 (kind_of mark)) (fault (located 14 a)) (decodedFound certificate a mark (decodeAt program a))
-unfolding pageFound
-marked-page program certificate a zero n = absurd (n refl)
-marked-page program certificate a (suc m) n = refl
+pub marked_page : (program certificate : List ℕ) (a mark : ℕ) → mark ≢ 0
+    → page_found program certificate a mark
+    ≡ unless (ltb 0 (kind_of mark)) (fault (located 14 a)) (decoded_found certificate a mark (decode_at program a))
+unfolding page_found
+marked_page program certificate a zero n = absurd (n refl)
+marked_page program certificate a (suc m) n = refl
 
 -- what decoding answers is found by where its instruction continues alone
-abbrev pub continuationFound : List ℕ → (a mark : ℕ) → Answer Continuing → Found
-continuationFound certificate a mark (done (flowAt.goes f next)) = flowFound certificate a mark f next
-continuationFound certificate a mark (refused refusal) = fault refusal
+abbrev pub continuation_found : List ℕ → (a mark : ℕ) → Answer Continuing → Found
+continuation_found certificate a mark (done (flow_at.goes f next)) = flow_found certificate a mark f next
+continuation_found certificate a mark (refused refusal) = fault refusal
 
-pub by-continuation : (certificate : List ℕ) (a mark : ℕ) (answer : Answer Decoding)
-    → decodedFound certificate a mark answer ≡ continuationFound certificate a mark (continuationFrom a answer)
-unfolding decodedFound
-by-continuation certificate a mark (done (decode.instruction i bytes cycles)) = refl
-by-continuation certificate a mark (refused refusal) = refl
+pub by_continuation : (certificate : List ℕ) (a mark : ℕ) (answer : Answer Decoding)
+    → decoded_found certificate a mark answer ≡ continuation_found certificate a mark (continuation_from a answer)
+unfolding decoded_found
+by_continuation certificate a mark (done (decode.instruction i bytes cycles)) = refl
+by_continuation certificate a mark (refused refusal) = refl
 
 -- a finding does not both pass and fail
-pub not-both : {r : Numbered} → fault r ≡ passes → ⊥
-not-both e = let z : ◌≡◌ {A = ℕ} 0 1 = cc in omega arith
+pub not_both : {r : Numbered} → fault r ≡ passes → ⊥
+not_both e = let z : ◌≡◌ {A = ℕ} 0 1 = cc in omega arith
 
 -- a test that passes
-pub unless-passes : (t : Bool) (r : Numbered) (more : Found) → unless t (fault r) more ≡ passes
+pub unless_passes : (t : Bool) (r : Numbered) (more : Found) → unless t (fault r) more ≡ passes
     → (t ≡ true) × (more ≡ passes)
-unless-passes true r more e = (refl, e)
-unless-passes false r more e = absurd (not-both e)
+unless_passes true r more e = (refl, e)
+unless_passes false r more e = absurd (not_both e)
 
 -- two parts that pass
-pub both-pass : (f g : Found) → and_then f g ≡ passes → (f ≡ passes) × (g ≡ passes)
-both-pass passes g e = (refl, e)
-both-pass (fault r) g e = absurd (not-both e)
+pub both_pass : (f g : Found) → and_then f g ≡ passes → (f ≡ passes) × (g ≡ passes)
+both_pass passes g e = (refl, e)
+both_pass (fault r) g e = absurd (not_both e)
 
 pub positive : {k : ℕ} → k ≢ 0 → 0 < k
 positive n = omega arith
 
 -- a mark has a kind exactly when it is well formed, and that is its high digit
-pub well-formed : (mark : ℕ) → 1 ≤ kind_of mark → WellFormed mark
-well-formed mark h = go (leb (mark / 16) 4) (leb (mark % 16) 6) refl refl h
+pub well_formed_lem : (mark : ℕ) → 1 ≤ kind_of mark → WellFormed mark
+well_formed_lem mark h = go (leb (mark / 16) 4) (leb (mark % 16) 6) refl refl h
   where
     go : (s t : Bool) → leb (mark / 16) 4 ≡ s → leb (mark % 16) 6 ≡ t → 1 ≤ cond (s && t) (mark / 16) 0
         → WellFormed mark
@@ -75,37 +75,37 @@ well-formed mark h = go (leb (mark / 16) 4) (leb (mark % 16) 6) refl refl h
     go true false p q h = absurd (omega arith)
     go false t p q h = absurd (omega arith)
 
-pub kind-of : (mark : ℕ) → WellFormed mark → kind_of mark ≡ mark / 16
-kind-of mark w = rw (le-leb _ _ w.kind-most, le-leb _ _ w.need-most)
+pub kind_of_lem : (mark : ℕ) → WellFormed mark → kind_of mark ≡ mark / 16
+kind_of_lem mark w = rw (le-leb _ _ w.kind-most, le-leb _ _ w.need-most)
 
 -- the mark of the i-th ROM byte
-pub mark-is : (certificate : List ℕ) (i : ℕ) → length certificate ≤ 4096 → i < length certificate
-    → markAt certificate (lowest certificate + i) ≡ get_or certificate i 0
-unfolding markAt
-mark-is certificate i fits h =
+pub mark_is : (certificate : List ℕ) (i : ℕ) → length certificate ≤ 4096 → i < length certificate
+    → mark_at certificate (lowest certificate + i) ≡ get_or certificate i 0
+unfolding mark_at
+mark_is certificate i fits h =
     let below : lowest certificate + i < 4096 = omega arith in
     let above : 4096 ≤ lowest certificate + i + length certificate = omega arith in
     let back : lowest certificate + i + length certificate - 4096 ≡ i = omega arith in
     rw (lt-ltb _ _ below, le-leb _ _ above, back)
 
 -- a certificate's length
-pub at-most-4096 : (n : ℕ) → marksIn n ≤ 4096
-at-most-4096 n = by-test (eqb n 2048)
+pub at_most_4096 : (n : ℕ) → marks_in n ≤ 4096
+at_most_4096 n = by_test (eqb n 2048)
   where
-    by-test : (b : Bool) → cond b 2048 4096 ≤ 4096
-    by-test true = omega arith
-    by-test false = omega arith
+    by_test : (b : Bool) → cond b 2048 4096 ≤ 4096
+    by_test true = omega arith
+    by_test false = omega arith
 
 -- the tests of a successor, by its mark
-module _ (certificate : List ℕ) (s : Successor) {mark : ℕ} (at : mark ≡ markAt certificate s.address) where
-  pub right-kind : {kind : ℕ} → kind ≡ kind_of mark → kind ≡ s.kind → hasKind certificate s ≡ true
+module _ (certificate : List ℕ) (s : Successor) {mark : ℕ} (at : mark ≡ mark_at certificate s.address) where
+  pub right_kind : {kind : ℕ} → kind ≡ kind_of mark → kind ≡ s.kind → has_kind certificate s ≡ true
   unfolding kind_at
-  right-kind e k = rw (← at, ← e) (eq-eqb _ _ k)
+  right_kind e k = rw (← at, ← e) (eq-eqb _ _ k)
 
-  pub wrong-kind : {kind : ℕ} → kind ≡ kind_of mark → kind ≢ s.kind → hasKind certificate s ≡ false
+  pub wrong_kind : {kind : ℕ} → kind ≡ kind_of mark → kind ≢ s.kind → has_kind certificate s ≡ false
   unfolding kind_at
-  wrong-kind e k = rw (← at, ← e) (ne_eqb _ _ k)
+  wrong_kind e k = rw (← at, ← e) (ne_eqb _ _ k)
 
-  pub covered : (need : ℕ) {r : Bool} → r ≡ coversMark need mark s.levels → covers certificate need s ≡ r
-  unfolding needAt
+  pub covered : (need : ℕ) {r : Bool} → r ≡ covers_mark need mark s.levels → covers certificate need s ≡ r
+  unfolding need_at
   covered need e = rw (← at) (sym e)

@@ -4,31 +4,31 @@ use mathlib.Core.Path.{◌≡◌, refl}
 use mathlib.Core.Bool.{true}
 use mathlib.Core.List.{List, [], ◌∷◌}
 use lib.ListN.{length}
-use Rattle.isa.specs.Rom.{isSpace, spacesIn}
-use Rattle.isa.proofs.Halves.{by_length, space-image, space-is-image}
-use Rattle.certificate.specs.Check.{pagesFound, markFound, marksFound, marksIn, checkOf}
-use Rattle.certificate.specs.Passes.{pageFound}
-use Rattle.certificate.specs.OnePage.{marksUnpaged, checkUnpaged, CheckAsBefore}
+use Rattle.isa.specs.Rom.{is_space, spaces_in}
+use Rattle.isa.proofs.Halves.{by_length, space_image, space_is_image}
+use Rattle.certificate.specs.Check.{pages_found, mark_found, marks_found, marks_in, check_of}
+use Rattle.certificate.specs.Passes.{page_found}
+use Rattle.certificate.specs.OnePage.{marks_unpaged, check_unpaged, CheckAsBefore}
 
-module _ (image : List ℕ) (is : isSpace (length image) ≡ true) where
-  pub one-space : spacesIn (length image) ≡ 1
-  one-space = by_length (λ n. spacesIn n ≡ 1) refl refl (length image) is
+module _ (image : List ℕ) (is : is_space (length image) ≡ true) where
+  pub one_space : spaces_in (length image) ≡ 1
+  one_space = by_length (λ n. spaces_in n ≡ 1) refl refl (length image) is
 
-  pub a-mark-each : marksIn (length image) ≡ length image
-  a-mark-each = by_length (λ n. marksIn n ≡ n) refl refl (length image) is
+  pub a_mark_each : marks_in (length image) ≡ length image
+  a_mark_each = by_length (λ n. marks_in n ≡ n) refl refl (length image) is
 
-  mark-is : (certificate : List ℕ) (a mark : ℕ) → markFound image certificate 1 a mark ≡ pageFound image certificate a mark
-  unfolding markFound pageFound pagesFound
-  mark-is certificate a zero = refl
-  mark-is certificate a (suc m) = rw (space-is-image image 0 is)
+  mark_is : (certificate : List ℕ) (a mark : ℕ) → mark_found image certificate 1 a mark ≡ page_found image certificate a mark
+  unfolding mark_found page_found pages_found
+  mark_is certificate a zero = refl
+  mark_is certificate a (suc m) = rw (space_is_image image 0 is)
 
-  marks-are : (certificate : List ℕ) (a : ℕ) (marks : List ℕ)
-      → marksFound image certificate 1 a marks ≡ marksUnpaged image certificate a marks
-  unfolding marksFound marksUnpaged
-  marks-are certificate a [] = refl
-  marks-are certificate a (m ∷ marks) = rw (mark-is certificate a m, marks-are certificate (suc a) marks)
+  marks_are : (certificate : List ℕ) (a : ℕ) (marks : List ℕ)
+      → marks_found image certificate 1 a marks ≡ marks_unpaged image certificate a marks
+  unfolding marks_found marks_unpaged
+  marks_are certificate a [] = refl
+  marks_are certificate a (m ∷ marks) = rw (mark_is certificate a m, marks_are certificate (suc a) marks)
 
-pub check-as-before : CheckAsBefore
-unfolding checkOf checkUnpaged
-check-as-before image is certificate wired =
-    rw (space-image image is, is, a-mark-each image is, one-space image is, marks-are image is certificate _ certificate)
+pub check_as_before : CheckAsBefore
+unfolding check_of check_unpaged
+check_as_before image is certificate wired =
+    rw (space_image image is, is, a_mark_each image is, one_space image is, marks_are image is certificate _ certificate)

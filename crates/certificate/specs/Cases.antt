@@ -2,7 +2,7 @@
 use Rattle.std.specs.Prelude.{ℕ, ◌-◌, ◌≡◌, List, [], ◌∷◌, replicate}
 use Rattle.std.proofs.lemmas.List.Edits.{sets}
 use Rattle.isa.specs.Refusals.{plain, located, refused}
-use Rattle.certificate.specs.Check.{accepted, checkOf}
+use Rattle.certificate.specs.Check.{accepted, check_of}
 
 -- a 2K image or certificate of 00h
 abbrev pub blank : List ℕ
@@ -33,20 +33,20 @@ certificate11 =
 -- "wired 01h: .. `accepted 2`"
 -- proved by check-cases, proofs/Cases
 abbrev pub P11 : Type 0
-P11 = checkOf image11 certificate11 0x01 ≡ accepted 2
+P11 = check_of image11 certificate11 0x01 ≡ accepted 2
 
 -- "the same with 20h at 883h .. `refused 17 883`"
 -- proved by check-cases, proofs/Cases
 abbrev pub P12 : Type 0
-P12 = checkOf image11 (put 0x883 (0x20 ∷ []) certificate11) 0x01 ≡ refused (located 17 0x883)
+P12 = check_of image11 (put 0x883 (0x20 ∷ []) certificate11) 0x01 ≡ refused (located 17 0x883)
 
 -- start-up code that jumps to itself, and RETI at the vectors of NMI and source 1
 abbrev services : List ℕ
 services = put 0xFFE (0xE9 ∷ 0xFF ∷ []) (put 0xFFC (0x4D ∷ []) (put 0xFF6 (0x4D ∷ []) blank))
 
 -- its certificate, with a mark at FFEh
-abbrev startingWith : (mark : ℕ) → List ℕ
-startingWith mark = put 0xFFE (mark ∷ []) (put 0xFFC (0x30 ∷ []) (put 0xFF6 (0x30 ∷ []) blank))
+abbrev starting_with : (mark : ℕ) → List ℕ
+starting_with mark = put 0xFFE (mark ∷ []) (put 0xFFC (0x30 ∷ []) (put 0xFF6 (0x30 ∷ []) blank))
 
 -- the check's cases in one table
 -- proved by check-cases, proofs/Cases
@@ -54,13 +54,13 @@ pub record CheckCases : Type 0 where
   pub p11 : P11
   pub p12 : P12
   -- "Start-up need 6, nothing wired: accepted"
-  pub need-six : checkOf services (startingWith 0x16) 0x00 ≡ accepted 6
+  pub need_six : check_of services (starting_with 0x16) 0x00 ≡ accepted 6
   -- "need 4 with NMI and one source of need 0: 6"
-  pub need-four : checkOf services (startingWith 0x14) 0x03 ≡ accepted 6
+  pub need_four : check_of services (starting_with 0x14) 0x03 ≡ accepted 6
   -- "need 5: refusal 19"
-  pub need-five : checkOf services (startingWith 0x15) 0x03 ≡ refused (plain 19)
+  pub need_five : check_of services (starting_with 0x15) 0x03 ≡ refused (plain 19)
   -- "Images of 2047 and 2049 bytes: 1."
-  pub bytes-2047 : checkOf (replicate 2047 0x00) (replicate 2047 0x00) 0x00 ≡ refused (plain 1)
-  pub bytes-2049 : checkOf (replicate 2049 0x00) (replicate 2049 0x00) 0x00 ≡ refused (plain 1)
+  pub bytes_2047 : check_of (replicate 2047 0x00) (replicate 2047 0x00) 0x00 ≡ refused (plain 1)
+  pub bytes_2049 : check_of (replicate 2049 0x00) (replicate 2049 0x00) 0x00 ≡ refused (plain 1)
   -- "A 2K image marked only at FFFh, opcode 09h there: 4."
-  pub cut : checkOf (put 0xFFF (0x09 ∷ []) blank) (put 0xFFF (0x10 ∷ []) blank) 0x00 ≡ refused (located 4 0xFFF)
+  pub cut : check_of (put 0xFFF (0x09 ∷ []) blank) (put 0xFFF (0x10 ∷ []) blank) 0x00 ≡ refused (located 4 0xFFF)

@@ -6,20 +6,20 @@ abbrev pub lowest : (certificate : List ℕ) → ℕ
 lowest certificate = 4096 - length certificate
 
 -- "One mark for each ROM byte, lowest address first.": the last one is that of FFFh, and outside ROM there is none
-unfoldable pub markAt : (certificate : List ℕ) → (address : ℕ) → ℕ
-markAt certificate a =
+unfoldable pub mark_at : (certificate : List ℕ) → (address : ℕ) → ℕ
+mark_at certificate a =
     cond (ltb a 4096 && leb 4096 (a + length certificate)) (get_or certificate (a + length certificate - 4096) 0x00) 0x00
 
 -- "An address is marked when its mark isn't 00h."
 abbrev pub Marked : (certificate : List ℕ) → (address : ℕ) → Type 0
-Marked certificate a = markAt certificate a ≢ 0x00
+Marked certificate a = mark_at certificate a ≢ 0x00
 
 -- "High digit, the kind: 0 unmarked (low digit 0 too), 1 start-up, 2 main, 3 service, 4 subroutine. Low digit, the
 -- need: 0 to 6 further levels."
 pub record WellFormed (mark : ℕ) : Type 0 where
-  pub kind-least : 1 ≤ mark / 16
-  pub kind-most : mark / 16 ≤ 4
-  pub need-most : mark % 16 ≤ 6
+  pub kind_least : 1 ≤ mark / 16
+  pub kind_most : mark / 16 ≤ 4
+  pub need_most : mark % 16 ≤ 6
 
 -- "High digit, the kind", and 0 for a mark that is none or malformed: "outside ROM, unmarked or of wrong kind,
 -- malformed marks counting so" is then one test, that the kind is another
@@ -32,8 +32,8 @@ need_of mark = mark % 16
 
 -- the kind of an address
 unfoldable pub kind_at : (certificate : List ℕ) → (address : ℕ) → ℕ
-kind_at certificate a = kind_of (markAt certificate a)
+kind_at certificate a = kind_of (mark_at certificate a)
 
 -- the need of an address
-unfoldable pub needAt : (certificate : List ℕ) → (address : ℕ) → ℕ
-needAt certificate a = need_of (markAt certificate a)
+unfoldable pub need_at : (certificate : List ℕ) → (address : ℕ) → ℕ
+need_at certificate a = need_of (mark_at certificate a)

@@ -7,7 +7,7 @@ use Rattle.certificate.specs.declared.successors.Successor.{Successor}
 use Rattle.certificate.specs.declared.successors.Successors.{Successors}
 use Rattle.certificate.specs.declared.successors.Successors.TheVariants.{None, One, Two}
 use Rattle.certificate.specs.Findings.{Found, passes, fault}
-use Rattle.certificate.specs.Marks.{need_of, kind_at, needAt}
+use Rattle.certificate.specs.Marks.{need_of, kind_at, need_at}
 
 -- "RET stands only in kind 4, RETI only in 1 and 3"
 unfoldable pub placed : (kind : ℕ) → Flow → Bool
@@ -20,24 +20,24 @@ placed kind flow.ReturnFromInterrupt = eqb kind 1 || eqb kind 3
 placed kind flow.Sleep = true
 
 -- "has the same kind", or in start-up code's RETI "of kind 2": a successor that must have a kind, and takes no level
-abbrev pub continuesAt : (address kind : ℕ) → Successor
-continuesAt a k = record { address = a; kind = k; levels = 0 }
+abbrev pub continues_at : (address kind : ℕ) → Successor
+continues_at a k = record { address = a; kind = k; levels = 0 }
 
 -- "the target has kind 4", and takes a level: "for CALL at least the target's plus 1"
-abbrev pub callTarget : (address : ℕ) → Successor
-callTarget a = record { address = a; kind = 4; levels = 1 }
+abbrev pub call_target : (address : ℕ) → Successor
+call_target a = record { address = a; kind = 4; levels = 1 }
 
 -- "each address where the instruction may continue, both ways of a condition, has the same kind. For CALL that is the
 -- address plus 2, and the target has kind 4.", "these have no successor, but RETI in kind 1 has the next address, of
 -- kind 2"
-unfoldable pub successorsOf : (kind : ℕ) → Flow → (next : ℕ) → List Successor
-successorsOf kind flow.Next next = continuesAt next kind ∷ []
-successorsOf kind (flow.Jump target) next = continuesAt target kind ∷ []
-successorsOf kind (flow.Branch condition target) next = continuesAt target kind ∷ continuesAt next kind ∷ []
-successorsOf kind (flow.Call target) next = callTarget target ∷ continuesAt next kind ∷ []
-successorsOf kind flow.Return next = []
-successorsOf kind flow.ReturnFromInterrupt next = cond (eqb kind 1) (continuesAt next 2 ∷ []) []
-successorsOf kind flow.Sleep next = continuesAt next kind ∷ []
+unfoldable pub successors_of : (kind : ℕ) → Flow → (next : ℕ) → List Successor
+successors_of kind flow.Next next = continues_at next kind ∷ []
+successors_of kind (flow.Jump target) next = continues_at target kind ∷ []
+successors_of kind (flow.Branch condition target) next = continues_at target kind ∷ continues_at next kind ∷ []
+successors_of kind (flow.Call target) next = call_target target ∷ continues_at next kind ∷ []
+successors_of kind flow.Return next = []
+successors_of kind flow.ReturnFromInterrupt next = cond (eqb kind 1) (continues_at next 2 ∷ []) []
+successors_of kind flow.Sleep next = continues_at next kind ∷ []
 
 -- the program's successors as a list
 abbrev pub listed : Successors → List Successor
@@ -51,27 +51,27 @@ every test [] = true
 every test (s ∷ successors) = test s && every test successors
 
 -- one has the kind that it must have
-abbrev pub hasKind : List ℕ → Successor → Bool
-hasKind certificate s = eqb (kind_at certificate s.address) s.kind
+abbrev pub has_kind : List ℕ → Successor → Bool
+has_kind certificate s = eqb (kind_at certificate s.address) s.kind
 
 -- none of them is "16 successor or CALL target outside ROM, unmarked or of wrong kind"
-unfoldable pub allHaveKind : List ℕ → List Successor → Bool
-allHaveKind certificate successors = every (hasKind certificate) successors
+unfoldable pub all_have_kind : List ℕ → List Successor → Bool
+all_have_kind certificate successors = every (has_kind certificate) successors
 
 -- a need is at least that of a mark, with the levels that going there takes
-abbrev pub coversMark : (need mark levels : ℕ) → Bool
-coversMark need mark levels = leb (need_of mark + levels) need
+abbrev pub covers_mark : (need mark levels : ℕ) → Bool
+covers_mark need mark levels = leb (need_of mark + levels) need
 
 -- a need is at least that of one successor
 abbrev pub covers : List ℕ → (need : ℕ) → Successor → Bool
-covers certificate need s = leb (needAt certificate s.address + s.levels) need
+covers certificate need s = leb (need_at certificate s.address + s.levels) need
 
 -- "The need is at least each successor's, and for CALL at least the target's plus 1."
-unfoldable pub coversAll : List ℕ → (need : ℕ) → List Successor → Bool
-coversAll certificate need successors = every (covers certificate need) successors
+unfoldable pub covers_all : List ℕ → (need : ℕ) → List Successor → Bool
+covers_all certificate need successors = every (covers certificate need) successors
 
 -- "16 successor or CALL target outside ROM, unmarked or of wrong kind, malformed marks counting so; 17 need too small"
-unfoldable pub successorsFound : List ℕ → (a need : ℕ) → List Successor → Found
-successorsFound certificate a need successors =
-    unless (allHaveKind certificate successors) (fault (located 16 a))
-    (unless (coversAll certificate need successors) (fault (located 17 a)) passes)
+unfoldable pub successors_found : List ℕ → (a need : ℕ) → List Successor → Found
+successors_found certificate a need successors =
+    unless (all_have_kind certificate successors) (fault (located 16 a))
+    (unless (covers_all certificate need successors) (fault (located 17 a)) passes)

@@ -1,13 +1,13 @@
 // The certificate check.
 ghost use Rattle.std.specs.Prelude.{◌≡◌, true, ◌++◌, ◌≤◌, ◌<◌, length};
 ghost use Rattle.isa.specs.Table.{Timings};
-ghost use Rattle.isa.specs.Rom.{isImage, Halves, spacesIn};
+ghost use Rattle.isa.specs.Rom.{is_image, Halves, spaces_in};
 ghost use Rattle.certificate.specs.Marks.{lowest};
 ghost use Rattle.certificate.specs.Findings.{found};
-ghost use Rattle.certificate.specs.Check.{flowFound, marksFound, rulesFound, marksIn};
-ghost use Rattle.certificate.specs.Check.{answered, verdict, checkOf};
-ghost use Rattle.certificate.specs.Levels.{levelsOf};
-ghost use Rattle.certificate.specs.Passes.{pageFound, Searched};
+ghost use Rattle.certificate.specs.Check.{flow_found, marks_found, rules_found, marks_in};
+ghost use Rattle.certificate.specs.Check.{answered, verdict, check_of};
+ghost use Rattle.certificate.specs.Levels.{levels_of};
+ghost use Rattle.certificate.specs.Passes.{page_found, Searched};
 
 use crate::findings::and_then;
 use crate::levels::levels_of;
@@ -23,7 +23,7 @@ use isa::{Continuation, Flow, Refusal};
 
 // 15, 16 and 17 at a marked address, with where its instruction continues.
 fn check_flow(certificate: &[u8], address: u16, mark: u8, flow: Flow, next: u16) -> Finding
-    ensures { found result ≡ flowFound certificate.now address mark flow next }
+    ensures { found result ≡ flow_found certificate.now address mark flow next }
 {
     let kind = kind_of(mark);
     if !is_placed(kind, flow) {
@@ -44,7 +44,7 @@ fn check_mark<'a>(
 ) -> Finding
     requires { Timings table.now × Halves page.now fixed.now × (address < 4096) }
     ensures { found result
-        ≡ pageFound (page.now ++ fixed.now) certificate.now address mark }
+        ≡ page_found (page.now ++ fixed.now) certificate.now address mark }
 {
     if mark == 0 {
         return Finding::Passes;
@@ -94,9 +94,9 @@ fn check_marks<'a>(
 // The first fault among the marks, by address and then by page: a pass with each page, over the marks before the first
 // fault that was found.
 fn check_pages(table: &[u8; 256], image: &[u8], certificate: &[u8]) -> Finding
-    requires { Timings table.now × (isImage (length image.now) ≡ true) × (length certificate.now ≤ 4096) }
-    ensures { found result ≡ marksFound image.now certificate.now
-        (spacesIn (length image.now)) (lowest certificate.now) certificate.now }
+    requires { Timings table.now × (is_image (length image.now) ≡ true) × (length certificate.now ≤ 4096) }
+    ensures { found result ≡ marks_found image.now certificate.now
+        (spaces_in (length image.now)) (lowest certificate.now) certificate.now }
 {
     let fixed = fixed_of(image);
     let spaces = spaces_in(image.len());
@@ -115,7 +115,7 @@ fn check_pages(table: &[u8; 256], image: &[u8], certificate: &[u8]) -> Finding
 
 // How many marks the certificate of an image of so many bytes has.
 pub fn marks_in(length: usize) -> usize
-    ensures { result ≡ marksIn length }
+    ensures { result ≡ marks_in length }
 {
     if length == HALF_SPACE {
         HALF_SPACE
@@ -126,9 +126,9 @@ pub fn marks_in(length: usize) -> usize
 
 // The rules of a certificate of the right length: the marks upward, then the vectors, then 19.
 fn check_rules(image: &[u8], certificate: &[u8], wired: u8) -> Checked
-    requires { (isImage (length image.now) ≡ true) × (length certificate.now ≤ 4096) }
-    ensures { answered result ≡ verdict (levelsOf certificate.now wired)
-        (rulesFound image.now certificate.now wired) }
+    requires { (is_image (length image.now) ≡ true) × (length certificate.now ≤ 4096) }
+    ensures { answered result ≡ verdict (levels_of certificate.now wired)
+        (rules_found image.now certificate.now wired) }
 {
     // A constant table is built where it is named: made once here, and lent to every mark.
     let table = timings();
@@ -145,7 +145,7 @@ fn check_rules(image: &[u8], certificate: &[u8], wired: u8) -> Checked
 
 // Checks a certificate for an image and its wired sources.
 pub fn check(image: &[u8], certificate: &[u8], wired: u8) -> Checked
-    ensures { answered result ≡ checkOf image.now certificate.now wired }
+    ensures { answered result ≡ check_of image.now certificate.now wired }
 {
     if !is_image_length(image.len()) {
         return Checked::Refused(Refusal::ImageLength);

@@ -1,6 +1,6 @@
 // The levels that a certificate allows for.
 ghost use Rattle.std.specs.Prelude.{◌≡◌, max};
-ghost use Rattle.certificate.specs.Levels.{levelsFor, sourceLevels, levelsOf};
+ghost use Rattle.certificate.specs.Levels.{levels_for, source_levels, levels_of};
 
 use crate::marks::need_at;
 use isa::Source;
@@ -15,7 +15,7 @@ fn greater(a: u8, b: u8) -> u8
 
 // The levels that a source's service can take: its own, and the need at its vector; none where the source is not wired.
 pub fn levels_for(certificate: &[u8], wired: u8, source: Source) -> u8
-    ensures { result ≡ levelsFor certificate.now wired source }
+    ensures { result ≡ levels_for certificate.now wired source }
 {
     if names(wired, source) {
         1 + need_at(certificate, vector_of(source))
@@ -26,7 +26,7 @@ pub fn levels_for(certificate: &[u8], wired: u8, source: Source) -> u8
 
 // The levels of the deepest service of sources 1 to 4, which do not interrupt one another.
 pub fn source_levels(certificate: &[u8], wired: u8) -> u8
-    ensures { result ≡ sourceLevels certificate.now wired }
+    ensures { result ≡ source_levels certificate.now wired }
 {
     let first = levels_for(certificate, wired, Source::First);
     let second = levels_for(certificate, wired, Source::Second);
@@ -37,7 +37,7 @@ pub fn source_levels(certificate: &[u8], wired: u8) -> u8
 
 // The levels of a certificate: start-up and main code, a service of sources 1 to 4 over it, and that of NMI over both.
 pub fn levels_of(certificate: &[u8], wired: u8) -> u8
-    ensures { result ≡ levelsOf certificate.now wired }
+    ensures { result ≡ levels_of certificate.now wired }
 {
     let need = need_at(certificate, RESET_VECTOR);
     let sources = source_levels(certificate, wired);

@@ -1,6 +1,6 @@
 // Marks: the kind in the high digit, the need in the low one.
 ghost use Rattle.std.specs.Prelude.{◌≡◌};
-ghost use Rattle.certificate.specs.Marks.{markAt, kind_of, need_of, kind_at, needAt};
+ghost use Rattle.certificate.specs.Marks.{mark_at, kind_of, need_of, kind_at, need_at};
 
 use isa::rom::PROGRAM_SPACE;
 
@@ -18,7 +18,7 @@ pub const MOST_LEVELS: u8 = 6;
 
 // The mark of a program address, 0 outside ROM. The last mark is that of FFFh.
 pub fn mark_at(certificate: &[u8], address: u16) -> u8
-    ensures { result ≡ markAt certificate.now address }
+    ensures { result ≡ mark_at certificate.now address }
 {
     let at = address as usize;
     let end = at + certificate.len();
@@ -55,7 +55,7 @@ pub fn kind_at(certificate: &[u8], address: u16) -> u8
 
 // The need of an address.
 pub fn need_at(certificate: &[u8], address: u16) -> u8
-    ensures { result ≡ needAt certificate.now address }
+    ensures { result ≡ need_at certificate.now address }
 {
     need_of(mark_at(certificate, address))
 }

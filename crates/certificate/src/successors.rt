@@ -1,8 +1,8 @@
 // The rules of one instruction: where it may stand, where it leads, and what the marks there must be.
 ghost use Rattle.std.specs.Prelude.{◌≡◌, [], ◌∷◌};
 ghost use Rattle.certificate.specs.Findings.{found};
-ghost use Rattle.certificate.specs.Successors.{placed, continuesAt, successorsOf, listed};
-ghost use Rattle.certificate.specs.Successors.{coversMark, successorsFound};
+ghost use Rattle.certificate.specs.Successors.{placed, continues_at, successors_of, listed};
+ghost use Rattle.certificate.specs.Successors.{covers_mark, successors_found};
 
 use crate::Finding;
 use crate::marks::{MAIN, SERVICE, START_UP, SUBROUTINE, kind_of, mark_at, need_of};
@@ -38,7 +38,7 @@ pub fn is_placed(kind: u8, flow: Flow) -> bool
 
 // A successor in code of a kind, which takes no level.
 fn continues_at(address: u16, kind: u8) -> Successor
-    ensures { result ≡ continuesAt address kind }
+    ensures { result ≡ continues_at address kind }
 {
     Successor {
         address,
@@ -49,7 +49,7 @@ fn continues_at(address: u16, kind: u8) -> Successor
 
 // Where an instruction in code of a kind leads. Only RETI leaves its kind: start-up code ends, and main code begins.
 pub fn successors_of(kind: u8, flow: Flow, next: u16) -> Successors
-    ensures { listed result ≡ successorsOf kind flow next }
+    ensures { listed result ≡ successors_of kind flow next }
 {
     match flow {
         Flow::Next => Successors::One(continues_at(next, kind)),
@@ -81,14 +81,14 @@ pub fn successors_of(kind: u8, flow: Flow, next: u16) -> Successors
 
 // Whether a need covers that of a mark, with the levels that going there takes.
 fn is_covered(need: u8, mark: u8, levels: u8) -> bool
-    ensures { result ≡ coversMark need mark levels }
+    ensures { result ≡ covers_mark need mark levels }
 {
     need_of(mark) as u16 + levels as u16 <= need as u16
 }
 
 // 16 and 17 of an instruction with one successor, whose mark is looked up once.
 fn check_one(certificate: &[u8], address: u16, need: u8, successor: Successor) -> Finding
-    ensures { found result ≡ successorsFound certificate.now address need (successor ∷ []) }
+    ensures { found result ≡ successors_found certificate.now address need (successor ∷ []) }
 {
     let mark = mark_at(certificate, successor.address);
     if kind_of(mark) != successor.kind {
@@ -108,7 +108,7 @@ fn check_two(
     first: Successor,
     second: Successor,
 ) -> Finding
-    ensures { found result ≡ successorsFound certificate.now address need (first ∷ second ∷ []) }
+    ensures { found result ≡ successors_found certificate.now address need (first ∷ second ∷ []) }
 {
     let first_mark = mark_at(certificate, first.address);
     if kind_of(first_mark) != first.kind {
@@ -134,7 +134,7 @@ pub fn check_successors(
     need: u8,
     successors: Successors,
 ) -> Finding
-    ensures { found result ≡ successorsFound certificate.now address need (listed successors) }
+    ensures { found result ≡ successors_found certificate.now address need (listed successors) }
 {
     match successors {
         Successors::None => Finding::Passes,

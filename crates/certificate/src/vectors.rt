@@ -1,7 +1,7 @@
 // The vectors of reset and of the wired sources.
 ghost use Rattle.std.specs.Prelude.{◌≡◌};
 ghost use Rattle.certificate.specs.Findings.{found};
-ghost use Rattle.certificate.specs.Vectors.{vectorFound, sourceFound, vectorsFound};
+ghost use Rattle.certificate.specs.Vectors.{vector_found, source_found, vectors_found};
 
 use crate::Finding;
 use crate::findings::and_then;
@@ -11,7 +11,7 @@ use isa::{Refusal, Source};
 
 // A vector that must have a kind.
 fn check_vector(certificate: &[u8], vector: u16, kind: u8) -> Finding
-    ensures { found result ≡ vectorFound certificate.now vector kind }
+    ensures { found result ≡ vector_found certificate.now vector kind }
 {
     if kind_at(certificate, vector) == kind {
         Finding::Passes
@@ -22,7 +22,7 @@ fn check_vector(certificate: &[u8], vector: u16, kind: u8) -> Finding
 
 // A source's vector, where the source is wired.
 fn check_source(certificate: &[u8], wired: u8, source: Source) -> Finding
-    ensures { found result ≡ sourceFound certificate.now wired source }
+    ensures { found result ≡ source_found certificate.now wired source }
 {
     if names(wired, source) {
         check_vector(certificate, vector_of(source), SERVICE)
@@ -33,7 +33,7 @@ fn check_source(certificate: &[u8], wired: u8, source: Source) -> Finding
 
 // The first vector of a wrong kind: FFEh, then the sources upward.
 pub fn check_vectors(certificate: &[u8], wired: u8) -> Finding
-    ensures { found result ≡ vectorsFound certificate.now wired }
+    ensures { found result ≡ vectors_found certificate.now wired }
 {
     let reset = check_vector(certificate, RESET_VECTOR, START_UP);
     let nmi = check_source(certificate, wired, Source::Nmi);

@@ -9,10 +9,10 @@ use Rattle.isa.specs.declared.Source.{Source}
 use Rattle.control.specs.declared.Control.{Control}
 use Rattle.control.specs.declared.Stop.{Stop}
 use Rattle.control.specs.declared.Stop.TheVariants as stop
-use Rattle.control.specs.Update.{withPc, withMode}
-use Rattle.control.specs.Modes.{modeBeneath}
-use Rattle.control.specs.Stack.{Transferred, goesOn, stops, isFull, pushOf, pop_of}
-use Rattle.control.specs.Transfers.{thenIn, call_of, endsStartUp, returnFromInterruptOf}
+use Rattle.control.specs.Update.{with_pc, with_mode}
+use Rattle.control.specs.Modes.{mode_beneath}
+use Rattle.control.specs.Stack.{Transferred, goes_on, stops, is_full, push_of, pop_of}
+use Rattle.control.specs.Transfers.{then_in, call_of, ends_start_up, return_from_interrupt_of}
 use Rattle.control.specs.Requests.{take_of}
 
 -- it goes on, or the stack is as it was
@@ -25,37 +25,37 @@ pub record StopsWhere (test : Bool) (s : Stop) (stack : List ℕ) (t : Transferr
   pub kept : Kept stack t
 
 module _ (stack : List ℕ) (c : Control) where
-  by-test :
+  by_test :
       (test : Bool) (s : Stop) (more : Transferred) → more.stop ≡ stop.None →
       StopsWhere test s stack (cond test (stops stack c s) more)
-  by-test true s more e = record { stop = refl; kept = inr refl }
-  by-test false s more e = record { stop = e; kept = inl e }
+  by_test true s more e = record { stop = refl; kept = inr refl }
+  by_test false s more e = record { stop = e; kept = inl e }
 
-  push-stops : (address : ℕ) → StopsWhere (isFull c) stop.Full stack (pushOf stack c address)
-  unfolding pushOf
-  push-stops address = by-test (isFull c) stop.Full _ refl
+  push_stops : (address : ℕ) → StopsWhere (is_full c) stop.Full stack (push_of stack c address)
+  unfolding push_of
+  push_stops address = by_test (is_full c) stop.Full _ refl
 
-  pub call-stops : (to next : ℕ) → StopsWhere (isFull c) stop.Full stack (call_of stack c to next)
+  pub call_stops : (to next : ℕ) → StopsWhere (is_full c) stop.Full stack (call_of stack c to next)
   unfolding call_of
-  call-stops to next = record { stop = (push-stops next).stop; kept = (push-stops next).kept }
+  call_stops to next = record { stop = (push_stops next).stop; kept = (push_stops next).kept }
 
-  pub take-stops : (s : Source) → StopsWhere (isFull c) stop.Full stack (take_of stack c s)
+  pub take_stops : (s : Source) → StopsWhere (is_full c) stop.Full stack (take_of stack c s)
   unfolding take_of
-  take-stops s = record { stop = (push-stops c.pc).stop; kept = (push-stops c.pc).kept }
+  take_stops s = record { stop = (push_stops c.pc).stop; kept = (push_stops c.pc).kept }
 
-  pub pop-stops : StopsWhere (eqb c.levels 0) stop.Empty stack (pop_of stack c)
+  pub pop_stops : StopsWhere (eqb c.levels 0) stop.Empty stack (pop_of stack c)
   unfolding pop_of
-  pop-stops = by-test (eqb c.levels 0) stop.Empty _ refl
+  pop_stops = by_test (eqb c.levels 0) stop.Empty _ refl
 
-  pub return-stops :
+  pub return_stops :
       (next : ℕ) →
-      StopsWhere (not (endsStartUp c) && eqb c.levels 0) stop.Empty stack (returnFromInterruptOf stack c next)
-  unfolding returnFromInterruptOf
-  return-stops next = by-start-up (endsStartUp c)
+      StopsWhere (not (ends_start_up c) && eqb c.levels 0) stop.Empty stack (return_from_interrupt_of stack c next)
+  unfolding return_from_interrupt_of
+  return_stops next = by_start_up (ends_start_up c)
     where
-      by-start-up :
+      by_start_up :
           (b : Bool) → StopsWhere (not b && eqb c.levels 0) stop.Empty stack
-          (cond b (goesOn stack (withMode (withPc c next) (modeBeneath c.mode)))
-          (thenIn (pop_of stack c) (modeBeneath c.mode)))
-      by-start-up true = record { stop = refl; kept = inl refl }
-      by-start-up false = record { stop = pop-stops.stop; kept = pop-stops.kept }
+          (cond b (goes_on stack (with_mode (with_pc c next) (mode_beneath c.mode)))
+          (then_in (pop_of stack c) (mode_beneath c.mode)))
+      by_start_up true = record { stop = refl; kept = inl refl }
+      by_start_up false = record { stop = pop_stops.stop; kept = pop_stops.kept }

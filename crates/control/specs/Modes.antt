@@ -4,24 +4,24 @@ use Rattle.control.specs.declared.Mode.{Mode}
 use Rattle.control.specs.declared.Mode.TheVariants.{Reset, Normal, Interrupt, NmiOverNormal, NmiOverInterrupt}
 
 -- "RETI [..] returns to the mode beneath (normal from normal, interrupt and reset)"
-abbrev pub modeBeneath : Mode → Mode
-modeBeneath Reset = Normal
-modeBeneath Normal = Normal
-modeBeneath Interrupt = Normal
-modeBeneath NmiOverNormal = Normal
-modeBeneath NmiOverInterrupt = Interrupt
+abbrev pub mode_beneath : Mode → Mode
+mode_beneath Reset = Normal
+mode_beneath Normal = Normal
+mode_beneath Interrupt = Normal
+mode_beneath NmiOverNormal = Normal
+mode_beneath NmiOverInterrupt = Interrupt
 
-abbrev pub isReset : Mode → Bool
-isReset Reset = true
-isReset Normal = false
-isReset Interrupt = false
-isReset NmiOverNormal = false
-isReset NmiOverInterrupt = false
+abbrev pub is_reset : Mode → Bool
+is_reset Reset = true
+is_reset Normal = false
+is_reset Interrupt = false
+is_reset NmiOverNormal = false
+is_reset NmiOverInterrupt = false
 
 -- a mode as a number, by which two are compared, and in a machine's state
-abbrev pub modeNumber : Mode → ℕ
-modeNumber Reset = 0
-modeNumber Normal = 1
-modeNumber Interrupt = 2
-modeNumber NmiOverNormal = 3
-modeNumber NmiOverInterrupt = 4
+abbrev pub mode_number : Mode → ℕ
+mode_number Reset = 0
+mode_number Normal = 1
+mode_number Interrupt = 2
+mode_number NmiOverNormal = 3
+mode_number NmiOverInterrupt = 4

@@ -1,6 +1,6 @@
 -- Requests: which one a step takes, and what taking it does (document 01, "Modes, stack, sleep").
 use Rattle.std.specs.Prelude.{ℕ, Bool, true, false, cond, ◌&&◌, List}
-use Rattle.isa.specs.Sources.{isNamed, vectorOf}
+use Rattle.isa.specs.Sources.{is_named, vector_of}
 use Rattle.isa.specs.declared.Source.{Source}
 use Rattle.isa.specs.declared.Source.TheVariants.{Nmi, First, Second, Third, Fourth}
 use Rattle.control.specs.declared.Mode.{Mode}
@@ -8,32 +8,32 @@ use Rattle.control.specs.declared.Mode.TheVariants.{Reset, Normal, Interrupt, Nm
 use Rattle.control.specs.declared.Control.{Control}
 use Rattle.control.specs.declared.Requested.{Requested}
 use Rattle.control.specs.declared.Requested.TheVariants.{Nothing, Taken}
-use Rattle.control.specs.Update.{withPc, withMode, withSleep}
-use Rattle.control.specs.Stack.{Transferred, pushOf}
+use Rattle.control.specs.Update.{with_pc, with_mode, with_sleep}
+use Rattle.control.specs.Stack.{Transferred, push_of}
 
 -- "NMI is taken in normal and interrupt mode, the others in normal mode with their enable bit set"
-abbrev pub canTake : Mode → (enabled : Bool) → Source → Bool
-canTake Normal enabled Nmi = true
-canTake Normal enabled First = enabled
-canTake Normal enabled Second = enabled
-canTake Normal enabled Third = enabled
-canTake Normal enabled Fourth = enabled
-canTake Interrupt enabled Nmi = true
-canTake Interrupt enabled First = false
-canTake Interrupt enabled Second = false
-canTake Interrupt enabled Third = false
-canTake Interrupt enabled Fourth = false
-canTake Reset enabled source = false
-canTake NmiOverNormal enabled source = false
-canTake NmiOverInterrupt enabled source = false
+abbrev pub can_take : Mode → (enabled : Bool) → Source → Bool
+can_take Normal enabled Nmi = true
+can_take Normal enabled First = enabled
+can_take Normal enabled Second = enabled
+can_take Normal enabled Third = enabled
+can_take Normal enabled Fourth = enabled
+can_take Interrupt enabled Nmi = true
+can_take Interrupt enabled First = false
+can_take Interrupt enabled Second = false
+can_take Interrupt enabled Third = false
+can_take Interrupt enabled Fourth = false
+can_take Reset enabled source = false
+can_take NmiOverNormal enabled source = false
+can_take NmiOverInterrupt enabled source = false
 
 -- the request byte asks for a source that can be taken now
 abbrev pub is_taken : Mode → (enabled : Bool) → (request : ℕ) → Source → Bool
-is_taken mode enabled request source = isNamed request source && canTake mode enabled source
+is_taken mode enabled request source = is_named request source && can_take mode enabled source
 
 -- "the lowest number wins"
-unfoldable pub requestedOf : Mode → (enabled : Bool) → (request : ℕ) → Requested
-requestedOf mode enabled request =
+unfoldable pub requested_of : Mode → (enabled : Bool) → (request : ℕ) → Requested
+requested_of mode enabled request =
     cond (is_taken mode enabled request Nmi) (Taken Nmi)
     (cond (is_taken mode enabled request First) (Taken First)
     (cond (is_taken mode enabled request Second) (Taken Second)
@@ -41,27 +41,27 @@ requestedOf mode enabled request =
     (cond (is_taken mode enabled request Fourth) (Taken Fourth) Nothing))))
 
 -- the mode of NMI's service over a mode; a second NMI does not nest
-abbrev pub nmiOver : Mode → Mode
-nmiOver Reset = NmiOverNormal
-nmiOver Normal = NmiOverNormal
-nmiOver Interrupt = NmiOverInterrupt
-nmiOver NmiOverNormal = NmiOverNormal
-nmiOver NmiOverInterrupt = NmiOverInterrupt
+abbrev pub nmi_over : Mode → Mode
+nmi_over Reset = NmiOverNormal
+nmi_over Normal = NmiOverNormal
+nmi_over Interrupt = NmiOverInterrupt
+nmi_over NmiOverNormal = NmiOverNormal
+nmi_over NmiOverInterrupt = NmiOverInterrupt
 
-abbrev pub serviceMode : Source → Mode → Mode
-serviceMode Nmi mode = nmiOver mode
-serviceMode First mode = Interrupt
-serviceMode Second mode = Interrupt
-serviceMode Third mode = Interrupt
-serviceMode Fourth mode = Interrupt
+abbrev pub service_mode : Source → Mode → Mode
+service_mode Nmi mode = nmi_over mode
+service_mode First mode = Interrupt
+service_mode Second mode = Interrupt
+service_mode Third mode = Interrupt
+service_mode Fourth mode = Interrupt
 
 -- control at the start of a source's service: "wakes the machine"
-unfoldable pub servingOf : Control → Source → Control
-servingOf c source = withSleep (withMode (withPc c (vectorOf source)) (serviceMode source c.mode)) false
+unfoldable pub serving_of : Control → Source → Control
+serving_of c source = with_sleep (with_mode (with_pc c (vector_of source)) (service_mode source c.mode)) false
 
-abbrev pub thenServe : Transferred → Source → Transferred
-thenServe t source = record { control = servingOf t.control source; stack = t.stack; stop = t.stop }
+abbrev pub then_serve : Transferred → Source → Transferred
+then_serve t source = record { control = serving_of t.control source; stack = t.stack; stop = t.stop }
 
 -- "Taking one pushes PC"; "6 request taken on six levels"
 unfoldable pub take_of : List ℕ → Control → Source → Transferred
-take_of stack c source = thenServe (pushOf stack c c.pc) source
+take_of stack c source = then_serve (push_of stack c c.pc) source

@@ -4,7 +4,7 @@ use Rattle.control.specs.declared.Control.{Control}
 use Rattle.control.specs.declared.Stop.{Stop}
 use Rattle.control.specs.declared.Stop.TheVariants as stop
 use Rattle.control.specs.declared.Transfer.{Transfer}
-use Rattle.control.specs.Update.{withPc, withLevels}
+use Rattle.control.specs.Update.{with_pc, with_levels}
 
 -- where control and the stack go, and whether that stops
 pub record Transferred : Type 0 where
@@ -13,32 +13,32 @@ pub record Transferred : Type 0 where
   pub stop : Stop
 
 -- the program's answer, with the stack that it was lent
-abbrev pub transferOf : List ℕ → Transfer → Transferred
-transferOf stack r = record { control = r.control; stack = stack; stop = r.stop }
+abbrev pub transfer_of : List ℕ → Transfer → Transferred
+transfer_of stack r = record { control = r.control; stack = stack; stop = r.stop }
 
-abbrev pub goesOn : List ℕ → Control → Transferred
-goesOn stack c = record { control = c; stack = stack; stop = stop.None }
+abbrev pub goes_on : List ℕ → Control → Transferred
+goes_on stack c = record { control = c; stack = stack; stop = stop.None }
 
 abbrev pub stops : List ℕ → Control → Stop → Transferred
 stops stack c s = record { control = c; stack = stack; stop = s }
 
 -- the return addresses in use, the top first: the slots below the number of levels
-abbrev pub inUse : ℕ → List ℕ → List ℕ
-inUse zero slots = []
-inUse (suc n) slots = get_or slots n 0 ∷ inUse n slots
+abbrev pub in_use : ℕ → List ℕ → List ℕ
+in_use zero slots = []
+in_use (suc n) slots = get_or slots n 0 ∷ in_use n slots
 
 -- six levels are in use
-abbrev pub isFull : Control → Bool
-isFull c = leb 6 c.levels
+abbrev pub is_full : Control → Bool
+is_full c = leb 6 c.levels
 
 -- a push: a stop on six levels; else the address is on top
-unfoldable pub pushOf : List ℕ → Control → ℕ → Transferred
-pushOf stack c address =
-    cond (isFull c) (stops stack c stop.Full)
-    (goesOn (set stack c.levels address) (withLevels c (c.levels + 1)))
+unfoldable pub push_of : List ℕ → Control → ℕ → Transferred
+push_of stack c address =
+    cond (is_full c) (stops stack c stop.Full)
+    (goes_on (set stack c.levels address) (with_levels c (c.levels + 1)))
 
 -- "7 pop on an empty stack"; else PC is the top return address
 unfoldable pub pop_of : List ℕ → Control → Transferred
 pop_of stack c =
     cond (eqb c.levels 0) (stops stack c stop.Empty)
-    (goesOn stack (withLevels (withPc c (get_or stack (c.levels - 1) 0)) (c.levels - 1)))
+    (goes_on stack (with_levels (with_pc c (get_or stack (c.levels - 1) 0)) (c.levels - 1)))

@@ -1,12 +1,12 @@
 // Modes.
 ghost use Rattle.std.specs.Prelude.{◌≡◌};
-ghost use Rattle.control.specs.Modes.{modeBeneath, isReset, modeNumber};
+ghost use Rattle.control.specs.Modes.{mode_beneath, is_reset, mode_number};
 
 use crate::Mode;
 
 // The mode that RETI returns to.
 pub fn beneath(mode: Mode) -> Mode
-    ensures { result ≡ modeBeneath mode }
+    ensures { result ≡ mode_beneath mode }
 {
     match mode {
         Mode::Reset => Mode::Normal,
@@ -18,7 +18,7 @@ pub fn beneath(mode: Mode) -> Mode
 }
 
 pub fn is_reset(mode: Mode) -> bool
-    ensures { result ≡ isReset mode }
+    ensures { result ≡ is_reset mode }
 {
     match mode {
         Mode::Reset => true,
@@ -31,7 +31,7 @@ pub fn is_reset(mode: Mode) -> bool
 
 // A mode as a number, by which two are compared, and in a machine's state.
 pub fn mode_number(mode: Mode) -> u8
-    ensures { result ≡ modeNumber mode }
+    ensures { result ≡ mode_number mode }
 {
     match mode {
         Mode::Reset => 0,

@@ -1,7 +1,7 @@
 // Requests: which one a step takes, and what taking it does.
 ghost use Rattle.std.specs.Prelude.{◌≡◌};
-ghost use Rattle.control.specs.Stack.{transferOf};
-ghost use Rattle.control.specs.Requests.{canTake, is_taken, requestedOf, nmiOver, serviceMode, servingOf, take_of};
+ghost use Rattle.control.specs.Stack.{transfer_of};
+ghost use Rattle.control.specs.Requests.{can_take, is_taken, requested_of, nmi_over, service_mode, serving_of, take_of};
 
 use crate::stack::push;
 use crate::{Control, Mode, Requested, Transfer};
@@ -10,7 +10,7 @@ use isa::sources::{names, vector_of};
 
 // Whether a mode takes a source's request.
 fn takes(mode: Mode, enabled: bool, source: Source) -> bool
-    ensures { result ≡ canTake mode enabled source }
+    ensures { result ≡ can_take mode enabled source }
 {
     match mode {
         Mode::Normal => match source {
@@ -42,7 +42,7 @@ fn is_taken(mode: Mode, enabled: bool, request: u8, source: Source) -> bool
 
 // The request that a step takes: the lowest number wins among those that can be taken now.
 pub fn requested(mode: Mode, enabled: bool, request: u8) -> Requested
-    ensures { result ≡ requestedOf mode enabled request }
+    ensures { result ≡ requested_of mode enabled request }
 {
     // Most steps have no request.
     if request == 0 {
@@ -68,7 +68,7 @@ pub fn requested(mode: Mode, enabled: bool, request: u8) -> Requested
 
 // The mode of NMI's service over a mode.
 fn nmi_over(mode: Mode) -> Mode
-    ensures { result ≡ nmiOver mode }
+    ensures { result ≡ nmi_over mode }
 {
     match mode {
         Mode::Reset => Mode::NmiOverNormal,
@@ -81,7 +81,7 @@ fn nmi_over(mode: Mode) -> Mode
 
 // The mode of a source's service over a mode.
 fn service_mode(source: Source, mode: Mode) -> Mode
-    ensures { result ≡ serviceMode source mode }
+    ensures { result ≡ service_mode source mode }
 {
     match source {
         Source::Nmi => nmi_over(mode),
@@ -94,7 +94,7 @@ fn service_mode(source: Source, mode: Mode) -> Mode
 
 // Control at the start of a source's service, awake.
 fn serving(c: Control, source: Source) -> Control
-    ensures { result ≡ servingOf c source }
+    ensures { result ≡ serving_of c source }
 {
     let mode = c.mode;
     let served = c
@@ -105,7 +105,7 @@ fn serving(c: Control, source: Source) -> Control
 
 // Taking a request pushes PC: a stop on six levels.
 pub fn take(stack: &mut [u16; 6], c: Control, source: Source) -> Transfer
-    ensures { transferOf stack.new result ≡ take_of stack.old c source }
+    ensures { transfer_of stack.new result ≡ take_of stack.old c source }
 {
     let pushed = push(stack, c, c.pc);
     let control = pushed.control;

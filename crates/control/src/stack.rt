@@ -1,6 +1,6 @@
 // The stack of return addresses: the one push and the one pop. The slots are lent; the levels in use stand in control.
 ghost use Rattle.std.specs.Prelude.{◌≡◌, get_or};
-ghost use Rattle.control.specs.Stack.{transferOf, pushOf, pop_of};
+ghost use Rattle.control.specs.Stack.{transfer_of, push_of, pop_of};
 
 use crate::{Control, Stop, Transfer};
 
@@ -9,7 +9,7 @@ pub const LEVELS: u8 = 6;
 
 // The one push of a return address: a stop on six levels.
 pub fn push(stack: &mut [u16; 6], c: Control, address: u16) -> Transfer
-    ensures { transferOf stack.new result ≡ pushOf stack.old c address }
+    ensures { transfer_of stack.new result ≡ push_of stack.old c address }
 {
     let levels = c.levels;
     if LEVELS <= levels {
@@ -36,7 +36,7 @@ fn slot(stack: &[u16], index: u8) -> u16
 
 // The one pop of a return address: a stop on an empty stack.
 pub fn pop(stack: &[u16; 6], c: Control) -> Transfer
-    ensures { transferOf stack.now result ≡ pop_of stack.now c }
+    ensures { transfer_of stack.now result ≡ pop_of stack.now c }
 {
     let levels = c.levels;
     if levels == 0 {

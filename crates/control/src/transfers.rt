@@ -1,7 +1,7 @@
 // Where each kind of flow takes control, and what it does to the lent stack.
 ghost use Rattle.std.specs.Prelude.{◌≡◌};
-ghost use Rattle.control.specs.Stack.{transferOf};
-ghost use Rattle.control.specs.Transfers.{sleptOf, branchOf, call_of, endsStartUp, returnFromInterruptOf};
+ghost use Rattle.control.specs.Stack.{transfer_of};
+ghost use Rattle.control.specs.Transfers.{slept_of, branch_of, call_of, ends_start_up, return_from_interrupt_of};
 
 use crate::modes::{beneath, is_reset};
 use crate::stack::{pop, push};
@@ -9,14 +9,14 @@ use crate::{Control, Stop, Transfer};
 
 // Control asleep at the next address: STOP and WAIT.
 pub fn sleep(c: Control, next: u16) -> Control
-    ensures { result ≡ sleptOf c next }
+    ensures { result ≡ slept_of c next }
 {
     c.with_pc(next).with_sleep(true)
 }
 
 // A branch: to its target where it jumps, else to the next address.
 pub fn branch(c: Control, jumps: bool, to: u16, next: u16) -> Control
-    ensures { result ≡ branchOf c jumps to next }
+    ensures { result ≡ branch_of c jumps to next }
 {
     if jumps {
         return c.with_pc(to);
@@ -26,7 +26,7 @@ pub fn branch(c: Control, jumps: bool, to: u16, next: u16) -> Control
 
 // CALL pushes the next address: a stop on six levels.
 pub fn call(stack: &mut [u16; 6], c: Control, to: u16, next: u16) -> Transfer
-    ensures { transferOf stack.new result ≡ call_of stack.old c to next }
+    ensures { transfer_of stack.new result ≡ call_of stack.old c to next }
 {
     let pushed = push(stack, c, next);
     let control = pushed.control;
@@ -39,7 +39,7 @@ pub fn call(stack: &mut [u16; 6], c: Control, to: u16, next: u16) -> Transfer
 
 // Whether RETI ends the start-up code: in reset mode, with an empty stack.
 fn ends_start_up(c: Control) -> bool
-    ensures { result ≡ endsStartUp c }
+    ensures { result ≡ ends_start_up c }
 {
     let mode = c.mode;
     c.levels == 0 && is_reset(mode)
@@ -47,7 +47,7 @@ fn ends_start_up(c: Control) -> bool
 
 // RETI: as RET, to the mode beneath; where it ends the start-up code, it goes on at the next address.
 pub fn return_from_interrupt(stack: &[u16; 6], c: Control, next: u16) -> Transfer
-    ensures { transferOf stack.now result ≡ returnFromInterruptOf stack.now c next }
+    ensures { transfer_of stack.now result ≡ return_from_interrupt_of stack.now c next }
 {
     let mode = c.mode;
     let under = beneath(mode);

@@ -1,26 +1,26 @@
 // Control with one part changed. Nothing else in this crate names all its fields.
 ghost use Rattle.std.specs.Prelude.{◌≡◌};
-ghost use Rattle.control.specs.Update.{withPc, withLevels, withMode, withSleep};
+ghost use Rattle.control.specs.Update.{with_pc, with_levels, with_mode, with_sleep};
 
 use crate::{Control, Mode};
 
 impl Control {
     pub fn with_pc(mut self, pc: u16) -> Self
-        ensures { result ≡ withPc self pc }
+        ensures { result ≡ with_pc self pc }
     {
         self.pc = pc;
         self
     }
 
     pub fn with_levels(mut self, levels: u8) -> Self
-        ensures { result ≡ withLevels self levels }
+        ensures { result ≡ with_levels self levels }
     {
         self.levels = levels;
         self
     }
 
     pub fn with_mode(self, mode: Mode) -> Self
-        ensures { result ≡ withMode self mode }
+        ensures { result ≡ with_mode self mode }
     {
         Control {
             pc: self.pc,
@@ -31,7 +31,7 @@ impl Control {
     }
 
     pub fn with_sleep(mut self, asleep: bool) -> Self
-        ensures { result ≡ withSleep self asleep }
+        ensures { result ≡ with_sleep self asleep }
     {
         self.asleep = asleep;
         self

@@ -9,7 +9,7 @@ use borrow.Author.Tests.{eqb-true, eqb-false, ltb-true, ltb-false}
 use lib.Dec.{eqb, ltb}
 use lib.ListN.{length, length-set, get_or, set, get_or-eq_default}
 use lib.Seq.{get_or-set_same, get_or-set_other, set_out}
-use Rattle.isa.specs.Rom.{romAt, space_of}
+use Rattle.isa.specs.Rom.{rom_at, space_of}
 use Rattle.isa.specs.declared.Operand.{Operand}
 use Rattle.isa.specs.declared.Operand.TheVariants.{Direct, Short, ThroughX, ThroughY}
 use Rattle.isa.specs.declared.Instruction.{Instruction}
@@ -17,25 +17,25 @@ use Rattle.data.specs.declared.OperandRead.{OperandRead}
 use Rattle.data.specs.declared.OperandRead.TheVariants as operand
 use Rattle.data.specs.Space.{
   program_of,
-  inWindow,
-  isWriteOnly,
-  shownOf,
-  windowAddress,
+  in_window,
+  is_write_only,
+  shown_of,
+  window_address,
   read_of,
   origin_of,
   store_of,
   address_of,
-  operandOf,
+  operand_of,
 }
-use Rattle.data.specs.Reads.{operandReadOf, originAt, originReadOf}
+use Rattle.data.specs.Reads.{operand_read_of, origin_at, origin_read_of}
 use Rattle.data.specs.UnderWindow.{SameButUnder, SameUnder}
 
 pub same_bytes : (bytes : List ℕ) → SameButUnder bytes bytes
 same_bytes bytes = record { size = refl; elsewhere = λ a e. refl }
 
 module _ (b b' : List ℕ) (same : SameButUnder b b') where
-  pub same-program : (image : List ℕ) → program_of image b ≡ program_of image b'
-  same-program image = ap (space_of image) (same.elsewhere 0xCA refl)
+  pub same_program : (image : List ℕ) → program_of image b ≡ program_of image b'
+  same_program image = ap (space_of image) (same.elsewhere 0xCA refl)
 
   pub same_address : (o : Operand) → address_of b o ≡ address_of b' o
   unfolding address_of
@@ -44,32 +44,32 @@ module _ (b b' : List ℕ) (same : SameButUnder b b') where
   same_address ThroughX = same.elsewhere 0x80 refl
   same_address ThroughY = same.elsewhere 0x81 refl
 
-  by-window :
-      (image : List ℕ) (a : ℕ) (w : Bool) → inWindow a ≡ w →
-      cond (isWriteOnly a) 0 (cond w (shownOf (romAt image (windowAddress b a))) (get_or b a 0))
-      ≡ cond (isWriteOnly a) 0 (cond w (shownOf (romAt image (windowAddress b' a))) (get_or b' a 0))
-  by-window image a true e = rw (same.elsewhere 0xC9 refl)
-  by-window image a false e = rw (same.elsewhere a e)
+  by_window :
+      (image : List ℕ) (a : ℕ) (w : Bool) → in_window a ≡ w →
+      cond (is_write_only a) 0 (cond w (shown_of (rom_at image (window_address b a))) (get_or b a 0))
+      ≡ cond (is_write_only a) 0 (cond w (shown_of (rom_at image (window_address b' a))) (get_or b' a 0))
+  by_window image a true e = rw (same.elsewhere 0xC9 refl)
+  by_window image a false e = rw (same.elsewhere a e)
 
   pub same_read : (image : List ℕ) (a : ℕ) → read_of image b a ≡ read_of image b' a
   unfolding read_of
-  same_read image a = by-window image a (inWindow a) refl
+  same_read image a = by_window image a (in_window a) refl
 
-  pub same_operand : (image : List ℕ) (o : Operand) → operandOf image b o ≡ operandOf image b' o
-  unfolding operandOf
+  pub same_operand : (image : List ℕ) (o : Operand) → operand_of image b o ≡ operand_of image b' o
+  unfolding operand_of
   same_operand image o = rw (same_address o) (same_read image (address_of b' o))
 
-  pub same-origin : (image : List ℕ) (a : ℕ) → origin_of image b a ≡ origin_of image b' a
+  pub same_origin : (image : List ℕ) (a : ℕ) → origin_of image b a ≡ origin_of image b' a
   unfolding origin_of
-  same-origin image a = rw (same.elsewhere 0xC9 refl)
+  same_origin image a = rw (same.elsewhere 0xC9 refl)
 
-  by-operand : (image : List ℕ) (r : OperandRead) → originAt image b r ≡ originAt image b' r
-  by-operand image (operand.Is o) = rw (same_address o, same-origin image (address_of b' o))
-  by-operand image operand.Nothing = refl
+  by_operand : (image : List ℕ) (r : OperandRead) → origin_at image b r ≡ origin_at image b' r
+  by_operand image (operand.Is o) = rw (same_address o, same_origin image (address_of b' o))
+  by_operand image operand.Nothing = refl
 
-  pub same-origin-read : (image : List ℕ) (i : Instruction) → originReadOf image b i ≡ originReadOf image b' i
-  unfolding originReadOf
-  same-origin-read image i = by-operand image (operandReadOf i)
+  pub same_origin_read : (image : List ℕ) (i : Instruction) → origin_read_of image b i ≡ origin_read_of image b' i
+  unfolding origin_read_of
+  same_origin_read image i = by_operand image (operand_read_of i)
 
   -- where a byte is set, wherever that is
   module _ (a value : ℕ) where
@@ -86,7 +86,7 @@ module _ (b b' : List ℕ) (same : SameButUnder b b') where
         ∙ sym (get_or-eq_default b' 0 (omega (arith, ltb-false a (length b) e, same.size))))
 
     by_place :
-        (k : ℕ) → inWindow k ≡ false → (t : Bool) → eqb k a ≡ t →
+        (k : ℕ) → in_window k ≡ false → (t : Bool) → eqb k a ≡ t →
         get_or (set b a value) k 0 ≡ get_or (set b' a value) k 0
     by_place k e true t = rw (eqb-true k a t) (at_place (ltb a (length b)) refl)
     by_place k e false t =
@@ -99,26 +99,26 @@ module _ (b b' : List ℕ) (same : SameButUnder b b') where
       elsewhere = λ k e. by_place k e (eqb k a) refl;
     }
 
-    by-test : (w : Bool) → SameButUnder (cond w b (set b a value)) (cond w b' (set b' a value))
-    by-test true = same
-    by-test false = same_set
+    by_test : (w : Bool) → SameButUnder (cond w b (set b a value)) (cond w b' (set b' a value))
+    by_test true = same
+    by_test false = same_set
 
     pub same_store : SameButUnder (store_of b a value) (store_of b' a value)
     unfolding store_of
-    same_store = by-test (inWindow a)
+    same_store = by_test (in_window a)
 
 -- an address in the window is no other
-apart : (k a : ℕ) → inWindow k ≡ true → inWindow a ≡ false → k ≡ a → ⊥
+apart : (k a : ℕ) → in_window k ≡ true → in_window a ≡ false → k ≡ a → ⊥
 apart k a e f same = let z : ◌≡◌ {A = ℕ} 0 1 = cc in omega arith
 
 module _ (b : List ℕ) (a value : ℕ) where
-  pub kept-by-set : inWindow a ≡ false → SameUnder b (set b a value)
-  kept-by-set out k e = sym (get_or-set_other b a k value 0 (apart k a e out))
+  pub kept_by_set : in_window a ≡ false → SameUnder b (set b a value)
+  kept_by_set out k e = sym (get_or-set_other b a k value 0 (apart k a e out))
 
-  by-window-test : (w : Bool) → inWindow a ≡ w → SameUnder b (cond w b (set b a value))
-  by-window-test true e k under = refl
-  by-window-test false e k under = kept-by-set e k under
+  by_window_test : (w : Bool) → in_window a ≡ w → SameUnder b (cond w b (set b a value))
+  by_window_test true e k under = refl
+  by_window_test false e k under = kept_by_set e k under
 
-  pub kept-by-store : SameUnder b (store_of b a value)
+  pub kept_by_store : SameUnder b (store_of b a value)
   unfolding store_of
-  kept-by-store = by-window-test (inWindow a) refl
+  kept_by_store = by_window_test (in_window a) refl

@@ -5,22 +5,22 @@ ghost use Rattle.isa.specs.Rom.{IsImage};
 ghost use Rattle.data.specs.Space.{program_of};
 ghost use Rattle.data.specs.Effect.{
   data_of,
-  storeResultOf,
-  accumulatorOf,
+  store_result_of,
+  accumulator_of,
   load_of,
-  storeAOf,
-  incrementOf,
-  decrementOf,
-  addOf,
-  subtractOf,
-  andOf,
-  compareOf,
-  complementOf,
-  rotateOf,
-  storeImmediateOf,
-  setBitOf,
-  resetBitOf,
-  testBitOf,
+  store_aOf,
+  increment_of,
+  decrement_of,
+  add_of,
+  subtract_of,
+  and_of,
+  compare_of,
+  complement_of,
+  rotate_of,
+  store_immediate_of,
+  set_bit_of,
+  reset_bit_of,
+  test_bit_of,
   effect_of,
 };
 
@@ -30,14 +30,14 @@ use isa::Instruction;
 
 // The byte of the accumulator.
 fn accumulator(bytes: &[u8; 256]) -> u8
-    ensures { result ≡ accumulatorOf bytes.now }
+    ensures { result ≡ accumulator_of bytes.now }
 {
     bytes[A as usize]
 }
 
 // Stores a result, and hands over its flags.
 fn store_result(bytes: &mut [u8; 256], address: u8, res: Outcome) -> Flags
-    ensures { data_of bytes.new result ≡ storeResultOf bytes.old address res }
+    ensures { data_of bytes.new result ≡ store_result_of bytes.old address res }
 {
     store(bytes, address, res.value);
     res.flags
@@ -52,7 +52,7 @@ pub fn load(value: u8, bytes: &mut [u8; 256], carry: bool) -> Flags
 
 // LD of A to a data address.
 pub fn store_a(address: u8, bytes: &mut [u8; 256], carry: bool) -> Flags
-    ensures { data_of bytes.new result ≡ storeAOf bytes.old carry address }
+    ensures { data_of bytes.new result ≡ store_aOf bytes.old carry address }
 {
     let result = alu::result(accumulator(bytes), carry);
     store_result(bytes, address, result)
@@ -62,7 +62,7 @@ pub fn store_a(address: u8, bytes: &mut [u8; 256], carry: bool) -> Flags
 pub fn increment(image: &[u8], address: u8, bytes: &mut [u8; 256], carry: bool) -> Flags
     ensures { IsImage image.now
         → data_of bytes.new result
-        ≡ incrementOf (program_of image.now bytes.old) bytes.old carry address }
+        ≡ increment_of (program_of image.now bytes.old) bytes.old carry address }
 {
     let result = alu::incremented(read(image, bytes, address), carry);
     store_result(bytes, address, result)
@@ -72,7 +72,7 @@ pub fn increment(image: &[u8], address: u8, bytes: &mut [u8; 256], carry: bool) 
 pub fn decrement(image: &[u8], address: u8, bytes: &mut [u8; 256], carry: bool) -> Flags
     ensures { IsImage image.now
         → data_of bytes.new result
-        ≡ decrementOf (program_of image.now bytes.old) bytes.old carry address }
+        ≡ decrement_of (program_of image.now bytes.old) bytes.old carry address }
 {
     let result = alu::decremented(read(image, bytes, address), carry);
     store_result(bytes, address, result)
@@ -80,7 +80,7 @@ pub fn decrement(image: &[u8], address: u8, bytes: &mut [u8; 256], carry: bool) 
 
 // ADD and ADDI.
 pub fn add(value: u8, bytes: &mut [u8; 256]) -> Flags
-    ensures { data_of bytes.new result ≡ addOf bytes.old value }
+    ensures { data_of bytes.new result ≡ add_of bytes.old value }
 {
     let result = alu::added(accumulator(bytes), value);
     store_result(bytes, A, result)
@@ -88,7 +88,7 @@ pub fn add(value: u8, bytes: &mut [u8; 256]) -> Flags
 
 // SUB and SUBI.
 pub fn subtract(value: u8, bytes: &mut [u8; 256]) -> Flags
-    ensures { data_of bytes.new result ≡ subtractOf bytes.old value }
+    ensures { data_of bytes.new result ≡ subtract_of bytes.old value }
 {
     let result = alu::subtracted(accumulator(bytes), value);
     store_result(bytes, A, result)
@@ -96,7 +96,7 @@ pub fn subtract(value: u8, bytes: &mut [u8; 256]) -> Flags
 
 // AND and ANDI.
 pub fn and(value: u8, bytes: &mut [u8; 256], carry: bool) -> Flags
-    ensures { data_of bytes.new result ≡ andOf bytes.old carry value }
+    ensures { data_of bytes.new result ≡ and_of bytes.old carry value }
 {
     let result = alu::anded(accumulator(bytes), value, carry);
     store_result(bytes, A, result)
@@ -104,7 +104,7 @@ pub fn and(value: u8, bytes: &mut [u8; 256], carry: bool) -> Flags
 
 // CP and CPI: flags only.
 pub fn compare(value: u8, bytes: &[u8; 256]) -> Flags
-    ensures { result ≡ compareOf bytes.now value }
+    ensures { result ≡ compare_of bytes.now value }
 {
     let result = alu::subtracted(accumulator(bytes), value);
     result.flags
@@ -112,7 +112,7 @@ pub fn compare(value: u8, bytes: &[u8; 256]) -> Flags
 
 // COM.
 pub fn complement(bytes: &mut [u8; 256]) -> Flags
-    ensures { data_of bytes.new result ≡ complementOf bytes.old }
+    ensures { data_of bytes.new result ≡ complement_of bytes.old }
 {
     let result = alu::complemented(accumulator(bytes));
     store_result(bytes, A, result)
@@ -120,7 +120,7 @@ pub fn complement(bytes: &mut [u8; 256]) -> Flags
 
 // RLC.
 pub fn rotate(bytes: &mut [u8; 256], carry: bool) -> Flags
-    ensures { data_of bytes.new result ≡ rotateOf bytes.old carry }
+    ensures { data_of bytes.new result ≡ rotate_of bytes.old carry }
 {
     let result = alu::rotated(accumulator(bytes), carry);
     store_result(bytes, A, result)
@@ -128,7 +128,7 @@ pub fn rotate(bytes: &mut [u8; 256], carry: bool) -> Flags
 
 // LDI of a data address: no flag changes.
 pub fn store_immediate(bytes: &mut [u8; 256], flags: Flags, address: u8, value: u8) -> Flags
-    ensures { data_of bytes.new result ≡ storeImmediateOf bytes.old flags address value }
+    ensures { data_of bytes.new result ≡ store_immediate_of bytes.old flags address value }
 {
     store(bytes, address, value);
     flags
@@ -138,7 +138,7 @@ pub fn store_immediate(bytes: &mut [u8; 256], flags: Flags, address: u8, value: 
 pub fn set_bit(image: &[u8], bytes: &mut [u8; 256], flags: Flags, address: u8, bit: u8) -> Flags
     ensures { IsImage image.now
         → data_of bytes.new result
-        ≡ setBitOf (program_of image.now bytes.old) bytes.old flags address bit }
+        ≡ set_bit_of (program_of image.now bytes.old) bytes.old flags address bit }
 {
     let value = alu::with_bit(read(image, bytes, address), bit);
     store(bytes, address, value);
@@ -149,7 +149,7 @@ pub fn set_bit(image: &[u8], bytes: &mut [u8; 256], flags: Flags, address: u8, b
 pub fn reset_bit(image: &[u8], bytes: &mut [u8; 256], flags: Flags, address: u8, bit: u8) -> Flags
     ensures { IsImage image.now
         → data_of bytes.new result
-        ≡ resetBitOf (program_of image.now bytes.old) bytes.old flags address bit }
+        ≡ reset_bit_of (program_of image.now bytes.old) bytes.old flags address bit }
 {
     let value = alu::without_bit(read(image, bytes, address), bit);
     store(bytes, address, value);
@@ -159,7 +159,7 @@ pub fn reset_bit(image: &[u8], bytes: &mut [u8; 256], flags: Flags, address: u8,
 // JRR and JRS: the tested bit goes to C, jump or not.
 pub fn test_bit(image: &[u8], bytes: &[u8; 256], zero: bool, address: u8, bit: u8) -> Flags
     ensures { IsImage image.now
-        → result ≡ testBitOf (program_of image.now bytes.now) bytes.now zero address bit }
+        → result ≡ test_bit_of (program_of image.now bytes.now) bytes.now zero address bit }
 {
     let carry = alu::bit(read(image, bytes, address), bit);
     Flags { zero, carry }

@@ -2,7 +2,7 @@
 ghost use Rattle.std.specs.Prelude.{◌≡◌};
 ghost use Rattle.isa.specs.Rom.{IsImage};
 ghost use Rattle.data.specs.Space.{program_of};
-ghost use Rattle.data.specs.Reads.{operandReadOf, originReadOf};
+ghost use Rattle.data.specs.Reads.{operand_read_of, origin_read_of};
 
 use crate::space::{address, origin};
 use crate::{OperandRead, OriginRead};
@@ -10,7 +10,7 @@ use isa::{Instruction, Operand};
 
 // The data operand that an instruction reads, by its form.
 fn operand_read(instruction: Instruction) -> OperandRead
-    ensures { result ≡ operandReadOf instruction }
+    ensures { result ≡ operand_read_of instruction }
 {
     match instruction {
         Instruction::LoadA(o) => OperandRead::Is(o),
@@ -31,7 +31,7 @@ fn operand_read(instruction: Instruction) -> OperandRead
 // The origin of the data operand that an instruction reads.
 pub fn origin_read(image: &[u8], bytes: &[u8; 256], instruction: Instruction) -> OriginRead
     ensures { IsImage image.now
-        → result ≡ originReadOf (program_of image.now bytes.now) bytes.now instruction }
+        → result ≡ origin_read_of (program_of image.now bytes.now) bytes.now instruction }
 {
     match operand_read(instruction) {
         OperandRead::Nothing => OriginRead::Nothing,

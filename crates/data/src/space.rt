@@ -2,10 +2,10 @@
 // bytes are lent, by data address; those under the ROM window (40h-7Fh) are never read and never change. 0C8h and 0C9h
 // read 0; the bytes stored there drive the interrupt enable and the ROM window.
 ghost use Rattle.std.specs.Prelude.{◌≡◌, List, ℕ, ◌≤◌, ◌<◌, get_or};
-ghost use Rattle.isa.specs.Rom.{IsImage, romAt};
-ghost use Rattle.data.specs.Space.{inWindow, isWriteOnly, shownOf, windowAddress, held_of, read_of, origin_of};
+ghost use Rattle.isa.specs.Rom.{IsImage, rom_at};
+ghost use Rattle.data.specs.Space.{in_window, is_write_only, shown_of, window_address, held_of, read_of, origin_of};
 ghost use Rattle.data.specs.Space.{program_of};
-ghost use Rattle.data.specs.Space.{store_of, address_of, operandOf};
+ghost use Rattle.data.specs.Space.{store_of, address_of, operand_of};
 
 use crate::Origin;
 use isa::Operand;
@@ -27,14 +27,14 @@ pub const BANK: usize = 0xCA;
 
 // Whether an address lies in the ROM window.
 pub fn is_window(address: u8) -> bool
-    ensures { result ≡ inWindow address }
+    ensures { result ≡ in_window address }
 {
     0x40 <= address && address < 0x80
 }
 
 // Whether an address is one of the two registers that a program cannot read.
 fn is_write_only(address: u8) -> bool
-    ensures { result ≡ isWriteOnly address }
+    ensures { result ≡ is_write_only address }
 {
     let at = address as usize;
     at == INTERRUPT_OPTION || at == ROM_WINDOW
@@ -43,7 +43,7 @@ fn is_write_only(address: u8) -> bool
 // The program address that the ROM window shows at an address in it, by the byte stored in its register.
 fn window_address(bytes: &[u8; 256], address: u8) -> u16
     requires { (0x40 ≤ address) × (address < 0x80) }
-    ensures { (result ≡ windowAddress bytes.now address) × (result < 4096) }
+    ensures { (result ≡ window_address bytes.now address) × (result < 4096) }
 {
     let window = bytes[ROM_WINDOW];
     64 * ((window % 64) as u16) + ((address - 0x40) as u16)
@@ -53,8 +53,8 @@ fn window_address(bytes: &[u8; 256], address: u8) -> u16
 fn window_byte(image: &[u8], bytes: &[u8; 256], address: u8) -> RomByte
     requires { (0x40 ≤ address) × (address < 0x80) }
     ensures { IsImage image.now
-        → result ≡ romAt (program_of image.now bytes.now)
-        (windowAddress bytes.now address) }
+        → result ≡ rom_at (program_of image.now bytes.now)
+        (window_address bytes.now address) }
 {
     let at = window_address(bytes, address);
     let page = page_of(image, bytes[BANK]);
@@ -63,7 +63,7 @@ fn window_byte(image: &[u8], bytes: &[u8; 256], address: u8) -> RomByte
 
 // What the ROM window shows: a byte, 0 where the image has none.
 fn shown(byte: RomByte) -> u8
-    ensures { result ≡ shownOf byte }
+    ensures { result ≡ shown_of byte }
 {
     match byte {
         RomByte::Byte(byte) => byte,
@@ -151,7 +151,7 @@ pub fn address_by(x: u8, y: u8, operand: Operand) -> u8
 // The byte of an operand.
 pub fn operand(image: &[u8], bytes: &[u8; 256], o: Operand) -> u8
     ensures { IsImage image.now
-        → result ≡ operandOf (program_of image.now bytes.now) bytes.now o }
+        → result ≡ operand_of (program_of image.now bytes.now) bytes.now o }
 {
     read(image, bytes, address(bytes, o))
 }
@@ -160,7 +160,7 @@ pub fn operand(image: &[u8], bytes: &[u8; 256], o: Operand) -> u8
 pub fn operand_by(image: &[u8], bytes: &[u8; 256], x: u8, y: u8, o: Operand) -> u8
     ensures { IsImage image.now → x ≡ get_or bytes.now 128 0
         → y ≡ get_or bytes.now 129 0
-        → result ≡ operandOf (program_of image.now bytes.now) bytes.now o }
+        → result ≡ operand_of (program_of image.now bytes.now) bytes.now o }
 {
     read(image, bytes, address_by(x, y, o))
 }

@@ -13,10 +13,10 @@ module _ (test : ℕ → Bool) where
   unfolding every
   every_more n all here = rw (add-one n, here) all
 
-  pub every-when : (n : ℕ) → ((k : ℕ) → k < n → test k ≡ true) → every test n ≡ true
+  pub every_when : (n : ℕ) → ((k : ℕ) → k < n → test k ≡ true) → every test n ≡ true
   unfolding every
-  every-when zero holds = refl
-  every-when (suc n) holds = rw (holds n (omega arith)) (every-when n (λ k h. holds k (omega arith)))
+  every_when zero holds = refl
+  every_when (suc n) holds = rw (holds n (omega arith)) (every_when n (λ k h. holds k (omega arith)))
 
   pub every_holds : (n : ℕ) → every test n ≡ true → (k : ℕ) → k < n → test k ≡ true
   unfolding every
@@ -26,8 +26,8 @@ module _ (test : ℕ → Bool) where
       below_more (λ j. test j ≡ true) n (every_holds n p.1) p.0 k (omega arith)
 
   -- a search that meets a misfit has its answer
-  pub every-fails : (n k : ℕ) → k < n → test k ≡ false → every test n ≡ false
-  every-fails n k h misfit = by_answer (every test n) refl
+  pub every_fails : (n k : ℕ) → k < n → test k ≡ false → every test n ≡ false
+  every_fails n k h misfit = by_answer (every test n) refl
     where
       by_answer : (b : Bool) → every test n ≡ b → b ≡ false
       by_answer false e = refl

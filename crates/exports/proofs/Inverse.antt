@@ -16,55 +16,55 @@ use Rattle.data.specs.declared.OriginRead.{OriginRead}
 use Rattle.data.specs.declared.OriginRead.TheVariants.{Nothing, From}
 use Rattle.machine.specs.declared.Machine.{Machine}
 use Rattle.exports.specs.Every.{every}
-use Rattle.control.specs.Modes.{modeNumber}
-use Rattle.exports.specs.States.{isFlag, isValid, low_byte, highByte, flagByte, mode_of, controlAt}
-use Rattle.exports.specs.States.{stackAt, pairsAt, machineAt, valid, invalid, unpacked, controlBytes, stackBytes}
+use Rattle.control.specs.Modes.{mode_number}
+use Rattle.exports.specs.States.{is_flag, is_valid, low_byte, high_byte, flag_byte, mode_of, control_at}
+use Rattle.exports.specs.States.{stack_at, pairs_at, machine_at, valid, invalid, unpacked, control_bytes, stack_bytes}
 use Rattle.exports.specs.States.{packed}
-use Rattle.exports.specs.Answers.{originNumber, romAddress, originWord}
+use Rattle.exports.specs.Answers.{origin_number, rom_address, origin_word}
 use Rattle.exports.specs.Laws.{Sized, PackingInverts, WordReads, SizeReads, OriginReads}
 use Rattle.exports.proofs.Every.{every_holds}
-use Rattle.exports.proofs.Pasting.{valid-length}
+use Rattle.exports.proofs.Pasting.{valid_length}
 
-low-back : (a b : ℕ) → a < 256 → low_byte (a + b * 256) ≡ a
-low-back a b h = omega arith
+low_back : (a b : ℕ) → a < 256 → low_byte (a + b * 256) ≡ a
+low_back a b h = omega arith
 
-high-back : (a b : ℕ) → a < 256 → highByte (a + b * 256) ≡ b
-high-back a b h = omega arith
+high_back : (a b : ℕ) → a < 256 → high_byte (a + b * 256) ≡ b
+high_back a b h = omega arith
 
-pub number-back : (n : ℕ) → low_byte n + highByte n * 256 ≡ n
-number-back n = omega arith
+pub number_back : (n : ℕ) → low_byte n + high_byte n * 256 ≡ n
+number_back n = omega arith
 
-flag-back : (n : ℕ) → n < 2 → flagByte (eqb n 1) ≡ n
-flag-back zero h = refl
-flag-back (suc zero) h = refl
-flag-back (suc (suc n)) h = absurd (omega arith)
+flag_back : (n : ℕ) → n < 2 → flag_byte (eqb n 1) ≡ n
+flag_back zero h = refl
+flag_back (suc zero) h = refl
+flag_back (suc (suc n)) h = absurd (omega arith)
 
-back-flag : (b : Bool) → eqb (flagByte b) 1 ≡ b
-back-flag true = refl
-back-flag false = refl
+back_flag : (b : Bool) → eqb (flag_byte b) 1 ≡ b
+back_flag true = refl
+back_flag false = refl
 
-flag_small : (b : Bool) → ltb (flagByte b) 2 ≡ true
+flag_small : (b : Bool) → ltb (flag_byte b) 2 ≡ true
 flag_small true = refl
 flag_small false = refl
 
-mode-back : (n : ℕ) → n ≤ 4 → modeNumber (mode_of n) ≡ n
+mode_back : (n : ℕ) → n ≤ 4 → mode_number (mode_of n) ≡ n
 unfolding mode_of
-mode-back zero h = refl
-mode-back (suc zero) h = refl
-mode-back (suc (suc zero)) h = refl
-mode-back (suc (suc (suc zero))) h = refl
-mode-back (suc (suc (suc (suc zero)))) h = refl
-mode-back (suc (suc (suc (suc (suc n))))) h = absurd (omega arith)
+mode_back zero h = refl
+mode_back (suc zero) h = refl
+mode_back (suc (suc zero)) h = refl
+mode_back (suc (suc (suc zero))) h = refl
+mode_back (suc (suc (suc (suc zero)))) h = refl
+mode_back (suc (suc (suc (suc (suc n))))) h = absurd (omega arith)
 
-back-mode : (m : Mode) → mode_of (modeNumber m) ≡ m
+back_mode : (m : Mode) → mode_of (mode_number m) ≡ m
 unfolding mode_of
-back-mode Reset = refl
-back-mode Normal = refl
-back-mode Interrupt = refl
-back-mode NmiOverNormal = refl
-back-mode NmiOverInterrupt = refl
+back_mode Reset = refl
+back_mode Normal = refl
+back_mode Interrupt = refl
+back_mode NmiOverNormal = refl
+back_mode NmiOverInterrupt = refl
 
-mode_small : (m : Mode) → leb (modeNumber m) 4 ≡ true
+mode_small : (m : Mode) → leb (mode_number m) 4 ≡ true
 mode_small Reset = refl
 mode_small Normal = refl
 mode_small Interrupt = refl
@@ -87,64 +87,64 @@ record Valid (s : List ℕ) : Type 0 where
   nought : get_or s 267 0 ≡ 0
   flags : (k : ℕ) → k < 7 → get_or s (260 + k) 0 < 2
 
-valid-facts : (s : List ℕ) → isValid s ≡ true → Valid s
-unfolding isValid
-valid-facts s e =
+valid_facts : (s : List ℕ) → is_valid s ≡ true → Valid s
+unfolding is_valid
+valid_facts s e =
     let p : (eqb (length s) 280 ≡ true)
-    × (leb (get_or s 259 0) 4 && (eqb (get_or s 267 0) 0 && every (isFlag s) 7) ≡ true) = (and-eq-true_iff _ _).0 e in
-    let q : (leb (get_or s 259 0) 4 ≡ true) × (eqb (get_or s 267 0) 0 && every (isFlag s) 7 ≡ true) =
+    × (leb (get_or s 259 0) 4 && (eqb (get_or s 267 0) 0 && every (is_flag s) 7) ≡ true) = (and-eq-true_iff _ _).0 e in
+    let q : (leb (get_or s 259 0) 4 ≡ true) × (eqb (get_or s 267 0) 0 && every (is_flag s) 7 ≡ true) =
     (and-eq-true_iff _ _).0 p.1 in
-    let r : (eqb (get_or s 267 0) 0 ≡ true) × (every (isFlag s) 7 ≡ true) = (and-eq-true_iff _ _).0 q.1 in
+    let r : (eqb (get_or s 267 0) 0 ≡ true) × (every (is_flag s) 7 ≡ true) = (and-eq-true_iff _ _).0 q.1 in
     record {
       mode = leb-true (get_or s 259 0) 4 q.0;
       nought = eqb-true (get_or s 267 0) 0 r.0;
-      flags = λ k h. ltb-true (get_or s (260 + k) 0) 2 (every_holds (isFlag s) 7 r.1 k h);
+      flags = λ k h. ltb-true (get_or s (260 + k) 0) 2 (every_holds (is_flag s) 7 r.1 k h);
     }
 
-packed-again : (s : List ℕ) → Bytes s → isValid s ≡ true → packed (machineAt s) ≡ s
-unfolding packed machineAt controlAt stackAt pairsAt controlBytes stackBytes
-packed-again s b e =
-    let t = valid-facts s e in
+packed_again : (s : List ℕ) → Bytes s → is_valid s ≡ true → packed (machine_at s) ≡ s
+unfolding packed machine_at control_at stack_at pairs_at control_bytes stack_bytes
+packed_again s b e =
+    let t = valid_facts s e in
     let flags = t.flags in
     let whole : take 256 s ++ listed s 256 24 ≡ s =
-    rw (← elements s 256 24 (valid-length s e)) (take-append-drop 256 s) in
+    rw (← elements s 256 24 (valid_length s e)) (take-append-drop 256 s) in
     rw (
-      low-back (get_or s 256 0) (get_or s 257 0) (b 256),
-      high-back (get_or s 256 0) (get_or s 257 0) (b 256),
-      low-back (get_or s 268 0) (get_or s 269 0) (b 268),
-      high-back (get_or s 268 0) (get_or s 269 0) (b 268),
-      low-back (get_or s 270 0) (get_or s 271 0) (b 270),
-      high-back (get_or s 270 0) (get_or s 271 0) (b 270),
-      low-back (get_or s 272 0) (get_or s 273 0) (b 272),
-      high-back (get_or s 272 0) (get_or s 273 0) (b 272),
-      low-back (get_or s 274 0) (get_or s 275 0) (b 274),
-      high-back (get_or s 274 0) (get_or s 275 0) (b 274),
-      low-back (get_or s 276 0) (get_or s 277 0) (b 276),
-      high-back (get_or s 276 0) (get_or s 277 0) (b 276),
-      low-back (get_or s 278 0) (get_or s 279 0) (b 278),
-      high-back (get_or s 278 0) (get_or s 279 0) (b 278),
-      mode-back (get_or s 259 0) t.mode,
-      flag-back (get_or s 260 0) (flags 0 (omega arith)),
-      flag-back (get_or s 261 0) (flags 1 (omega arith)),
-      flag-back (get_or s 262 0) (flags 2 (omega arith)),
-      flag-back (get_or s 263 0) (flags 3 (omega arith)),
-      flag-back (get_or s 264 0) (flags 4 (omega arith)),
-      flag-back (get_or s 265 0) (flags 5 (omega arith)),
-      flag-back (get_or s 266 0) (flags 6 (omega arith)),
+      low_back (get_or s 256 0) (get_or s 257 0) (b 256),
+      high_back (get_or s 256 0) (get_or s 257 0) (b 256),
+      low_back (get_or s 268 0) (get_or s 269 0) (b 268),
+      high_back (get_or s 268 0) (get_or s 269 0) (b 268),
+      low_back (get_or s 270 0) (get_or s 271 0) (b 270),
+      high_back (get_or s 270 0) (get_or s 271 0) (b 270),
+      low_back (get_or s 272 0) (get_or s 273 0) (b 272),
+      high_back (get_or s 272 0) (get_or s 273 0) (b 272),
+      low_back (get_or s 274 0) (get_or s 275 0) (b 274),
+      high_back (get_or s 274 0) (get_or s 275 0) (b 274),
+      low_back (get_or s 276 0) (get_or s 277 0) (b 276),
+      high_back (get_or s 276 0) (get_or s 277 0) (b 276),
+      low_back (get_or s 278 0) (get_or s 279 0) (b 278),
+      high_back (get_or s 278 0) (get_or s 279 0) (b 278),
+      mode_back (get_or s 259 0) t.mode,
+      flag_back (get_or s 260 0) (flags 0 (omega arith)),
+      flag_back (get_or s 261 0) (flags 1 (omega arith)),
+      flag_back (get_or s 262 0) (flags 2 (omega arith)),
+      flag_back (get_or s 263 0) (flags 3 (omega arith)),
+      flag_back (get_or s 264 0) (flags 4 (omega arith)),
+      flag_back (get_or s 265 0) (flags 5 (omega arith)),
+      flag_back (get_or s 266 0) (flags 6 (omega arith)),
       append_assoc,
     )
     (rw t.nought at whole)
 
 module _ (m : Machine) (z : Sized m) where
   tail : List ℕ
-  tail = controlBytes m.control m.flags ++ stackBytes m.stack
+  tail = control_bytes m.control m.flags ++ stack_bytes m.stack
 
   at : (n : ℕ) → get_or (m.bytes ++ tail) (256 + n) 0 ≡ get_or tail n 0
   at n = rw (← z.bytes) (get_or-append-add m.bytes tail n 0)
 
-  is-valid : isValid (m.bytes ++ tail) ≡ true
-  unfolding tail isValid every controlBytes stackBytes
-  is-valid =
+  is_valid_lem : is_valid (m.bytes ++ tail) ≡ true
+  unfolding tail is_valid every control_bytes stack_bytes
+  is_valid_lem =
       rw (
         length-append,
         z.bytes,
@@ -167,9 +167,9 @@ module _ (m : Machine) (z : Sized m) where
         flag_small m.flags.nmi.carry,
       )
 
-  is-machine : machineAt (m.bytes ++ tail) ≡ m
-  unfolding tail machineAt controlAt stackAt pairsAt controlBytes stackBytes
-  is-machine =
+  is_machine : machine_at (m.bytes ++ tail) ≡ m
+  unfolding tail machine_at control_at stack_at pairs_at control_bytes stack_bytes
+  is_machine =
       let six : listed m.stack 0 6 ≡ m.stack = sym (elements m.stack 0 6 z.stack) in
       rw (
         at 0,
@@ -195,70 +195,70 @@ module _ (m : Machine) (z : Sized m) where
         at 21,
         at 22,
         at 23,
-        number-back m.control.pc,
-        number-back (get_or m.stack 0 0),
-        number-back (get_or m.stack 1 0),
-        number-back (get_or m.stack 2 0),
-        number-back (get_or m.stack 3 0),
-        number-back (get_or m.stack 4 0),
-        number-back (get_or m.stack 5 0),
-        back-mode m.control.mode,
-        back-flag m.control.asleep,
-        back-flag m.flags.normal.zero,
-        back-flag m.flags.normal.carry,
-        back-flag m.flags.interrupt.zero,
-        back-flag m.flags.interrupt.carry,
-        back-flag m.flags.nmi.zero,
-        back-flag m.flags.nmi.carry,
+        number_back m.control.pc,
+        number_back (get_or m.stack 0 0),
+        number_back (get_or m.stack 1 0),
+        number_back (get_or m.stack 2 0),
+        number_back (get_or m.stack 3 0),
+        number_back (get_or m.stack 4 0),
+        number_back (get_or m.stack 5 0),
+        back_mode m.control.mode,
+        back_flag m.control.asleep,
+        back_flag m.flags.normal.zero,
+        back_flag m.flags.normal.carry,
+        back_flag m.flags.interrupt.zero,
+        back_flag m.flags.interrupt.carry,
+        back_flag m.flags.nmi.zero,
+        back_flag m.flags.nmi.carry,
         take_at m.bytes _ 256 z.bytes,
         six,
       )
 
-  unpacked-again : unpacked (packed m) ≡ valid m
+  unpacked_again : unpacked (packed m) ≡ valid m
   unfolding unpacked packed tail
-  unpacked-again = rw (append_assoc, is-valid, is-machine)
+  unpacked_again = rw (append_assoc, is_valid_lem, is_machine)
 
-valid-is : (s : List ℕ) (b : Bool) (m : Machine) → cond b (valid (machineAt s)) invalid ≡ valid m
-    → (b ≡ true) × (machineAt s ≡ m)
-valid-is s true m e = (refl, cc)
-valid-is s false m e = let z : ◌≡◌ {A = ℕ} 0 1 = cc in absurd (omega arith)
+valid_is : (s : List ℕ) (b : Bool) (m : Machine) → cond b (valid (machine_at s)) invalid ≡ valid m
+    → (b ≡ true) × (machine_at s ≡ m)
+valid_is s true m e = (refl, cc)
+valid_is s false m e = let z : ◌≡◌ {A = ℕ} 0 1 = cc in absurd (omega arith)
 
-pub packing-inverts : PackingInverts
+pub packing_inverts : PackingInverts
 unfolding unpacked
-packing-inverts = record {
-  unpack-pack = unpacked-again;
+packing_inverts = record {
+  unpack-pack = unpacked_again;
   pack-unpack = λ s b m e.
-      let p : (isValid s ≡ true) × (machineAt s ≡ m) = valid-is s (isValid s) m e in
-      rw (← p.1) (packed-again s b p.0);
+      let p : (is_valid s ≡ true) × (machine_at s ≡ m) = valid_is s (is_valid s) m e in
+      rw (← p.1) (packed_again s b p.0);
 }
 
-pub word-reads : WordReads
-word-reads = record {
+pub word_reads : WordReads
+word_reads = record {
   number = λ n a v h k. omega arith;
   address = λ n a v h k. omega arith;
   value = λ n a v h k. omega arith;
 }
 
-pub size-reads : SizeReads
-size-reads = record { width = λ w s h. omega arith; steps = λ w s h. omega arith }
+pub size_reads : SizeReads
+size_reads = record { width = λ w s h. omega arith; steps = λ w s h. omega arith }
 
 -- by what was read
-origin-value : (v : ℕ) (r : OriginRead) → v < 0x100 → originWord v r / 0x1000000 % 0x100 ≡ v
-origin-value v r h = omega arith
+origin_value : (v : ℕ) (r : OriginRead) → v < 0x100 → origin_word v r / 0x1000000 % 0x100 ≡ v
+origin_value v r h = omega arith
 
-origin-number : (v : ℕ) (r : OriginRead) → v < 0x100 → originWord v r / 0x100000000 % 0x100 ≡ originNumber r
-origin-number v Nothing h = omega arith
-origin-number v (From Ram) h = omega arith
-origin-number v (From Register) h = omega arith
-origin-number v (From (Rom address)) h = omega arith
-origin-number v (From NoRom) h = omega arith
+origin_number_lem : (v : ℕ) (r : OriginRead) → v < 0x100 → origin_word v r / 0x100000000 % 0x100 ≡ origin_number r
+origin_number_lem v Nothing h = omega arith
+origin_number_lem v (From Ram) h = omega arith
+origin_number_lem v (From Register) h = omega arith
+origin_number_lem v (From (Rom address)) h = omega arith
+origin_number_lem v (From NoRom) h = omega arith
 
-origin-address : (v : ℕ) (r : OriginRead) → v < 0x100 → originWord v r / 0x10000000000 ≡ romAddress r
-origin-address v Nothing h = omega arith
-origin-address v (From Ram) h = omega arith
-origin-address v (From Register) h = omega arith
-origin-address v (From (Rom address)) h = omega arith
-origin-address v (From NoRom) h = omega arith
+origin_address : (v : ℕ) (r : OriginRead) → v < 0x100 → origin_word v r / 0x10000000000 ≡ rom_address r
+origin_address v Nothing h = omega arith
+origin_address v (From Ram) h = omega arith
+origin_address v (From Register) h = omega arith
+origin_address v (From (Rom address)) h = omega arith
+origin_address v (From NoRom) h = omega arith
 
-pub origin-reads : OriginReads
-origin-reads = record { value = origin-value; origin = origin-number; address = origin-address }
+pub origin_reads : OriginReads
+origin_reads = record { value = origin_value; origin = origin_number_lem; address = origin_address }

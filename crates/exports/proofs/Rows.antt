@@ -9,7 +9,7 @@ use Rattle.isa.specs.declared.Operand.TheVariants.{Direct, Short, ThroughX, Thro
 use Rattle.isa.specs.declared.Instruction.{Instruction}
 use Rattle.isa.specs.declared.Instruction.TheVariants as I
 use Rattle.exports.specs.Every.{every}
-use Rattle.exports.specs.Fields.{operand_row, packedInstruction, agree}
+use Rattle.exports.specs.Fields.{operand_row, packed_instruction, agree}
 
 -- ten bytes written at the front
 ten : (out : List ℕ) (a b c d e f g bytes cycles : ℕ) → 10 ≤ length out
@@ -54,14 +54,14 @@ written out (f0 ∷ f1 ∷ f2 ∷ f3 ∷ f4 ∷ f5 ∷ f6 ∷ []) bytes cycles h
 written out (f0 ∷ f1 ∷ f2 ∷ f3 ∷ f4 ∷ f5 ∷ f6 ∷ x ∷ row) bytes cycles h s = absurd (omega arith)
 
 -- every row has seven fields
-on-seven : (form : ℕ) (o : Operand) → length (operand_row form o) ≡ 7
-on-seven form (Direct a) = refl
-on-seven form (Short n) = refl
-on-seven form ThroughX = refl
-on-seven form ThroughY = refl
+on_seven : (form : ℕ) (o : Operand) → length (operand_row form o) ≡ 7
+on_seven form (Direct a) = refl
+on_seven form (Short n) = refl
+on_seven form ThroughX = refl
+on_seven form ThroughY = refl
 
-pub seven : (i : Instruction) → length (packedInstruction i) ≡ 7
-unfolding packedInstruction
+pub seven : (i : Instruction) → length (packed_instruction i) ≡ 7
+unfolding packed_instruction
 seven (I.Jrnz d) = refl
 seven (I.Jrnc d) = refl
 seven (I.Jrz d) = refl
@@ -72,19 +72,19 @@ seven (I.Jrr b a d) = refl
 seven (I.Jrs b a d) = refl
 seven (I.Res b a) = refl
 seven (I.Set b a) = refl
-seven (I.LoadA o) = on-seven 10 o
-seven (I.StoreA o) = on-seven 11 o
+seven (I.LoadA o) = on_seven 10 o
+seven (I.StoreA o) = on_seven 11 o
 seven (I.LoadAImmediate n) = refl
 seven (I.LoadImmediate a n) = refl
-seven (I.Inc o) = on-seven 14 o
-seven (I.Dec o) = on-seven 15 o
-seven (I.Add o) = on-seven 16 o
+seven (I.Inc o) = on_seven 14 o
+seven (I.Dec o) = on_seven 15 o
+seven (I.Add o) = on_seven 16 o
 seven (I.AddImmediate n) = refl
-seven (I.Sub o) = on-seven 18 o
+seven (I.Sub o) = on_seven 18 o
 seven (I.SubImmediate n) = refl
-seven (I.And o) = on-seven 20 o
+seven (I.And o) = on_seven 20 o
 seven (I.AndImmediate n) = refl
-seven (I.Cp o) = on-seven 22 o
+seven (I.Cp o) = on_seven 22 o
 seven (I.CpImmediate n) = refl
 seven I.Com = refl
 seven I.Rlc = refl
@@ -107,6 +107,6 @@ begins s (f0 ∷ f1 ∷ f2 ∷ f3 ∷ f4 ∷ f5 ∷ []) more rest h = absurd (om
 begins s (f0 ∷ f1 ∷ f2 ∷ f3 ∷ f4 ∷ f5 ∷ f6 ∷ []) more rest h = refl
 begins s (f0 ∷ f1 ∷ f2 ∷ f3 ∷ f4 ∷ f5 ∷ f6 ∷ x ∷ row) more rest h = absurd (omega arith)
 
-pub begins-with : (s own row more rest : List ℕ) → own ≡ (row ++ more) ++ rest → length row ≡ 7
+pub begins_with : (s own row more rest : List ℕ) → own ≡ (row ++ more) ++ rest → length row ≡ 7
     → every (agree s own) 7 ≡ every (agree s row) 7
-begins-with s own row more rest e h = ap (λ l. every (agree s l) 7) e ∙ begins s row more rest h
+begins_with s own row more rest e h = ap (λ l. every (agree s l) 7) e ∙ begins s row more rest h

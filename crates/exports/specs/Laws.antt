@@ -3,34 +3,34 @@
 use Rattle.std.specs.Prelude.{ℕ, ◌<◌, ◌/◌, ◌%◌, ◌≡◌, ◌≢◌, true, not, ◌&&◌, List, ◌++◌, leb, ℤ, pos, length, get_or, take, drop}
 use Rattle.isa.specs.Refusals.{done}
 use Rattle.isa.specs.RoundTrip.{Bytes}
-use Rattle.isa.specs.Rom.{isImage}
-use Rattle.isa.specs.Encode.{inField}
+use Rattle.isa.specs.Rom.{is_image}
+use Rattle.isa.specs.Encode.{in_field}
 use Rattle.isa.specs.declared.Instruction.{Instruction}
 use Rattle.isa.specs.declared.Instruction.TheVariants as I
 use Rattle.machine.specs.declared.Machine.{Machine}
-use Rattle.machine.specs.State.{isWellFormed}
+use Rattle.machine.specs.State.{is_well_formed}
 use Rattle.machine.specs.Step.{step_of}
-use Rattle.machine.specs.Run.{steps_of, requestsFit, run_of}
+use Rattle.machine.specs.Run.{steps_of, requests_fit, run_of}
 use Rattle.machine.specs.Laws.{StopNumber}
 use Rattle.data.specs.declared.OriginRead.{OriginRead}
-use Rattle.gauge.specs.Sleep.{sizeAs}
-use Rattle.playback.specs.Play.{Playing, playOf}
-use Rattle.exports.specs.Answers.{word, answerWord, originNumber, romAddress, originWord, sizeWord, isRefusedRun}
+use Rattle.gauge.specs.Sleep.{size_as}
+use Rattle.playback.specs.Play.{Playing, play_of}
+use Rattle.exports.specs.Answers.{word, answer_word, origin_number, rom_address, origin_word, size_word, is_refused_run}
 use Rattle.exports.specs.States.{valid, unpacked, packed}
-use Rattle.exports.specs.Fields.{packedInstruction, unpackedInstruction}
+use Rattle.exports.specs.Fields.{packed_instruction, unpacked_instruction}
 use Rattle.exports.specs.declared.fields.InstructionRead.TheVariants.{Is}
 use Rattle.exports.specs.Lent.{
   Lent,
   LentRun,
-  reportBytes,
-  decodeLent,
-  writeLent,
-  resetLent,
-  storeLent,
-  stepLent,
-  runLent,
-  playLent,
-  jobLent,
+  report_bytes,
+  decode_lent,
+  write_lent,
+  reset_lent,
+  store_lent,
+  step_lent,
+  run_lent,
+  play_lent,
+  job_lent,
   MakeLent,
 }
 
@@ -42,49 +42,49 @@ pub record Sized (m : Machine) : Type 0 where
 -- packing and unpacking a machine undo each other
 -- proved by packing-inverts, proofs/Inverse
 pub record PackingInverts : Type 0 where
-  pub unpack-pack : (m : Machine) → Sized m → unpacked (packed m) ≡ valid m
-  pub pack-unpack : (s : List ℕ) → Bytes s → (m : Machine) → unpacked s ≡ valid m → packed m ≡ s
+  pub unpack_pack : (m : Machine) → Sized m → unpacked (packed m) ≡ valid m
+  pub pack_unpack : (s : List ℕ) → Bytes s → (m : Machine) → unpacked s ≡ valid m → packed m ≡ s
 
 -- the displacement of a jump, 0 where there is none
-abbrev pub displacementOf : Instruction → ℤ
-displacementOf (I.Jrnz d) = d
-displacementOf (I.Jrnc d) = d
-displacementOf (I.Jrz d) = d
-displacementOf (I.Jrc d) = d
-displacementOf (I.Jrr bit a d) = d
-displacementOf (I.Jrs bit a d) = d
-displacementOf (I.Call target) = pos 0
-displacementOf (I.Jp target) = pos 0
-displacementOf (I.Res bit a) = pos 0
-displacementOf (I.Set bit a) = pos 0
-displacementOf (I.LoadA o) = pos 0
-displacementOf (I.StoreA o) = pos 0
-displacementOf (I.LoadAImmediate n) = pos 0
-displacementOf (I.LoadImmediate a n) = pos 0
-displacementOf (I.Inc o) = pos 0
-displacementOf (I.Dec o) = pos 0
-displacementOf (I.Add o) = pos 0
-displacementOf (I.AddImmediate n) = pos 0
-displacementOf (I.Sub o) = pos 0
-displacementOf (I.SubImmediate n) = pos 0
-displacementOf (I.And o) = pos 0
-displacementOf (I.AndImmediate n) = pos 0
-displacementOf (I.Cp o) = pos 0
-displacementOf (I.CpImmediate n) = pos 0
-displacementOf I.Com = pos 0
-displacementOf I.Rlc = pos 0
-displacementOf I.Ret = pos 0
-displacementOf I.Reti = pos 0
-displacementOf I.Stop = pos 0
-displacementOf I.Wait = pos 0
+abbrev pub displacement_of : Instruction → ℤ
+displacement_of (I.Jrnz d) = d
+displacement_of (I.Jrnc d) = d
+displacement_of (I.Jrz d) = d
+displacement_of (I.Jrc d) = d
+displacement_of (I.Jrr bit a d) = d
+displacement_of (I.Jrs bit a d) = d
+displacement_of (I.Call target) = pos 0
+displacement_of (I.Jp target) = pos 0
+displacement_of (I.Res bit a) = pos 0
+displacement_of (I.Set bit a) = pos 0
+displacement_of (I.LoadA o) = pos 0
+displacement_of (I.StoreA o) = pos 0
+displacement_of (I.LoadAImmediate n) = pos 0
+displacement_of (I.LoadImmediate a n) = pos 0
+displacement_of (I.Inc o) = pos 0
+displacement_of (I.Dec o) = pos 0
+displacement_of (I.Add o) = pos 0
+displacement_of (I.AddImmediate n) = pos 0
+displacement_of (I.Sub o) = pos 0
+displacement_of (I.SubImmediate n) = pos 0
+displacement_of (I.And o) = pos 0
+displacement_of (I.AndImmediate n) = pos 0
+displacement_of (I.Cp o) = pos 0
+displacement_of (I.CpImmediate n) = pos 0
+displacement_of I.Com = pos 0
+displacement_of I.Rlc = pos 0
+displacement_of I.Ret = pos 0
+displacement_of I.Reti = pos 0
+displacement_of I.Stop = pos 0
+displacement_of I.Wait = pos 0
 
 -- fields are read as the one instruction whose row they are
 -- proved by fields-invert, proofs/Reading
 pub record FieldsInvert : Type 0 where
-  pub read-row :
-      (i : Instruction) → inField 8 (displacementOf i) ≡ true → (more : List ℕ)
-      → unpackedInstruction (packedInstruction i ++ more) ≡ Is i
-  pub row_read : (s : List ℕ) (i : Instruction) → unpackedInstruction s ≡ Is i → take 7 s ≡ packedInstruction i
+  pub read_row :
+      (i : Instruction) → in_field 8 (displacement_of i) ≡ true → (more : List ℕ)
+      → unpacked_instruction (packed_instruction i ++ more) ≡ Is i
+  pub row_read : (s : List ℕ) (i : Instruction) → unpacked_instruction s ≡ Is i → take 7 s ≡ packed_instruction i
 
 -- bits 0 to 7, 8 to 23 and from 24
 -- proved by word-reads, proofs/Inverse
@@ -96,23 +96,23 @@ pub record WordReads : Type 0 where
 -- bits 24 to 39 the width, bits 40 to 55 the steps
 -- proved by size-reads, proofs/Inverse
 pub record SizeReads : Type 0 where
-  pub width : (w s : ℕ) → w < 0x10000 → sizeWord (done (sizeAs w s)) / 0x1000000 % 0x10000 ≡ w
-  pub steps : (w s : ℕ) → w < 0x10000 → sizeWord (done (sizeAs w s)) / 0x10000000000 ≡ s
+  pub width : (w s : ℕ) → w < 0x10000 → size_word (done (size_as w s)) / 0x1000000 % 0x10000 ≡ w
+  pub steps : (w s : ℕ) → w < 0x10000 → size_word (done (size_as w s)) / 0x10000000000 ≡ s
 
 -- bits 24 to 31 the byte or the cycles, bits 32 to 39 the origin's number, from bit 40 the ROM address
 -- proved by origin-reads, proofs/Inverse
 pub record OriginReads : Type 0 where
-  pub value : (v : ℕ) (r : OriginRead) → v < 0x100 → originWord v r / 0x1000000 % 0x100 ≡ v
-  pub origin : (v : ℕ) (r : OriginRead) → v < 0x100 → originWord v r / 0x100000000 % 0x100 ≡ originNumber r
-  pub address : (v : ℕ) (r : OriginRead) → v < 0x100 → originWord v r / 0x10000000000 ≡ romAddress r
+  pub value : (v : ℕ) (r : OriginRead) → v < 0x100 → origin_word v r / 0x1000000 % 0x100 ≡ v
+  pub origin : (v : ℕ) (r : OriginRead) → v < 0x100 → origin_word v r / 0x100000000 % 0x100 ≡ origin_number r
+  pub address : (v : ℕ) (r : OriginRead) → v < 0x100 → origin_word v r / 0x10000000000 ≡ rom_address r
 
 -- a run is refused exactly where one of its own refusals applies: 1, 2, 12, 11
 -- proved by refused-runs, proofs/Runs
 abbrev pub RefusedRuns : Type 0
 RefusedRuns =
     (image : List ℕ) → Bytes image → (m : Machine) (requests : List ℕ) (n : ℕ) →
-    isRefusedRun (run_of image m requests n).report.ending
-    ≡ not (isImage (length image) && (isWellFormed m && (leb n 65535 && requestsFit requests n)))
+    is_refused_run (run_of image m requests n).report.ending
+    ≡ not (is_image (length image) && (is_well_formed m && (leb n 65535 && requests_fit requests n)))
 
 -- the number of an answer, 0 where nothing was refused or stopped
 abbrev pub number_of : (answer : ℕ) → ℕ
@@ -133,10 +133,10 @@ pub record KeepsSteps (image s requests : List ℕ) (n : ℕ) (before : List ℕ
   pub completed : (steps_of image requests machine steps).report.ending ≡ done tt
   pub counted : (steps_of image requests machine steps).report.steps ≡ steps
   pub state : l.state ≡ packed (steps_of image requests machine steps).machine
-  pub report : l.report ≡ reportBytes steps (steps_of image requests machine steps).report.cycles ++ drop 8 before
+  pub report : l.report ≡ report_bytes steps (steps_of image requests machine steps).report.cycles ++ drop 8 before
   pub stop :
       l.answer
-      ≡ answerWord (step_of image (steps_of image requests machine steps).machine (get_or requests steps 0)).answer
+      ≡ answer_word (step_of image (steps_of image requests machine steps).machine (get_or requests steps 0)).answer
 
 -- a refused run, 1, 2, 12 or 11, and one without room for its report, 9, leave state and report; a stop, 4 to 7, keeps
 -- the steps before it
@@ -155,9 +155,9 @@ pub data EntryNumber : (number : ℕ) → Type 0 where
 -- the record was played: state and report are the machine, the entries and the cycles answered
 pub record KeepsPlayed (image recording before : List ℕ) (l : LentRun) : Type 0 where
   pub playing : Playing
-  pub plays : playOf image recording ≡ done playing
+  pub plays : play_of image recording ≡ done playing
   pub state : l.state ≡ packed playing.machine
-  pub report : l.report ≡ reportBytes playing.entries playing.cycles ++ drop 8 before
+  pub report : l.report ≡ report_bytes playing.entries playing.cycles ++ drop 8 before
 
 -- a record that is not played, 1 and 27 to 30, a state of another length, 2, and a short report, 9, leave state and
 -- report; a whole record, 0, and one that an entry ended leave what was played
@@ -172,17 +172,17 @@ pub record PlayLeaves (image recording s before : List ℕ) (l : LentRun) : Type
 -- line, with 9.
 -- proved by refusals-leave, proofs/RefusalsLeave
 pub record RefusalsLeave : Type 0 where
-  pub by-decode : (image : List ℕ) (address bank : ℕ) (out : List ℕ) → Leaves out (decodeLent image address bank out)
-  pub by-write : (fields out : List ℕ) → Leaves out (writeLent fields out)
-  pub by-reset : (s : List ℕ) → Leaves s (resetLent s)
-  pub by-store : (s : List ℕ) → Bytes s → (a value : ℕ) → Leaves s (storeLent s a value)
-  pub by-step : (image s : List ℕ) → Bytes s → (request : ℕ) → Leaves s (stepLent image s request)
-  pub by-run :
+  pub by_decode : (image : List ℕ) (address bank : ℕ) (out : List ℕ) → Leaves out (decode_lent image address bank out)
+  pub by_write : (fields out : List ℕ) → Leaves out (write_lent fields out)
+  pub by_reset : (s : List ℕ) → Leaves s (reset_lent s)
+  pub by_store : (s : List ℕ) → Bytes s → (a value : ℕ) → Leaves s (store_lent s a value)
+  pub by_step : (image s : List ℕ) → Bytes s → (request : ℕ) → Leaves s (step_lent image s request)
+  pub by_run :
       (image s requests report : List ℕ) → Bytes image → (n : ℕ) →
-      RunLeaves image s requests n report (runLent image s requests n report)
-  pub by-play :
+      RunLeaves image s requests n report (run_lent image s requests n report)
+  pub by_play :
       (image recording s report : List ℕ) → Bytes image →
-      PlayLeaves image recording s report (playLent image recording s report)
-  pub by-job : (job line : List ℕ) → Leaves line (jobLent job line)
-  pub by-make :
+      PlayLeaves image recording s report (play_lent image recording s report)
+  pub by_job : (job line : List ℕ) → Leaves line (job_lent job line)
+  pub by_make :
       (image : List ℕ) (wired : ℕ) (out : List ℕ) (l : Lent) → MakeLent image wired out l → Leaves out l

@@ -1,25 +1,25 @@
 -- What each exported function answers, and what it leaves in the buffers that it is lent.
 use Rattle.std.specs.Prelude.{ℕ, ◌/◌, ◌%◌, ◌≡◌, cond, ◌&&◌, List, [], ◌∷◌, ◌++◌, length, drop, leb, eqb}
 use Rattle.isa.specs.Refusals.{plain, Answer, done, refused, unless}
-use Rattle.isa.specs.Decode.{decodeIn}
+use Rattle.isa.specs.Decode.{decode_in}
 use Rattle.isa.specs.Decode as decode
-use Rattle.isa.specs.Write.{outcome, bufferAfter}
-use Rattle.isa.specs.Encode.{encodeOf}
+use Rattle.isa.specs.Write.{outcome, buffer_after}
+use Rattle.isa.specs.Encode.{encode_of}
 use Rattle.data.specs.declared.OriginRead.{OriginRead}
-use Rattle.machine.specs.State.{HostStore, resetOf, hostStoreOf}
+use Rattle.machine.specs.State.{HostStore, reset_of, host_store_of}
 use Rattle.machine.specs.Step.{Step, step_of}
 use Rattle.machine.specs.Run.{Run, run_of}
 use Rattle.machine.specs.Reading.{reading_of}
-use Rattle.machine.specs.Operands.{stepReadOf}
+use Rattle.machine.specs.Operands.{step_read_of}
 use Rattle.maker.specs.Make.{Makes}
-use Rattle.playback.specs.Play.{Playing, playOf}
+use Rattle.playback.specs.Play.{Playing, play_of}
 use Rattle.jobs.specs.CheckJob.{job_of}
 use Rattle.jobs.specs.Line.{line_of}
 use Rattle.jobs.specs.Answer.{fits}
-use Rattle.exports.specs.Answers.{word, refusalWord, invalidWord, answerWord, stepWord, readingWord}
-use Rattle.exports.specs.Answers.{endedWord, isRefusedRun}
+use Rattle.exports.specs.Answers.{word, refusal_word, invalid_word, answer_word, step_word, reading_word}
+use Rattle.exports.specs.Answers.{ended_word, is_refused_run}
 use Rattle.exports.specs.States.{Unpacked, valid, invalid, unpacked, packed}
-use Rattle.exports.specs.Fields.{decodedRow, unpackedInstruction}
+use Rattle.exports.specs.Fields.{decoded_row, unpacked_instruction}
 use Rattle.exports.specs.declared.fields.InstructionRead.{InstructionRead}
 use Rattle.exports.specs.declared.fields.InstructionRead.TheVariants.{Is, Unreadable}
 
@@ -32,43 +32,43 @@ abbrev pub lent : (answer : ℕ) → (buffer : List ℕ) → Lent
 lent answer buffer = record { answer = answer; buffer = buffer }
 
 -- an invalid state is refused with 2
-abbrev pub resetBy : List ℕ → Unpacked → Lent
-resetBy s (valid m) = lent (word 0 0 0) (packed (resetOf m))
-resetBy s invalid = lent (refusalWord (plain 2)) s
+abbrev pub reset_by : List ℕ → Unpacked → Lent
+reset_by s (valid m) = lent (word 0 0 0) (packed (reset_of m))
+reset_by s invalid = lent (refusal_word (plain 2)) s
 
-unfoldable pub resetLent : List ℕ → Lent
-resetLent s = resetBy s (unpacked s)
+unfoldable pub reset_lent : List ℕ → Lent
+reset_lent s = reset_by s (unpacked s)
 
-abbrev pub storedLent : HostStore → Lent
-storedLent r = lent (endedWord r.ending) (packed r.machine)
+abbrev pub stored_lent : HostStore → Lent
+stored_lent r = lent (ended_word r.ending) (packed r.machine)
 
-abbrev pub storeBy : List ℕ → (a value : ℕ) → Unpacked → Lent
-storeBy s a value (valid m) = storedLent (hostStoreOf m a value)
-storeBy s a value invalid = lent (refusalWord (plain 2)) s
+abbrev pub store_by : List ℕ → (a value : ℕ) → Unpacked → Lent
+store_by s a value (valid m) = stored_lent (host_store_of m a value)
+store_by s a value invalid = lent (refusal_word (plain 2)) s
 
 -- an address or a value beyond its byte is refused with 8, first
-unfoldable pub storeLent : List ℕ → (a value : ℕ) → Lent
-storeLent s a value =
-    cond (leb a 255 && leb value 255) (storeBy s a value (unpacked s)) (lent (refusalWord (plain 8)) s)
+unfoldable pub store_lent : List ℕ → (a value : ℕ) → Lent
+store_lent s a value =
+    cond (leb a 255 && leb value 255) (store_by s a value (unpacked s)) (lent (refusal_word (plain 8)) s)
 
-abbrev pub steppedLent : Step → OriginRead → Lent
-steppedLent r read = lent (stepWord r.answer read) (packed r.machine)
+abbrev pub stepped_lent : Step → OriginRead → Lent
+stepped_lent r read = lent (step_word r.answer read) (packed r.machine)
 
-abbrev pub stepBy : (image s : List ℕ) → (request : ℕ) → Unpacked → Lent
-stepBy image s request (valid m) = steppedLent (step_of image m request) (stepReadOf image m request)
-stepBy image s request invalid = lent (invalidWord image) s
+abbrev pub step_by : (image s : List ℕ) → (request : ℕ) → Unpacked → Lent
+step_by image s request (valid m) = stepped_lent (step_of image m request) (step_read_of image m request)
+step_by image s request invalid = lent (invalid_word image) s
 
-unfoldable pub stepLent : (image s : List ℕ) → (request : ℕ) → Lent
-stepLent image s request = stepBy image s request (unpacked s)
+unfoldable pub step_lent : (image s : List ℕ) → (request : ℕ) → Lent
+step_lent image s request = step_by image s request (unpacked s)
 
 -- W-203: a reading is lent the state only to look at; an invalid one is refused with 2, after 1
 abbrev pub read_by : (image : List ℕ) → (a : ℕ) → Unpacked → ℕ
-read_by image a (valid m) = readingWord (reading_of image m a)
-read_by image a invalid = invalidWord image
+read_by image a (valid m) = reading_word (reading_of image m a)
+read_by image a invalid = invalid_word image
 
 -- an address beyond its byte is refused with 8, first
-unfoldable pub readWord : (image s : List ℕ) → (a : ℕ) → ℕ
-readWord image s a = cond (leb a 255) (read_by image a (unpacked s)) (refusalWord (plain 8))
+unfoldable pub read_word : (image s : List ℕ) → (a : ℕ) → ℕ
+read_word image s a = cond (leb a 255) (read_by image a (unpacked s)) (refusal_word (plain 8))
 
 -- the answer of a run or a playing, and state and report after it
 pub record LentRun : Type 0 where
@@ -76,76 +76,76 @@ pub record LentRun : Type 0 where
   pub state : List ℕ
   pub report : List ℕ
 
-abbrev pub lentRun : (answer : ℕ) → (state report : List ℕ) → LentRun
-lentRun answer state report = record { answer = answer; state = state; report = report }
+abbrev pub lent_run : (answer : ℕ) → (state report : List ℕ) → LentRun
+lent_run answer state report = record { answer = answer; state = state; report = report }
 
 -- steps, or entries, and cycles, four bytes each, low byte first
-unfoldable pub reportBytes : (steps cycles : ℕ) → List ℕ
-reportBytes steps cycles =
+unfoldable pub report_bytes : (steps cycles : ℕ) → List ℕ
+report_bytes steps cycles =
     steps / 1 % 256 ∷ steps / 0x100 % 256 ∷ steps / 0x10000 % 256 ∷ steps / 0x1000000 % 256
     ∷ cycles / 1 % 256 ∷ cycles / 0x100 % 256 ∷ cycles / 0x10000 % 256 ∷ cycles / 0x1000000 % 256 ∷ []
 
 -- a refused run leaves both buffers, and so does one without room for its report: 9
-unfoldable pub ranLent : (s report : List ℕ) → Run → LentRun
-ranLent s report r =
-    cond (isRefusedRun r.report.ending) (lentRun (endedWord r.report.ending) s report)
+unfoldable pub ran_lent : (s report : List ℕ) → Run → LentRun
+ran_lent s report r =
+    cond (is_refused_run r.report.ending) (lent_run (ended_word r.report.ending) s report)
     (cond (leb 8 (length report))
-    (lentRun (endedWord r.report.ending) (packed r.machine)
-    (reportBytes r.report.steps r.report.cycles ++ drop 8 report))
-    (lentRun (refusalWord (plain 9)) s report))
+    (lent_run (ended_word r.report.ending) (packed r.machine)
+    (report_bytes r.report.steps r.report.cycles ++ drop 8 report))
+    (lent_run (refusal_word (plain 9)) s report))
 
 abbrev pub run_by : (image s requests : List ℕ) → (n : ℕ) → (report : List ℕ) → Unpacked → LentRun
-run_by image s requests n report (valid m) = ranLent s report (run_of image m requests n)
-run_by image s requests n report invalid = lentRun (invalidWord image) s report
+run_by image s requests n report (valid m) = ran_lent s report (run_of image m requests n)
+run_by image s requests n report invalid = lent_run (invalid_word image) s report
 
-unfoldable pub runLent : (image s requests : List ℕ) → (n : ℕ) → (report : List ℕ) → LentRun
-runLent image s requests n report = run_by image s requests n report (unpacked s)
+unfoldable pub run_lent : (image s requests : List ℕ) → (n : ℕ) → (report : List ℕ) → LentRun
+run_lent image s requests n report = run_by image s requests n report (unpacked s)
 
 -- W-206: the playing's own refusals come first and leave both buffers, and so do 2 for a state of another length and 9
 -- for a short report; else state and report are the machine, the entries and the cycles answered, with the word of the
 -- entry that ended the playing
-unfoldable pub playedLent : (s report : List ℕ) → Answer Playing → LentRun
-playedLent s report (done p) =
-    unless (eqb (length s) 280) (lentRun (refusalWord (plain 2)) s report)
-    (unless (leb 8 (length report)) (lentRun (refusalWord (plain 9)) s report)
-    (lentRun (endedWord p.ending) (packed p.machine)
-    (reportBytes p.entries p.cycles ++ drop 8 report)))
-playedLent s report (refused n) = lentRun (refusalWord n) s report
+unfoldable pub played_lent : (s report : List ℕ) → Answer Playing → LentRun
+played_lent s report (done p) =
+    unless (eqb (length s) 280) (lent_run (refusal_word (plain 2)) s report)
+    (unless (leb 8 (length report)) (lent_run (refusal_word (plain 9)) s report)
+    (lent_run (ended_word p.ending) (packed p.machine)
+    (report_bytes p.entries p.cycles ++ drop 8 report)))
+played_lent s report (refused n) = lent_run (refusal_word n) s report
 
-unfoldable pub playLent : (image recording s report : List ℕ) → LentRun
-playLent image recording s report = playedLent s report (playOf image recording)
+unfoldable pub play_lent : (image recording s report : List ℕ) → LentRun
+play_lent image recording s report = played_lent s report (play_of image recording)
 
 -- decoding's own refusals come first, then 9
-unfoldable pub decodedLent : List ℕ → Answer decode.Decoding → Lent
-decodedLent out (done (decode.instruction i bytes cycles)) =
-    cond (leb 10 (length out)) (lent (word 0 0 bytes) (decodedRow i bytes cycles ++ drop 10 out))
-    (lent (refusalWord (plain 9)) out)
-decodedLent out (refused r) = lent (refusalWord r) out
+unfoldable pub decoded_lent : List ℕ → Answer decode.Decoding → Lent
+decoded_lent out (done (decode.instruction i bytes cycles)) =
+    cond (leb 10 (length out)) (lent (word 0 0 bytes) (decoded_row i bytes cycles ++ drop 10 out))
+    (lent (refusal_word (plain 9)) out)
+decoded_lent out (refused r) = lent (refusal_word r) out
 
 -- a bank beyond its byte is refused with 8, first
-unfoldable pub decodeLent : (image : List ℕ) → (address bank : ℕ) → (out : List ℕ) → Lent
-decodeLent image address bank out =
-    cond (leb bank 255) (decodedLent out (decodeIn image bank address)) (lent (refusalWord (plain 8)) out)
+unfoldable pub decode_lent : (image : List ℕ) → (address bank : ℕ) → (out : List ℕ) → Lent
+decode_lent image address bank out =
+    cond (leb bank 255) (decoded_lent out (decode_in image bank address)) (lent (refusal_word (plain 8)) out)
 
 -- fields that are no instruction's are refused with 8
-abbrev pub writeBy : List ℕ → InstructionRead → Lent
-writeBy out (Is i) = lent (answerWord (outcome (encodeOf i) (length out))) (bufferAfter (encodeOf i) out)
-writeBy out Unreadable = lent (refusalWord (plain 8)) out
+abbrev pub write_by : List ℕ → InstructionRead → Lent
+write_by out (Is i) = lent (answer_word (outcome (encode_of i) (length out))) (buffer_after (encode_of i) out)
+write_by out Unreadable = lent (refusal_word (plain 8)) out
 
-unfoldable pub writeLent : (fields out : List ℕ) → Lent
-writeLent fields out = writeBy out (unpackedInstruction fields)
+unfoldable pub write_lent : (fields out : List ℕ) → Lent
+write_lent fields out = write_by out (unpacked_instruction fields)
 
 -- a job's line, written from the buffer's first byte, with its length; 9 where the buffer is too short for it
-abbrev pub lineLent : (line buffer : List ℕ) → Lent
-lineLent line buffer =
+abbrev pub line_lent : (line buffer : List ℕ) → Lent
+line_lent line buffer =
     cond (fits line buffer) (lent (word 0 0 (length line)) (line ++ drop (length line) buffer))
-    (lent (refusalWord (plain 9)) buffer)
+    (lent (refusal_word (plain 9)) buffer)
 
-unfoldable pub jobLent : (job buffer : List ℕ) → Lent
-jobLent job buffer = lineLent (line_of (job_of job)) buffer
+unfoldable pub job_lent : (job buffer : List ℕ) → Lent
+job_lent job buffer = line_lent (line_of (job_of job)) buffer
 
 -- W-202: the maker's answer, with what the buffer then holds. There is one (the maker's `OneAnswer`)
 pub record MakeLent (image : List ℕ) (wired : ℕ) (out : List ℕ) (l : Lent) : Type 0 where
   pub made : Answer ℕ
   pub makes : Makes image wired out l.buffer made
-  pub answer-is : l.answer ≡ answerWord made
+  pub answer_is : l.answer ≡ answer_word made

@@ -2,16 +2,16 @@
 // a value.
 ghost use Rattle.std.specs.Prelude.{◌≡◌};
 ghost use Rattle.isa.specs.Refusals.{numbered};
-ghost use Rattle.isa.specs.Write.{outcomeOf};
+ghost use Rattle.isa.specs.Write.{outcome_of};
 ghost use Rattle.machine.specs.State.{ended_of};
 ghost use Rattle.machine.specs.Step.{answer_of};
-ghost use Rattle.machine.specs.Reading.{readAnswerOf};
+ghost use Rattle.machine.specs.Reading.{read_answer_of};
 ghost use Rattle.certificate.specs.Check.{answered};
 ghost use Rattle.maker.specs.Make.{made_of};
-ghost use Rattle.gauge.specs.Sleep.{sizingOf};
-ghost use Rattle.exports.specs.Answers.{word, refusalWord, invalidWord, answerWord, sizeWord, endedWord};
-ghost use Rattle.exports.specs.Answers.{originNumber, romAddress, originWord, stepWord, readingWord};
-ghost use Rattle.exports.specs.Answers.{isRefusedRun};
+ghost use Rattle.gauge.specs.Sleep.{sizing_of};
+ghost use Rattle.exports.specs.Answers.{word, refusal_word, invalid_word, answer_word, size_word, ended_word};
+ghost use Rattle.exports.specs.Answers.{origin_number, rom_address, origin_word, step_word, reading_word};
+ghost use Rattle.exports.specs.Answers.{is_refused_run};
 
 use certificate::Checked;
 use data::{Origin, OriginRead};
@@ -30,7 +30,7 @@ pub fn done(value: u32) -> u64
 }
 
 pub fn refused(refusal: Refusal) -> u64
-    ensures { result ≡ refusalWord (numbered refusal) }
+    ensures { result ≡ refusal_word (numbered refusal) }
 {
     match number_of(refusal) {
         Number::Plain(number) => number as u64,
@@ -40,7 +40,7 @@ pub fn refused(refusal: Refusal) -> u64
 
 // Step and run on an invalid state: 1 comes before 2.
 pub fn invalid_state(image: &[u8]) -> u64
-    ensures { result ≡ invalidWord image.now }
+    ensures { result ≡ invalid_word image.now }
 {
     if is_image_length(image.len()) {
         refused(Refusal::IllFormedMachine)
@@ -51,7 +51,7 @@ pub fn invalid_state(image: &[u8]) -> u64
 
 // An origin by number, 0 where nothing was read.
 fn origin_number(read: OriginRead) -> u8
-    ensures { result ≡ originNumber read }
+    ensures { result ≡ origin_number read }
 {
     match read {
         OriginRead::Nothing => 0,
@@ -66,7 +66,7 @@ fn origin_number(read: OriginRead) -> u8
 
 // The ROM address of a byte that the ROM window showed, else 0.
 fn rom_address(read: OriginRead) -> u16
-    ensures { result ≡ romAddress read }
+    ensures { result ≡ rom_address read }
 {
     match read {
         OriginRead::Nothing => 0,
@@ -81,7 +81,7 @@ fn rom_address(read: OriginRead) -> u16
 
 // A byte or a step's cycles, with an origin above it.
 fn origin_word(value: u8, read: OriginRead) -> u64
-    ensures { result ≡ originWord value read }
+    ensures { result ≡ origin_word value read }
 {
     let number = origin_number(read);
     let address = rom_address(read);
@@ -89,7 +89,7 @@ fn origin_word(value: u8, read: OriginRead) -> u64
 }
 
 pub fn step_word(report: StepReport) -> u64
-    ensures { result ≡ stepWord (answer_of report.answer) report.read }
+    ensures { result ≡ step_word (answer_of report.answer) report.read }
 {
     let answer = report.answer;
     let read = report.read;
@@ -100,7 +100,7 @@ pub fn step_word(report: StepReport) -> u64
 }
 
 pub fn reading_word(answer: ReadAnswer) -> u64
-    ensures { result ≡ readingWord (readAnswerOf answer) }
+    ensures { result ≡ reading_word (read_answer_of answer) }
 {
     match answer {
         ReadAnswer::Done { byte, origin } => origin_word(byte, OriginRead::From(origin)),
@@ -109,7 +109,7 @@ pub fn reading_word(answer: ReadAnswer) -> u64
 }
 
 pub fn ending_word(ending: Ending) -> u64
-    ensures { result ≡ endedWord (ended_of ending) }
+    ensures { result ≡ ended_word (ended_of ending) }
 {
     match ending {
         Ending::Done => done(0),
@@ -119,7 +119,7 @@ pub fn ending_word(ending: Ending) -> u64
 
 // Whether a run was refused: a refusal has no address, a stop has one.
 pub fn is_refused(ending: Ending) -> bool
-    ensures { result ≡ isRefusedRun (ended_of ending) }
+    ensures { result ≡ is_refused_run (ended_of ending) }
 {
     match ending {
         Ending::Done => false,
@@ -131,7 +131,7 @@ pub fn is_refused(ending: Ending) -> bool
 }
 
 pub fn check_word(checked: Checked) -> u64
-    ensures { result ≡ answerWord (answered checked) }
+    ensures { result ≡ answer_word (answered checked) }
 {
     match checked {
         Checked::Accepted(levels) => done(levels as u32),
@@ -140,7 +140,7 @@ pub fn check_word(checked: Checked) -> u64
 }
 
 pub fn write_word(written: Written) -> u64
-    ensures { result ≡ answerWord (outcomeOf written) }
+    ensures { result ≡ answer_word (outcome_of written) }
 {
     match written {
         Written::Done(length) => done(length as u32),
@@ -149,7 +149,7 @@ pub fn write_word(written: Written) -> u64
 }
 
 pub fn made_word(made: Made) -> u64
-    ensures { result ≡ answerWord (made_of made) }
+    ensures { result ≡ answer_word (made_of made) }
 {
     match made {
         Made::Written(levels) => done(levels as u32),
@@ -159,7 +159,7 @@ pub fn made_word(made: Made) -> u64
 
 // The width in the low 16 bits of the value, the steps above it.
 pub fn sizing_word(sizing: Sizing) -> u64
-    ensures { result ≡ sizeWord (sizingOf sizing) }
+    ensures { result ≡ size_word (sizing_of sizing) }
 {
     match sizing {
         Sizing::Measured { width, steps } => done(width as u32 + steps as u32 * 0x10000),

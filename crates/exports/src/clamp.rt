@@ -1,17 +1,17 @@
 // Numbers of 32 bits as the bytes and addresses that the operations take.
 ghost use Rattle.std.specs.Prelude.{◌≡◌};
-ghost use Rattle.exports.specs.Clamp.{clampedByte, clampedAddress};
+ghost use Rattle.exports.specs.Clamp.{clamped_byte, clamped_address};
 
 // A byte; a greater number becomes 255, which is refused as that number is: it sets bits that are no source's.
 pub fn clamp_byte(n: u32) -> u8
-    ensures { result ≡ clampedByte n }
+    ensures { result ≡ clamped_byte n }
 {
     if n < 256 { n as u8 } else { 255 }
 }
 
 // A program address; a greater number becomes 1000h, which is refused as that number is.
 pub fn clamp_address(n: u32) -> u16
-    ensures { result ≡ clampedAddress n }
+    ensures { result ≡ clamped_address n }
 {
     if n < 4096 { n as u16 } else { 4096 }
 }

@@ -3,20 +3,20 @@
 ghost use Rattle.std.specs.Prelude.{◌≡◌, ◌++◌, ◌≤◌, length, drop};
 ghost use Rattle.exports.specs.Every.{every};
 ghost use Rattle.exports.specs.Fields.{
-  bareRow,
+  bare_row,
   jump_row,
-  toRow,
-  bitJumpRow,
-  bitRow,
-  immediateRow,
+  to_row,
+  bit_jump_row,
+  bit_row,
+  immediate_row,
   operand_row,
-  packedInstruction,
-  decodedRow,
-  operandBy,
-  instructionBy,
-  instructionAt,
+  packed_instruction,
+  decoded_row,
+  operand_by,
+  instruction_by,
+  instruction_at,
   agree,
-  unpackedInstruction,
+  unpacked_instruction,
 };
 
 use crate::copying::number;
@@ -31,7 +31,7 @@ pub enum InstructionRead {
 }
 
 fn bare(form: u8) -> [u8; 7]
-    ensures { result ≡ bareRow form }
+    ensures { result ≡ bare_row form }
 {
     [form, 0, 0, 0, 0, 0, 0]
 }
@@ -43,25 +43,25 @@ fn jump(form: u8, displacement: i8) -> [u8; 7]
 }
 
 fn to(form: u8, target: u16) -> [u8; 7]
-    ensures { result ≡ toRow form target }
+    ensures { result ≡ to_row form target }
 {
     [form, 0, (target % 256) as u8, (target / 256) as u8, 0, 0, 0]
 }
 
 fn bit_jump(form: u8, bit: u8, address: u8, displacement: i8) -> [u8; 7]
-    ensures { result ≡ bitJumpRow form bit address displacement }
+    ensures { result ≡ bit_jump_row form bit address displacement }
 {
     [form, 0, address, 0, 0, bit, long_byte(displacement)]
 }
 
 fn on_bit(form: u8, bit: u8, address: u8) -> [u8; 7]
-    ensures { result ≡ bitRow form bit address }
+    ensures { result ≡ bit_row form bit address }
 {
     [form, 0, address, 0, 0, bit, 0]
 }
 
 fn immediate(form: u8, value: u8, second: u8) -> [u8; 7]
-    ensures { result ≡ immediateRow form value second }
+    ensures { result ≡ immediate_row form value second }
 {
     [form, 0, value, 0, second, 0, 0]
 }
@@ -79,7 +79,7 @@ fn on(form: u8, operand: Operand) -> [u8; 7]
 
 // The seven fields that an instruction is read from.
 fn fields_of(i: Instruction) -> [u8; 7]
-    ensures { result ≡ packedInstruction i }
+    ensures { result ≡ packed_instruction i }
 {
     match i {
         Instruction::Jrnz(d) => jump(0, d),
@@ -119,7 +119,7 @@ fn fields_of(i: Instruction) -> [u8; 7]
 // fields would have to stand in memory first, and be read from there as soon as they are written.
 pub fn put_row(out: &mut [u8], i: Instruction, bytes: u8, cycles: u8)
     requires { 10 ≤ length out.old }
-    ensures { out.new ≡ decodedRow i bytes cycles ++ drop 10 out.old }
+    ensures { out.new ≡ decoded_row i bytes cycles ++ drop 10 out.old }
 {
     let fields = fields_of(i);
     out[0] = fields[0];
@@ -135,7 +135,7 @@ pub fn put_row(out: &mut [u8], i: Instruction, bytes: u8, cycles: u8)
 }
 
 fn operand_of(kind: u8, value: u8) -> Operand
-    ensures { result ≡ operandBy kind value }
+    ensures { result ≡ operand_by kind value }
 {
     match kind {
         1 => Operand::Direct(value),
@@ -147,7 +147,7 @@ fn operand_of(kind: u8, value: u8) -> Operand
 
 // The instruction of a form, from the fields that the form uses.
 fn of_form(form: u8, o: Operand, n: u8, target: u16, second: u8, bit: u8, d: i8) -> Instruction
-    ensures { result ≡ instructionBy form o n target second bit d }
+    ensures { result ≡ instruction_by form o n target second bit d }
 {
     match form {
         0 => Instruction::Jrnz(d),
@@ -186,7 +186,7 @@ fn of_form(form: u8, o: Operand, n: u8, target: u16, second: u8, bit: u8, d: i8)
 // The one instruction that seven fields can be of.
 fn candidate(fields: &[u8]) -> Instruction
     requires { 7 ≤ length fields.now }
-    ensures { result ≡ instructionAt fields.now }
+    ensures { result ≡ instruction_at fields.now }
 {
     let value = fields[2];
     of_form(
@@ -218,7 +218,7 @@ fn begins_with(fields: &[u8], own: &[u8; 10]) -> bool
 // Reads an instruction. A row that is not exactly that of its instruction, as one with a byte in a field that the form
 // does not use, is no instruction's.
 pub fn read(fields: &[u8]) -> InstructionRead
-    ensures { result ≡ unpackedInstruction fields.now }
+    ensures { result ≡ unpacked_instruction fields.now }
 {
     if fields.len() < 7 {
         return InstructionRead::Unreadable;

@@ -8,12 +8,12 @@ mod packing;
 mod states;
 
 ghost use Rattle.std.specs.Prelude.{◌≡◌};
-ghost use Rattle.certificate.specs.Check.{checkOf};
-ghost use Rattle.isa.specs.Decode.{decodeIn};
-ghost use Rattle.exports.specs.Answers.{answerWord, widthWord};
-ghost use Rattle.exports.specs.Lent.{lent, lentRun, decodeLent, writeLent, resetLent, storeLent, stepLent};
-ghost use Rattle.exports.specs.Lent.{decodedLent};
-ghost use Rattle.exports.specs.Lent.{readWord, runLent, playLent, jobLent, MakeLent};
+ghost use Rattle.certificate.specs.Check.{check_of};
+ghost use Rattle.isa.specs.Decode.{decode_in};
+ghost use Rattle.exports.specs.Answers.{answer_word, width_word};
+ghost use Rattle.exports.specs.Lent.{lent, lent_run, decode_lent, write_lent, reset_lent, store_lent, step_lent};
+ghost use Rattle.exports.specs.Lent.{decoded_lent};
+ghost use Rattle.exports.specs.Lent.{read_word, run_lent, play_lent, job_lent, MakeLent};
 
 use answers::{
     check_word, done, ending_word, invalid_state, is_refused, made_word, reading_word, refused,
@@ -41,7 +41,7 @@ use states::{control_of, data_of, is_valid, pairs_of, stack_of, unpack};
 // Decodes at an address of the image with a bank byte into `out`.
 fn decode_with(image: &[u8], address: u32, bank: u8, out: &mut [u8]) -> u64
     ensures { lent result out.new
-        ≡ decodedLent out.old (decodeIn image.now bank address) }
+        ≡ decoded_lent out.old (decode_in image.now bank address) }
 {
     match decode(image, bank, clamp_address(address)) {
         Decoded::Refused(refusal) => refused(refusal),
@@ -62,7 +62,7 @@ fn decode_with(image: &[u8], address: u32, bank: u8, out: &mut [u8]) -> u64
 // Decodes at an address of the image into `out`.
 #[unsafe(no_mangle)]
 pub extern "C" fn st62_decode(image: &[u8], address: u32, bank: u32, out: &mut [u8]) -> u64
-    ensures { lent result out.new ≡ decodeLent image.now address bank out.old }
+    ensures { lent result out.new ≡ decode_lent image.now address bank out.old }
 {
     if 255 < bank {
         return refused(Refusal::OperandRange);
@@ -73,7 +73,7 @@ pub extern "C" fn st62_decode(image: &[u8], address: u32, bank: u32, out: &mut [
 // Writes the instruction of the first seven fields into `out`.
 #[unsafe(no_mangle)]
 pub extern "C" fn st62_write(fields: &[u8], out: &mut [u8]) -> u64
-    ensures { lent result out.new ≡ writeLent fields.now out.old }
+    ensures { lent result out.new ≡ write_lent fields.now out.old }
 {
     match read(fields) {
         InstructionRead::Is(instruction) => write_word(write(instruction, out)),
@@ -83,7 +83,7 @@ pub extern "C" fn st62_write(fields: &[u8], out: &mut [u8]) -> u64
 
 #[unsafe(no_mangle)]
 pub extern "C" fn st62_reset(state: &mut [u8]) -> u64
-    ensures { lent result state.new ≡ resetLent state.old }
+    ensures { lent result state.new ≡ reset_lent state.old }
 {
     if !is_valid(state) {
         return refused(Refusal::IllFormedMachine);
@@ -96,7 +96,7 @@ pub extern "C" fn st62_reset(state: &mut [u8]) -> u64
 // The host's store of a value at a data address.
 #[unsafe(no_mangle)]
 pub extern "C" fn st62_store(state: &mut [u8], address: u32, value: u32) -> u64
-    ensures { lent result state.new ≡ storeLent state.old address value }
+    ensures { lent result state.new ≡ store_lent state.old address value }
 {
     if 255 < address {
         return refused(Refusal::OperandRange);
@@ -116,7 +116,7 @@ pub extern "C" fn st62_store(state: &mut [u8], address: u32, value: u32) -> u64
 
 #[unsafe(no_mangle)]
 pub extern "C" fn st62_step(image: &[u8], state: &mut [u8], request: u32) -> u64
-    ensures { lent result state.new ≡ stepLent image.now state.old request }
+    ensures { lent result state.new ≡ step_lent image.now state.old request }
 {
     if !is_valid(state) {
         return invalid_state(image);
@@ -136,7 +136,7 @@ pub extern "C" fn st62_step(image: &[u8], state: &mut [u8], request: u32) -> u64
 // Reads a data byte of a machine, with its origin.
 #[unsafe(no_mangle)]
 pub extern "C" fn st62_read(image: &[u8], state: &[u8], address: u32) -> u64
-    ensures { result ≡ readWord image.now state.now address }
+    ensures { result ≡ read_word image.now state.now address }
 {
     if 255 < address {
         return refused(Refusal::OperandRange);
@@ -156,8 +156,8 @@ pub extern "C" fn st62_run(
     n: u32,
     report: &mut [u8],
 ) -> u64
-    ensures { lentRun result state.new report.new
-        ≡ runLent image.now state.old requests.now n report.old }
+    ensures { lent_run result state.new report.new
+        ≡ run_lent image.now state.old requests.now n report.old }
 {
     if !is_valid(state) {
         return invalid_state(image);
@@ -192,8 +192,8 @@ pub extern "C" fn st62_play(
     state: &mut [u8],
     report: &mut [u8],
 ) -> u64
-    ensures { lentRun result state.new report.new
-        ≡ playLent image.now recording.now state.old report.old }
+    ensures { lent_run result state.new report.new
+        ≡ play_lent image.now recording.now state.old report.old }
 {
     let played = play(image, recording);
     let m = played.machine;
@@ -218,7 +218,7 @@ pub extern "C" fn st62_play(
 
 #[unsafe(no_mangle)]
 pub extern "C" fn st62_check(image: &[u8], certificate: &[u8], wired: u32) -> u64
-    ensures { result ≡ answerWord (checkOf image.now certificate.now wired) }
+    ensures { result ≡ answer_word (check_of image.now certificate.now wired) }
 {
     check_word(check(image, certificate, clamp_byte(wired)))
 }
@@ -234,7 +234,7 @@ pub extern "C" fn st62_make(image: &[u8], wired: u32, out: &mut [u8]) -> u64
 // The width that the gauge would show for a count.
 #[unsafe(no_mangle)]
 pub extern "C" fn st62_width(image: &[u8], certificate: &[u8], count: u32) -> u64
-    ensures { result ≡ widthWord image.now certificate.now count }
+    ensures { result ≡ width_word image.now certificate.now count }
 {
     if 255 < count {
         return refused(Refusal::OperandRange);
@@ -245,7 +245,7 @@ pub extern "C" fn st62_width(image: &[u8], certificate: &[u8], count: u32) -> u6
 // Answers a job with its line, written into `line`.
 #[unsafe(no_mangle)]
 pub extern "C" fn st62_job(job: &[u8], line: &mut [u8]) -> u64
-    ensures { lent result line.new ≡ jobLent job.now line.old }
+    ensures { lent result line.new ≡ job_lent job.now line.old }
 {
     match answer(job, line) {
         Answered::Line(count) => done(count as u32),

@@ -1,8 +1,8 @@
 // From the machine to its state's bytes, and a run's report.
 ghost use Rattle.std.specs.Prelude.{◌≡◌, ◌<◌, ◌/◌, ◌%◌, length};
 ghost use Rattle.machine.specs.State.{machine_of};
-ghost use Rattle.exports.specs.States.{flagByte, low_byte, highByte, controlBytes, stackBytes, packed};
-ghost use Rattle.exports.specs.Lent.{reportBytes};
+ghost use Rattle.exports.specs.States.{flag_byte, low_byte, high_byte, control_bytes, stack_bytes, packed};
+ghost use Rattle.exports.specs.Lent.{report_bytes};
 
 use crate::copying::put;
 use alu::Flags;
@@ -11,7 +11,7 @@ use control::modes::mode_number;
 use machine::{FlagPairs, Machine};
 
 fn flag(is: bool) -> u8
-    ensures { result ≡ flagByte is }
+    ensures { result ≡ flag_byte is }
 {
     if is { 1 } else { 0 }
 }
@@ -23,14 +23,14 @@ fn low(n: u16) -> u8
 }
 
 fn high(n: u16) -> u8
-    ensures { result ≡ highByte n }
+    ensures { result ≡ high_byte n }
 {
     (n / 256) as u8
 }
 
 // The twelve bytes of control and flags.
 fn control_bytes(c: Control, f: FlagPairs) -> [u8; 12]
-    ensures { result ≡ controlBytes c f }
+    ensures { result ≡ control_bytes c f }
 {
     let mode = c.mode;
     let normal = f.normal;
@@ -53,7 +53,7 @@ fn control_bytes(c: Control, f: FlagPairs) -> [u8; 12]
 }
 
 fn stack_bytes(stack: &[u16; 6]) -> [u8; 12]
-    ensures { result ≡ stackBytes stack.now }
+    ensures { result ≡ stack_bytes stack.now }
 {
     [
         low(stack[0]),
@@ -112,7 +112,7 @@ fn digit(n: u32, weight: u32) -> u8
 
 // A run's report: steps and cycles, four bytes each.
 pub fn report_bytes(steps: u32, cycles: u32) -> [u8; 8]
-    ensures { result ≡ reportBytes steps cycles }
+    ensures { result ≡ report_bytes steps cycles }
 {
     [
         digit(steps, 1),

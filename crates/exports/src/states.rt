@@ -2,8 +2,8 @@
 // of normal, interrupt and NMI; 267 zero; 268-279 the return addresses. Numbers of two bytes stand low byte first.
 ghost use Rattle.std.specs.Prelude.{◌≡◌, ◌+◌, ◌<◌, length, take};
 ghost use Rattle.exports.specs.Every.{every};
-ghost use Rattle.exports.specs.States.{isFlag, isValid, word_at, pair_at, mode_of, controlAt, stackAt, pairsAt};
-ghost use Rattle.exports.specs.States.{machineAt};
+ghost use Rattle.exports.specs.States.{is_flag, is_valid, word_at, pair_at, mode_of, control_at, stack_at, pairs_at};
+ghost use Rattle.exports.specs.States.{machine_at};
 
 use crate::copying::number;
 use alu::Flags;
@@ -13,7 +13,7 @@ use machine::{FlagPairs, Machine};
 // Whether the seven bytes from 260 on are 0 or 1.
 fn flags_valid(state: &[u8]) -> bool
     requires { length state.now ≡ 280 }
-    ensures { result ≡ every (isFlag state.now) 7 }
+    ensures { result ≡ every (is_flag state.now) 7 }
 {
     let mut i: usize = 0;
     while i < 7 {
@@ -27,7 +27,7 @@ fn flags_valid(state: &[u8]) -> bool
 
 // Whether a slice is a valid state.
 pub fn is_valid(state: &[u8]) -> bool
-    ensures { result ≡ isValid state.now }
+    ensures { result ≡ is_valid state.now }
 {
     if state.len() != 280 {
         return false;
@@ -77,7 +77,7 @@ pub fn data_of(state: &[u8]) -> [u8; 256]
 
 pub fn stack_of(state: &[u8]) -> [u16; 6]
     requires { length state.now ≡ 280 }
-    ensures { result ≡ stackAt state.now }
+    ensures { result ≡ stack_at state.now }
 {
     [
         word_at(state, 268),
@@ -102,7 +102,7 @@ fn pair_at(state: &[u8], at: usize) -> Flags
 
 pub fn pairs_of(state: &[u8]) -> FlagPairs
     requires { length state.now ≡ 280 }
-    ensures { result ≡ pairsAt state.now }
+    ensures { result ≡ pairs_at state.now }
 {
     FlagPairs {
         normal: pair_at(state, 261),
@@ -113,7 +113,7 @@ pub fn pairs_of(state: &[u8]) -> FlagPairs
 
 pub fn control_of(state: &[u8]) -> Control
     requires { length state.now ≡ 280 }
-    ensures { result ≡ controlAt state.now }
+    ensures { result ≡ control_at state.now }
 {
     Control {
         pc: word_at(state, 256),
@@ -126,7 +126,7 @@ pub fn control_of(state: &[u8]) -> Control
 // The machine of a state.
 pub fn unpack(state: &[u8]) -> Machine
     requires { length state.now ≡ 280 }
-    ensures { result ≡ machineAt state.now }
+    ensures { result ≡ machine_at state.now }
 {
     Machine {
         control: control_of(state),

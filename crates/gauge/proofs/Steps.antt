@@ -7,17 +7,17 @@ use mathlib.Core.List.{List, []}
 use native.Mathlib.Omega.{arith}
 use lib.ListN.{get_or, length}
 use Rattle.isa.specs.Refusals.{Numbered, plain, located, Answer, done, refused}
-use Rattle.isa.specs.Rom.{isImage}
-use Rattle.isa.proofs.Halves.{is-space}
+use Rattle.isa.specs.Rom.{is_image}
+use Rattle.isa.proofs.Halves.{is_space_lem}
 use Rattle.data.specs.Space.{program_of}
 use Rattle.machine.specs.declared.Machine.{Machine}
-use Rattle.machine.specs.State.{isWellFormed}
+use Rattle.machine.specs.State.{is_well_formed}
 use Rattle.machine.specs.Step.{Step, step_of}
 use Rattle.machine.specs.Run.{steps_of, run_of}
 use Rattle.machine.specs.Refusals as why
 use Rattle.machine.specs.Laws.{IsStop}
-use Rattle.machine.proofs.Refusals.{step-refusals, run-refusals}
-use Rattle.machine.proofs.StepDoes.{stops-numbered}
+use Rattle.machine.proofs.Refusals.{step_refusals, run_refusals}
+use Rattle.machine.proofs.StepDoes.{stops_numbered}
 use Rattle.bench.specs.Session.{StepRefusedWith, StepDone}
 
 -- demand 3's promise of a step without requests
@@ -28,52 +28,52 @@ StepKept image m = StepRefusedWith m 11 (step_of image m 0) ⊎ StepDone (step_o
 neither : (image : List ℕ) (m : Machine) (n : ℕ) → n ≤ 2 → why.StepRefused image m 0 (plain n) → StepKept image m → ⊥
 neither image m n h why (inl r) =
     let x : ◌≡◌ {A = Answer ℕ} (refused (plain n)) (refused (plain 11)) =
-    sym (ap (λ (s : Step). s.answer) (step-refusals.given image m 0 (plain n) why)) ∙ r.refusal in
+    sym (ap (λ (s : Step). s.answer) (step_refusals.given image m 0 (plain n) why)) ∙ r.refusal in
     let y : n ≡ 11 = cc in
     omega arith
 neither image m n h why (inr d) =
     let x : ◌≡◌ {A = Answer ℕ} (refused (plain n)) (done d.cycles) =
-    sym (ap (λ (s : Step). s.answer) (step-refusals.given image m 0 (plain n) why)) ∙ d.answer in
+    sym (ap (λ (s : Step). s.answer) (step_refusals.given image m 0 (plain n) why)) ∙ d.answer in
     let y : ◌≡◌ {A = ℕ} 0 1 = cc in
     omega arith
 
 -- so image and machine are such that a step is not refused with 1 or 2
 pub record Fits (image : List ℕ) (m : Machine) : Type 0 where
-  pub size : isImage (length image) ≡ true
-  pub formed : isWellFormed m ≡ true
+  pub size : is_image (length image) ≡ true
+  pub formed : is_well_formed m ≡ true
 
 pub fits : (image : List ℕ) (m : Machine) → StepKept image m → Fits image m
-fits image m kept = go (isImage (length image)) (isWellFormed m) refl refl
+fits image m kept = go (is_image (length image)) (is_well_formed m) refl refl
   where
-    go : (i w : Bool) → isImage (length image) ≡ i → isWellFormed m ≡ w → Fits image m
+    go : (i w : Bool) → is_image (length image) ≡ i → is_well_formed m ≡ w → Fits image m
     go true true i w = record { size = i; formed = w }
-    go true false i w = absurd (neither image m 2 (omega arith) (why.ill-formed i w) kept)
-    go false b i w = absurd (neither image m 1 (omega arith) (why.image-length i) kept)
+    go true false i w = absurd (neither image m 2 (omega arith) (why.ill_formed i w) kept)
+    go false b i w = absurd (neither image m 1 (omega arith) (why.image_length i) kept)
 
 -- a step without requests is not refused with 11
-pub is-done : (image : List ℕ) (m : Machine) → StepKept image m → StepDone (step_of image m 0)
-is-done image m (inr d) = d
-is-done image m (inl r) =
-    absurd (by-reason (plain 11) refl (step-refusals.only image m 0 (plain 11) r.refusal))
+pub is_done : (image : List ℕ) (m : Machine) → StepKept image m → StepDone (step_of image m 0)
+is_done image m (inr d) = d
+is_done image m (inl r) =
+    absurd (by_reason (plain 11) refl (step_refusals.only image m 0 (plain 11) r.refusal))
   where
-    by-reason : (n : Numbered) → n ≡ plain 11 → why.StepRefused image m 0 n → ⊥
-    by-reason _ e (why.image-length i) = let y : ◌≡◌ {A = ℕ} 1 11 = cc in omega arith
-    by-reason _ e (why.ill-formed i w) = let y : ◌≡◌ {A = ℕ} 2 11 = cc in omega arith
-    by-reason _ e (why.unknown-source i w names) = false≢true (sym names)
-    by-reason n e (why.stops _ i w names stop) =
+    by_reason : (n : Numbered) → n ≡ plain 11 → why.StepRefused image m 0 n → ⊥
+    by_reason _ e (why.image_length i) = let y : ◌≡◌ {A = ℕ} 1 11 = cc in omega arith
+    by_reason _ e (why.ill_formed i w) = let y : ◌≡◌ {A = ℕ} 2 11 = cc in omega arith
+    by_reason _ e (why.unknown_source i w names) = false≢true (sym names)
+    by_reason n e (why.stops _ i w names stop) =
         let s : IsStop m n =
-        stops-numbered (program_of image m.bytes) m 0 (is-space image (get_or m.bytes 0xCA 0) i) w n stop in
+        stops_numbered (program_of image m.bytes) m 0 (is_space_lem image (get_or m.bytes 0xCA 0) i) w n stop in
         let x : plain 11 ≡ located s.number m.control.pc = sym e ∙ s.is in
         let y : ◌≡◌ {A = ℕ} 0 1 = cc in
         omega arith
 
 -- a run without requests on such a machine is not refused
-pub run-as-steps :
+pub run_as_steps :
     (image : List ℕ) (m : Machine) → Fits image m → (n : ℕ) → n ≤ 65535 → run_of image m [] n ≡ steps_of image [] m n
-run-as-steps image m f n h = run-refusals.steps-else image m [] n by-reason
+run_as_steps image m f n h = run_refusals.steps-else image m [] n by_reason
   where
-    by-reason : (r : Numbered) → why.RunRefused image m [] n r → ⊥
-    by-reason _ (why.image-length i) = false≢true (sym i ∙ f.size)
-    by-reason _ (why.ill-formed i w) = false≢true (sym w ∙ f.formed)
-    by-reason _ (why.step_count i w more) = omega arith
-    by-reason _ (why.unknown-source k i w less l names) = false≢true (sym names)
+    by_reason : (r : Numbered) → why.RunRefused image m [] n r → ⊥
+    by_reason _ (why.image_length i) = false≢true (sym i ∙ f.size)
+    by_reason _ (why.ill_formed i w) = false≢true (sym w ∙ f.formed)
+    by_reason _ (why.step_count i w more) = omega arith
+    by_reason _ (why.unknown_source k i w less l names) = false≢true (sym names)

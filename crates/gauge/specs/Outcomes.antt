@@ -3,18 +3,18 @@
 use Rattle.std.specs.Prelude.{ℕ, ◌+◌, ◌*◌, ◌<◌, ◌≤◌, ◌≡◌, List, get_or}
 use Rattle.isa.specs.Refusals.{Numbered, plain, done, refused}
 use Rattle.certificate.specs.Check as check
-use Rattle.gauge.specs.Sleep.{machineAfter, AsleepAfter, AwakeAfter, AllDone, sizeAs}
-use Rattle.gauge.specs.Width.{start_of, unpagedCheck, width_of}
+use Rattle.gauge.specs.Sleep.{machine_after, AsleepAfter, AwakeAfter, AllDone, size_as}
+use Rattle.gauge.specs.Width.{start_of, unpaged_check, width_of}
 
 -- "the check with nothing wired" accepts
 pub record Accepted (image certificate : List ℕ) : Type 0 where
   pub levels : ℕ
-  pub accepts : unpagedCheck image certificate ≡ check.accepted levels
+  pub accepts : unpaged_check image certificate ≡ check.accepted levels
 
 -- 23: "the check with nothing wired refuses", with any number, or the image is paged
 pub record NotChecked (image certificate : List ℕ) : Type 0 where
   pub refusal : Numbered
-  pub refuses : unpagedCheck image certificate ≡ refused refusal
+  pub refuses : unpaged_check image certificate ≡ refused refusal
 
 -- "It starts a fresh machine, stores the count at 0C0h and runs without requests until the machine sleeps."
 pub record Measured (image certificate : List ℕ) (count width steps : ℕ) : Type 0 where
@@ -29,8 +29,8 @@ pub record Measured (image certificate : List ℕ) (count width steps : ℕ) : T
   -- "256 times the byte at 084h plus the byte at 085h"
   pub shows :
       width
-      ≡ 256 * get_or (machineAfter image (start_of count) steps).bytes 0x84 0
-      + get_or (machineAfter image (start_of count) steps).bytes 0x85 0
+      ≡ 256 * get_or (machine_after image (start_of count) steps).bytes 0x84 0
+      + get_or (machine_after image (start_of count) steps).bytes 0x85 0
 
 -- 24: "65,535 steps pass without sleep", all of them done
 pub record NeverSlept (image certificate : List ℕ) (count : ℕ) : Type 0 where
@@ -42,30 +42,30 @@ pub record NeverSlept (image certificate : List ℕ) (count : ℕ) : Type 0 wher
 -- `refused-24`), and always there (`measures`, `refuses-23`, `refuses-24`)
 pub record Answers (image certificate : List ℕ) (count : ℕ) : Type 0 where
   pub measured :
-      (width steps : ℕ) → width_of image certificate count ≡ done (sizeAs width steps)
+      (width steps : ℕ) → width_of image certificate count ≡ done (size_as width steps)
       → Measured image certificate count width steps
   pub measures :
       (width steps : ℕ) → Measured image certificate count width steps
-      → width_of image certificate count ≡ done (sizeAs width steps)
-  pub refused-23 : width_of image certificate count ≡ refused (plain 23) → NotChecked image certificate
-  pub refuses-23 : NotChecked image certificate → width_of image certificate count ≡ refused (plain 23)
-  pub refused-24 : width_of image certificate count ≡ refused (plain 24) → NeverSlept image certificate count
-  pub refuses-24 : NeverSlept image certificate count → width_of image certificate count ≡ refused (plain 24)
+      → width_of image certificate count ≡ done (size_as width steps)
+  pub refused_23 : width_of image certificate count ≡ refused (plain 23) → NotChecked image certificate
+  pub refuses_23 : NotChecked image certificate → width_of image certificate count ≡ refused (plain 23)
+  pub refused_24 : width_of image certificate count ≡ refused (plain 24) → NeverSlept image certificate count
+  pub refuses_24 : NeverSlept image certificate count → width_of image certificate count ≡ refused (plain 24)
 
 -- one of the three holds
 pub data Outcome (image certificate : List ℕ) (count : ℕ) : Type 0 where
   measured :
       (width steps : ℕ) → Measured image certificate count width steps → Outcome image certificate count
-  not-checked : NotChecked image certificate → Outcome image certificate count
-  never-slept : NeverSlept image certificate count → Outcome image certificate count
+  not_checked : NotChecked image certificate → Outcome image certificate count
+  never_slept : NeverSlept image certificate count → Outcome image certificate count
 
 -- .. and no second one, nor another width or other steps
 pub record NoOther (image certificate : List ℕ) (count : ℕ) : Type 0 where
-  pub measured-is-checked :
+  pub measured_is_checked :
       (width steps : ℕ) → Measured image certificate count width steps → NotChecked image certificate → ⊥
-  pub measured-slept :
+  pub measured_slept :
       (width steps : ℕ) → Measured image certificate count width steps → NeverSlept image certificate count → ⊥
-  pub awake-is-checked : NeverSlept image certificate count → NotChecked image certificate → ⊥
+  pub awake_is_checked : NeverSlept image certificate count → NotChecked image certificate → ⊥
   pub one_size :
       (width steps width' steps' : ℕ) → Measured image certificate count width steps
       → Measured image certificate count width' steps' → (width ≡ width') × (steps ≡ steps')

@@ -9,26 +9,26 @@ use Rattle.gauge.specs.declared.Sizing.{Sizing}
 use Rattle.gauge.specs.declared.Sizing.TheVariants.{Measured, Refused}
 
 -- "runs without requests": the machine after n steps
-abbrev pub machineAfter : (image : List ℕ) → Machine → (n : ℕ) → Machine
-machineAfter image m n = (steps_of image [] m n).machine
+abbrev pub machine_after : (image : List ℕ) → Machine → (n : ℕ) → Machine
+machine_after image m n = (steps_of image [] m n).machine
 
 -- "until the machine sleeps": whether it sleeps after n steps
-abbrev pub asleepAfter : (image : List ℕ) → Machine → (n : ℕ) → Bool
-asleepAfter image m n = (machineAfter image m n).control.asleep
+abbrev pub asleep_after : (image : List ℕ) → Machine → (n : ℕ) → Bool
+asleep_after image m n = (machine_after image m n).control.asleep
 
 abbrev pub AsleepAfter : (image : List ℕ) → Machine → (n : ℕ) → Type 0
-AsleepAfter image m n = asleepAfter image m n ≡ true
+AsleepAfter image m n = asleep_after image m n ≡ true
 
 abbrev pub AwakeAfter : (image : List ℕ) → Machine → (n : ℕ) → Type 0
-AwakeAfter image m n = asleepAfter image m n ≡ false
+AwakeAfter image m n = asleep_after image m n ≡ false
 
 -- no step stops: each of so many steps without requests is done
 abbrev pub AllDone : (image : List ℕ) → Machine → (steps : ℕ) → Type 0
-AllDone image m steps = (n : ℕ) → n < steps → StepDone (step_of image (machineAfter image m n) 0)
+AllDone image m steps = (n : ℕ) → n < steps → StepDone (step_of image (machine_after image m n) 0)
 
 -- "The width, in tenths of a millimetre, is 256 times the byte at 084h plus the byte at 085h."
-abbrev pub widthShown : Machine → ℕ
-widthShown m = 256 * get_or m.bytes 0x84 0 + get_or m.bytes 0x85 0
+abbrev pub width_shown : Machine → ℕ
+width_shown m = 256 * get_or m.bytes 0x84 0 + get_or m.bytes 0x85 0
 
 -- "It answers width and steps."
 pub record Size : Type 0 where
@@ -36,23 +36,23 @@ pub record Size : Type 0 where
   pub steps : ℕ
 
 -- a width and steps as the answer
-abbrev pub sizeAs : (width steps : ℕ) → Size
-sizeAs width steps = record { width = width; steps = steps }
+abbrev pub size_as : (width steps : ℕ) → Size
+size_as width steps = record { width = width; steps = steps }
 
 -- the program's answer by the papers' numbers
-abbrev pub sizingOf : Sizing → Answer Size
-sizingOf (Measured width steps) = done (sizeAs width steps)
-sizingOf (Refused r) = refused (numbered r)
+abbrev pub sizing_of : Sizing → Answer Size
+sizing_of (Measured width steps) = done (size_as width steps)
+sizing_of (Refused r) = refused (numbered r)
 
 -- of the steps from step n on, as many as are left, the first after which the machine sleeps; 24 where there is none
-unfoldable pub sizeFrom : (image : List ℕ) → Machine → (n left : ℕ) → Answer Size
-sizeFrom image m n zero = refused (plain 24)
-sizeFrom image m n (suc left) =
-    cond (asleepAfter image m n) (done (sizeAs (widthShown (machineAfter image m n)) n)) (sizeFrom image m (suc n) left)
+unfoldable pub size_from : (image : List ℕ) → Machine → (n left : ℕ) → Answer Size
+size_from image m n zero = refused (plain 24)
+size_from image m n (suc left) =
+    cond (asleep_after image m n) (done (size_as (width_shown (machine_after image m n)) n)) (size_from image m (suc n) left)
 
 -- "runs without requests until the machine sleeps", and "with 24 when 65,535 steps pass without sleep"
 abbrev pub size_of : (image : List ℕ) → Machine → Answer Size
-size_of image m = sizeFrom image m 1 65535
+size_of image m = size_from image m 1 65535
 
 -- What the functions inside the crate ask for and promise (`sleep::measure`, `sleep::first_sleep`); no claim uses it.
 
@@ -71,4 +71,4 @@ pub record SleepsFirst (image : List ℕ) (m : Machine) (most width steps : ℕ)
   pub within : steps ≤ most
   pub asleep : AsleepAfter image m steps
   pub awake : (n : ℕ) → n < steps → AwakeAfter image m n
-  pub shows : width ≡ widthShown (machineAfter image m steps)
+  pub shows : width ≡ width_shown (machine_after image m steps)

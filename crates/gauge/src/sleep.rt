@@ -1,6 +1,6 @@
 // A machine run without requests until it sleeps.
 ghost use Rattle.std.specs.Prelude.{◌≡◌, ◌+◌, ◌*◌};
-ghost use Rattle.gauge.specs.Sleep.{sizingOf, widthShown, size_of, Ready, SleepsWithin, SleepsFirst};
+ghost use Rattle.gauge.specs.Sleep.{sizing_of, width_shown, size_of, Ready, SleepsWithin, SleepsFirst};
 
 use crate::Sizing;
 use isa::Refusal;
@@ -39,7 +39,7 @@ fn width_of(high: u8, low: u8) -> u16
 
 // The width that a machine shows.
 fn width_shown(m: Machine) -> u16
-    ensures { result ≡ widthShown m }
+    ensures { result ≡ width_shown m }
 {
     let bytes = m.bytes;
     width_of(bytes[WIDTH], bytes[WIDTH + 1])
@@ -68,7 +68,7 @@ fn first_sleep(image: &[u8], m: Machine) -> Slept
 // nothing new.
 pub fn measure(image: &[u8], m: Machine) -> Sizing
     requires { Ready image.now m }
-    ensures { sizingOf result ≡ size_of image.now m }
+    ensures { sizing_of result ≡ size_of image.now m }
 {
     let mut held = m;
     for i in 0..RUNS {

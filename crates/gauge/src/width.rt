@@ -1,6 +1,6 @@
 // The width for a slide count.
 ghost use Rattle.std.specs.Prelude.{◌≡◌};
-ghost use Rattle.gauge.specs.Sleep.{sizingOf};
+ghost use Rattle.gauge.specs.Sleep.{sizing_of};
 ghost use Rattle.gauge.specs.Width.{start_of, width_of};
 
 use crate::Sizing;
@@ -26,7 +26,7 @@ fn start(count: u8) -> Machine
 // The width that the gauge would show for a count, and the steps until then. Refuses with 23 an image and certificate
 // that the check with nothing wired refuses, and paged images, then with 24 a program that does not sleep.
 pub fn width(image: &[u8], certificate: &[u8], count: u8) -> Sizing
-    ensures { sizingOf result ≡ width_of image.now certificate.now count }
+    ensures { sizing_of result ≡ width_of image.now certificate.now count }
 {
     if PROGRAM_SPACE < image.len() {
         return Sizing::Refused(Refusal::CheckRefused);

@@ -1,15 +1,15 @@
 -- The cases, computed.
 use mathlib.Core.Path.{refl}
 use Rattle.hex.specs.Cases.{CheckValue, ExampleIsPlaced}
-use Rattle.hex.specs.Crc.{afterBit, afterBits, afterBytes, crcOf}
-use Rattle.hex.specs.Digits.{areDigits, bytes_of, digitOf, total}
+use Rattle.hex.specs.Crc.{after_bit, after_bits, after_bytes, crc_of}
+use Rattle.hex.specs.Digits.{are_digits, bytes_of, digit_of, total}
 use Rattle.hex.specs.Place.{placed}
-use Rattle.hex.specs.Take.{afterDigits, afterLine, afterRecord}
+use Rattle.hex.specs.Take.{after_digits, after_line, after_record}
 
-pub check-value : CheckValue
-unfolding afterBit afterBits afterBytes crcOf
-check-value = refl
+pub check_value : CheckValue
+unfolding after_bit after_bits after_bytes crc_of
+check_value = refl
 
-pub example-is-placed : ExampleIsPlaced
-unfolding afterDigits afterLine afterRecord areDigits bytes_of digitOf placed total
-example-is-placed = refl
+pub example_is_placed : ExampleIsPlaced
+unfolding after_digits after_line after_record are_digits bytes_of digit_of placed total
+example_is_placed = refl

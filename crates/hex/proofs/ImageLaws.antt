@@ -8,33 +8,33 @@ use mathlib.Core.List.{List, [], ◌∷◌, ◌++◌, append-nil}
 use lib.ListN.{length, take, drop, get_or, set, drop_of_length-le}
 use lib.Seq.{take_all}
 use borrow.Author.Tests.{lt-ltb, le-ltb}
-use Rattle.hex.specs.Image.{filled, lowestFrom, value_of}
+use Rattle.hex.specs.Image.{filled, lowest_from, value_of}
 
 -- the first named address, from one on
 pub named_here :
-    (memory : List ℕ) (i n : ℕ) → 0 < n → get_or memory i 0 < 256 → i ≡ lowestFrom memory i n
-unfolding lowestFrom
+    (memory : List ℕ) (i n : ℕ) → 0 < n → get_or memory i 0 < 256 → i ≡ lowest_from memory i n
+unfolding lowest_from
 named_here memory i zero h e = absurd (not-suc-le-zero h)
 named_here memory i (suc n) h e = rw (lt-ltb _ _ e)
 
-pub named-later :
+pub named_later :
     (memory : List ℕ) (i n : ℕ) → 0 < n → 256 ≤ get_or memory i 0
-    → lowestFrom memory (i + 1) (n - 1) ≡ lowestFrom memory i n
-unfolding lowestFrom
-named-later memory i zero h e = absurd (not-suc-le-zero h)
-named-later memory i (suc n) h e =
+    → lowest_from memory (i + 1) (n - 1) ≡ lowest_from memory i n
+unfolding lowest_from
+named_later memory i zero h e = absurd (not-suc-le-zero h)
+named_later memory i (suc n) h e =
     let one : suc n - 1 ≡ n = omega arith in
     rw (le-ltb _ _ e, add-one i, one)
 
-pub named_none : (memory : List ℕ) (i : ℕ) → lowestFrom memory i 0 ≡ i
-unfolding lowestFrom
+pub named_none : (memory : List ℕ) (i : ℕ) → lowest_from memory i 0 ≡ i
+unfolding lowest_from
 named_none memory i = refl
 
 -- the cells as bytes
-pub filled-length : (fill : ℕ) (memory : List ℕ) (address n : ℕ) → length (filled fill memory address n) ≡ n
+pub filled_length : (fill : ℕ) (memory : List ℕ) (address n : ℕ) → length (filled fill memory address n) ≡ n
 unfolding filled
-filled-length fill memory address zero = refl
-filled-length fill memory address (suc n) = ap suc (filled-length fill memory (suc address) n)
+filled_length fill memory address zero = refl
+filled_length fill memory address (suc n) = ap suc (filled_length fill memory (suc address) n)
 
 pub filled_at :
     (fill : ℕ) (memory : List ℕ) (address n i : ℕ) → i < n
@@ -60,6 +60,6 @@ pub stored : (new old : List ℕ) (i : ℕ) → i < length new → i < length ol
 stored new old i h k = rw (add-one i) (store new old i h k)
 
 -- all of them
-pub stored-all : (new old : List ℕ) (i : ℕ) → i ≡ length old → i ≡ length new → take i new ++ drop i old ≡ new
-stored-all new old i h k =
+pub stored_all : (new old : List ℕ) (i : ℕ) → i ≡ length old → i ≡ length new → take i new ++ drop i old ≡ new
+stored_all new old i h k =
     rw (take_all i new (omega arith), drop_of_length-le old {i = i} (omega arith)) (append-nil new)

@@ -9,30 +9,30 @@ use lib.Dec.{eqb}
 use lib.ListN.{length, take, drop, get_or, length-drop}
 use lib.Seq.{drop-cons, take_all}
 use borrow.Author.Tests.{eq-eqb, ne_eqb}
-use Rattle.hex.specs.Lines.{before, lines_of, lineSize, withoutLast}
+use Rattle.hex.specs.Lines.{before, lines_of, line_size, without_last}
 
 -- the first line's size from a character on: it ends the line, or one more than from the next
-pub size-ends :
-    (text : List ℕ) (i : ℕ) → i < length text → get_or text i 0 ≡ 10 → lineSize (drop i text) ≡ 1
-unfolding lineSize
-size-ends text i h e = rw (drop-cons text i 0 h, eq-eqb _ _ e)
+pub size_ends :
+    (text : List ℕ) (i : ℕ) → i < length text → get_or text i 0 ≡ 10 → line_size (drop i text) ≡ 1
+unfolding line_size
+size_ends text i h e = rw (drop-cons text i 0 h, eq-eqb _ _ e)
 
-pub size-more :
+pub size_more :
     (text : List ℕ) (i : ℕ) → i < length text → (get_or text i 0 ≡ 10 → ⊥)
-    → lineSize (drop i text) ≡ suc (lineSize (drop (i + 1) text))
-unfolding lineSize
-size-more text i h e = rw (drop-cons text i 0 h, ne_eqb _ _ e, add-one i)
+    → line_size (drop i text) ≡ suc (line_size (drop (i + 1) text))
+unfolding line_size
+size_more text i h e = rw (drop-cons text i 0 h, ne_eqb _ _ e, add-one i)
 
-pub size_none : lineSize [] ≡ 0
-unfolding lineSize
+pub size_none : line_size [] ≡ 0
+unfolding line_size
 size_none = refl
 
 -- a text that is not empty is its first line, and the lines after it
 one_more :
     (t : Bool) (c : ℕ) (text : List ℕ)
-    → lines_of text ≡ take (lineSize text) text ∷ lines_of (drop (lineSize text) text)
+    → lines_of text ≡ take (line_size text) text ∷ lines_of (drop (line_size text) text)
     → cond t ((c ∷ []) ∷ lines_of text) (before c (lines_of text))
-    ≡ take (cond t 1 (suc (lineSize text))) (c ∷ text) ∷ lines_of (drop (cond t 1 (suc (lineSize text))) (c ∷ text))
+    ≡ take (cond t 1 (suc (line_size text))) (c ∷ text) ∷ lines_of (drop (cond t 1 (suc (line_size text))) (c ∷ text))
 one_more true c text e = refl
 one_more false c text e = ap (before c) e
 
@@ -44,52 +44,52 @@ only false c = refl
 
 first : (c : ℕ) (rest : List ℕ) →
     lines_of (c ∷ rest)
-    ≡ take (lineSize (c ∷ rest)) (c ∷ rest) ∷ lines_of (drop (lineSize (c ∷ rest)) (c ∷ rest))
-unfolding lines_of lineSize
+    ≡ take (line_size (c ∷ rest)) (c ∷ rest) ∷ lines_of (drop (line_size (c ∷ rest)) (c ∷ rest))
+unfolding lines_of line_size
 first c [] = only (eqb c 10) c
 first c (d ∷ rest) = one_more (eqb c 10) c (d ∷ rest) (first d rest)
 
-pub first-line :
+pub first_line :
     (text : List ℕ) → 0 < length text
-    → lines_of text ≡ take (lineSize text) text ∷ lines_of (drop (lineSize text) text)
-first-line [] h = absurd (omega arith)
-first-line (c ∷ rest) h = first c rest
+    → lines_of text ≡ take (line_size text) text ∷ lines_of (drop (line_size text) text)
+first_line [] h = absurd (omega arith)
+first_line (c ∷ rest) h = first c rest
 
 -- the first line's size: not 0, and within the text
 bounds : (t : Bool) (n m : ℕ) → n ≤ m → (0 < cond t 1 (suc n)) × (cond t 1 (suc n) ≤ suc m)
 bounds true n m h = (omega arith, omega arith)
 bounds false n m h = (omega arith, omega arith)
 
-pub size-within : (text : List ℕ) → lineSize text ≤ length text
-unfolding lineSize
-size-within [] = omega arith
-size-within (c ∷ rest) = (bounds (eqb c 10) (lineSize rest) (length rest) (size-within rest)).1
+pub size_within : (text : List ℕ) → line_size text ≤ length text
+unfolding line_size
+size_within [] = omega arith
+size_within (c ∷ rest) = (bounds (eqb c 10) (line_size rest) (length rest) (size_within rest)).1
 
-pub size-some : (text : List ℕ) → 0 < length text → 0 < lineSize text
-unfolding lineSize
-size-some [] h = absurd (omega arith)
-size-some (c ∷ rest) h = (bounds (eqb c 10) (lineSize rest) (length rest) (size-within rest)).0
+pub size_some : (text : List ℕ) → 0 < length text → 0 < line_size text
+unfolding line_size
+size_some [] h = absurd (omega arith)
+size_some (c ∷ rest) h = (bounds (eqb c 10) (line_size rest) (length rest) (size_within rest)).0
 
 -- the last byte taken off, or not
 kept : (t : Bool) → cond {A = List ℕ} t [] [] ≡ []
 kept true = refl
 kept false = refl
 
-pub none-off : (last : ℕ) (bytes : List ℕ) → length bytes ≡ 0 → bytes ≡ withoutLast last bytes
-unfolding withoutLast
-none-off last [] h = sym (kept (eqb 0 last))
-none-off last (b ∷ bytes) h = absurd (omega arith)
+pub none_off : (last : ℕ) (bytes : List ℕ) → length bytes ≡ 0 → bytes ≡ without_last last bytes
+unfolding without_last
+none_off last [] h = sym (kept (eqb 0 last))
+none_off last (b ∷ bytes) h = absurd (omega arith)
 
 pub last_off :
     (last : ℕ) (bytes : List ℕ) → get_or bytes (length bytes - 1) 0 ≡ last
-    → take (length bytes - 1) bytes ≡ withoutLast last bytes
-unfolding withoutLast
+    → take (length bytes - 1) bytes ≡ without_last last bytes
+unfolding without_last
 last_off last bytes e = rw (eq-eqb _ _ e)
 
-pub last-stays :
-    (last : ℕ) (bytes : List ℕ) → (get_or bytes (length bytes - 1) 0 ≡ last → ⊥) → bytes ≡ withoutLast last bytes
-unfolding withoutLast
-last-stays last bytes e = rw (ne_eqb _ _ e)
+pub last_stays :
+    (last : ℕ) (bytes : List ℕ) → (get_or bytes (length bytes - 1) 0 ≡ last → ⊥) → bytes ≡ without_last last bytes
+unfolding without_last
+last_stays last bytes e = rw (ne_eqb _ _ e)
 
 -- a part to the end of a slice
 pub to_end :
@@ -99,9 +99,9 @@ to_end bytes size h =
     take_all (length bytes - size) (drop size bytes) (omega (arith, same))
 
 -- what is left after the first line is shorter
-pub rest-less :
-    (rest : List ℕ) (size : ℕ) → 0 < length rest → size ≡ lineSize rest
+pub rest_less :
+    (rest : List ℕ) (size : ℕ) → 0 < length rest → size ≡ line_size rest
     → length (take (length rest - size) (drop size rest)) < length rest
-rest-less rest size more is =
-    let within : size ≤ length rest = rw is (size-within rest) in
-    rw (to_end rest size within, length-drop size rest) (omega (arith, is, size-some rest more, within))
+rest_less rest size more is =
+    let within : size ≤ length rest = rw is (size_within rest) in
+    rw (to_end rest size within, length-drop size rest) (omega (arith, is, size_some rest more, within))

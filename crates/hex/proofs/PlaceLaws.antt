@@ -11,32 +11,32 @@ use lib.Seq.{drop-cons, get_or-take, get_or-drop}
 use borrow.Author.Tests.{ltb-true}
 use Rattle.hex.specs.declared.Fault.TheVariants.{OutsideImage, DifferingData}
 use Rattle.hex.specs.Digits.{byte_at, bytes_of}
-use Rattle.hex.specs.Place.{faulty, goes, agrees, data_of, isInside, placed}
+use Rattle.hex.specs.Place.{faulty, goes, agrees, data_of, is_inside, placed}
 use Rattle.hex.proofs.DigitLaws.{pairs}
 
 -- the data of a record as long as its count says
-pub data-length :
+pub data_length :
     (digits : List ℕ) (count : ℕ) → 8 + count * 2 ≤ length digits → length (data_of count (bytes_of digits)) ≡ count
-data-length digits count h =
+data_length digits count h =
     simp (length-take, length-drop) (omega (arith, (pairs digits).0, (pairs digits).1))
 
-pub data-at :
+pub data_at :
     (digits : List ℕ) (count k : ℕ) → k < count → get_or (data_of count (bytes_of digits)) k 0 ≡ byte_at digits (4 + k)
-data-at digits count k h = rw (get_or-take count (drop 4 (bytes_of digits)) k 0 h, get_or-drop 4 (bytes_of digits) k 0)
+data_at digits count k h = rw (get_or-take count (drop 4 (bytes_of digits)) k 0 h, get_or-drop 4 (bytes_of digits) k 0)
 
 module _ (first address : ℕ) (memory bytes : List ℕ) (k : ℕ) (more : k < length bytes) where
-  outside : isInside first address ≡ false → placed first address memory (drop k bytes) ≡ faulty OutsideImage
+  outside : is_inside first address ≡ false → placed first address memory (drop k bytes) ≡ faulty OutsideImage
   unfolding placed
   outside e = rw (drop-cons bytes k 0 more, e)
 
   differing :
-      isInside first address ≡ true → agrees (get_or memory address 0) (get_or bytes k 0) ≡ false
+      is_inside first address ≡ true → agrees (get_or memory address 0) (get_or bytes k 0) ≡ false
       → placed first address memory (drop k bytes) ≡ faulty DifferingData
   unfolding placed
   differing e f = rw (drop-cons bytes k 0 more, e, f)
 
   one_placed :
-      isInside first address ≡ true → agrees (get_or memory address 0) (get_or bytes k 0) ≡ true
+      is_inside first address ≡ true → agrees (get_or memory address 0) (get_or bytes k 0) ≡ true
       → placed first address memory (drop k bytes)
       ≡ placed first (suc address) (set memory address (get_or bytes k 0)) (drop (suc k) bytes)
   unfolding placed
@@ -46,43 +46,43 @@ module _ (first address : ℕ) (memory bytes : List ℕ) (k : ℕ) (more : k < l
 module _
     (first start : ℕ) (memory digits : List ℕ) (count k byte : ℕ) (whole : 8 + count * 2 ≤ length digits)
     (more : k < count) (is : byte ≡ byte_at digits (4 + k)) where
-  in-data : k < length (data_of count (bytes_of digits))
-  in-data = rw (data-length digits count whole) more
+  in_data : k < length (data_of count (bytes_of digits))
+  in_data = rw (data_length digits count whole) more
 
   same : get_or (data_of count (bytes_of digits)) k 0 ≡ byte
-  same = data-at digits count k more ∙ sym is
+  same = data_at digits count k more ∙ sym is
 
-  pub turn-differs :
-      isInside first (start + k) ≡ true → agrees (get_or memory (start + k) 0) byte ≡ false
+  pub turn_differs :
+      is_inside first (start + k) ≡ true → agrees (get_or memory (start + k) 0) byte ≡ false
       → placed first (start + k) memory (drop k (data_of count (bytes_of digits))) ≡ faulty DifferingData
-  turn-differs e f =
-      differing first (start + k) memory (data_of count (bytes_of digits)) k in-data e (rw same f)
+  turn_differs e f =
+      differing first (start + k) memory (data_of count (bytes_of digits)) k in_data e (rw same f)
 
-  pub turn-placed :
-      isInside first (start + k) ≡ true → agrees (get_or memory (start + k) 0) byte ≡ true
+  pub turn_placed :
+      is_inside first (start + k) ≡ true → agrees (get_or memory (start + k) 0) byte ≡ true
       → placed first (start + (k + 1)) (set memory (start + k) byte) (drop (k + 1) (data_of count (bytes_of digits)))
       ≡ placed first (start + k) memory (drop k (data_of count (bytes_of digits)))
-  turn-placed e f =
+  turn_placed e f =
       let next : start + (k + 1) ≡ suc (start + k) = omega arith in
       rw (next, add-one k, ← same)
-      (sym (one_placed first (start + k) memory (data_of count (bytes_of digits)) k in-data e (rw same f)))
+      (sym (one_placed first (start + k) memory (data_of count (bytes_of digits)) k in_data e (rw same f)))
 
-pub turn-outside :
+pub turn_outside :
     (first address : ℕ) (memory digits : List ℕ) (count k : ℕ) → 8 + count * 2 ≤ length digits → k < count
-    → isInside first address ≡ false
+    → is_inside first address ≡ false
     → placed first address memory (drop k (data_of count (bytes_of digits))) ≡ faulty OutsideImage
-turn-outside first address memory digits count k whole more e =
-    outside first address memory (data_of count (bytes_of digits)) k (rw (data-length digits count whole) more) e
+turn_outside first address memory digits count k whole more e =
+    outside first address memory (data_of count (bytes_of digits)) k (rw (data_length digits count whole) more) e
 
 -- after the last byte
-pub turns-end :
+pub turns_end :
     (first address : ℕ) (memory digits : List ℕ) (count k : ℕ) → 8 + count * 2 ≤ length digits → count ≤ k
     → goes false memory ≡ placed first address memory (drop k (data_of count (bytes_of digits)))
 unfolding placed
-turns-end first address memory digits count k whole end =
-    let over = drop_of_length-le (data_of count (bytes_of digits)) {i = k} (rw (data-length digits count whole) end) in
+turns_end first address memory digits count k whole end =
+    let over = drop_of_length-le (data_of count (bytes_of digits)) {i = k} (rw (data_length digits count whole) end) in
     rw over
 
 -- an address inside is one of program space
-pub inside-below : (first address : ℕ) → isInside first address ≡ true → address < 4096
-inside-below first address e = ltb-true address 4096 ((and-eq-true_iff (leb first address) (ltb address 4096)).0 e).1
+pub inside_below : (first address : ℕ) → is_inside first address ≡ true → address < 4096
+inside_below first address e = ltb-true address 4096 ((and-eq-true_iff (leb first address) (ltb address 4096)).0 e).1

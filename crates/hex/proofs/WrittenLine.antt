@@ -11,27 +11,27 @@ use lib.Seq.{take_at, get_or_at, take-append_seam}
 use borrow.Author.Tests.{eq-eqb, ne_eqb}
 use Rattle.isa.specs.RoundTrip.{Bytes}
 use Rattle.isa.proofs.Finite.{at}
-use Rattle.hex.specs.Digits.{areDigits, bytes_of, digitOf, total}
-use Rattle.hex.specs.Lines.{lines_of, contentOf, withoutLast}
+use Rattle.hex.specs.Digits.{are_digits, bytes_of, digit_of, total}
+use Rattle.hex.specs.Lines.{lines_of, content_of, without_last}
 use Rattle.hex.specs.Place.{goes, placed}
-use Rattle.hex.specs.Take.{afterDigits, afterLine, afterRecord}
-use Rattle.hex.specs.Write.{checksumOf, dataFor, digitsFor, glyph, line_for}
-use Rattle.hex.proofs.LineLaws.{last_off, last-stays}
+use Rattle.hex.specs.Take.{after_digits, after_line, after_record}
+use Rattle.hex.specs.Write.{checksum_of, data_for, digits_for, glyph, line_for}
+use Rattle.hex.proofs.LineLaws.{last_off, last_stays}
 use Rattle.hex.proofs.StepLaws.{colon}
 
 -- a digit is read as itself
-pub digit-back : (d : ℕ) → d < 16 → digitOf (glyph d) ≡ d
-unfolding digitOf glyph
-digit-back d h = eqb→eq (digitOf (glyph d)) d (at (λ k. eqb (digitOf (glyph k)) k) 16 tt d h)
+pub digit_back : (d : ℕ) → d < 16 → digit_of (glyph d) ≡ d
+unfolding digit_of glyph
+digit_back d h = eqb→eq (digit_of (glyph d)) d (at (λ k. eqb (digit_of (glyph k)) k) 16 tt d h)
 
 -- no digit ends a line, nor is it a 0Dh
 pub no_end : (d : ℕ) → d < 16 → glyph d ≡ 10 → ⊥
-unfolding digitOf
-no_end d h e = omega (arith, h, sym (digit-back d h) ∙ ap digitOf e)
+unfolding digit_of
+no_end d h e = omega (arith, h, sym (digit_back d h) ∙ ap digit_of e)
 
 pub no_return : (d : ℕ) → d < 16 → glyph d ≡ 13 → ⊥
-unfolding digitOf
-no_return d h e = omega (arith, h, sym (digit-back d h) ∙ ap digitOf e)
+unfolding digit_of
+no_return d h e = omega (arith, h, sym (digit_back d h) ∙ ap digit_of e)
 
 module _ (b : ℕ) (byte : b < 256) where
   high : b / 16 < 16
@@ -41,69 +41,69 @@ module _ (b : ℕ) (byte : b < 256) where
   low = omega arith
 
 -- bytes are read from their digits
-pub bytes_back : (bytes : List ℕ) → Bytes bytes → bytes_of (digitsFor bytes) ≡ bytes
-unfolding bytes_of digitsFor
+pub bytes_back : (bytes : List ℕ) → Bytes bytes → bytes_of (digits_for bytes) ≡ bytes
+unfolding bytes_of digits_for
 bytes_back [] h = refl
 bytes_back (b ∷ bytes) h =
     rw (
-      digit-back (b / 16) (high b (h 0)),
-      digit-back (b % 16) (low b (h 0)),
+      digit_back (b / 16) (high b (h 0)),
+      digit_back (b % 16) (low b (h 0)),
       bytes_back bytes (λ j. h (suc j)),
       div-add-mod' b 16,
     )
 
-pub digits_are : (bytes : List ℕ) → Bytes bytes → areDigits (digitsFor bytes) ≡ true
-unfolding areDigits digitsFor
+pub digits_are : (bytes : List ℕ) → Bytes bytes → are_digits (digits_for bytes) ≡ true
+unfolding are_digits digits_for
 digits_are [] h = refl
 digits_are (b ∷ bytes) h =
     let first : b / 16 < 16 = high b (h 0) in
     let second : b % 16 < 16 = low b (h 0) in
     rw (
-      digit-back (b / 16) first,
+      digit_back (b / 16) first,
       ne_eqb (b / 16) 16 (λ e. omega arith),
-      digit-back (b % 16) second,
+      digit_back (b % 16) second,
       ne_eqb (b % 16) 16 (λ e. omega arith),
     )
     (digits_are bytes (λ j. h (suc j)))
 
-pub digits-length : (bytes : List ℕ) → length (digitsFor bytes) ≡ length bytes * 2
-unfolding digitsFor
-digits-length [] = refl
-digits-length (b ∷ bytes) = omega (arith, digits-length bytes)
+pub digits_length : (bytes : List ℕ) → length (digits_for bytes) ≡ length bytes * 2
+unfolding digits_for
+digits_length [] = refl
+digits_length (b ∷ bytes) = omega (arith, digits_length bytes)
 
 -- a line's digits up to its end
-before-line :
+before_line :
     (c : ℕ) (text line : List ℕ) (lines : List (List ℕ)) → (c ≡ 10 → ⊥) → lines_of text ≡ line ∷ lines
     → lines_of (c ∷ text) ≡ (c ∷ line) ∷ lines
 unfolding lines_of
-before-line c text line lines h e = rw (ne_eqb _ _ h, e)
+before_line c text line lines h e = rw (ne_eqb _ _ h, e)
 
-pub digits-line :
+pub digits_line :
     (bytes rest : List ℕ) → Bytes bytes
-    → lines_of (digitsFor bytes ++ (10 ∷ rest)) ≡ (digitsFor bytes ++ (10 ∷ [])) ∷ lines_of rest
-unfolding digitsFor lines_of
-digits-line [] rest h = refl
-digits-line (b ∷ bytes) rest h =
-    let text = digitsFor bytes ++ (10 ∷ rest) in
-    let line = digitsFor bytes ++ (10 ∷ []) in
-    before-line (glyph (b / 16)) (glyph (b % 16) ∷ text) (glyph (b % 16) ∷ line) (lines_of rest)
+    → lines_of (digits_for bytes ++ (10 ∷ rest)) ≡ (digits_for bytes ++ (10 ∷ [])) ∷ lines_of rest
+unfolding digits_for lines_of
+digits_line [] rest h = refl
+digits_line (b ∷ bytes) rest h =
+    let text = digits_for bytes ++ (10 ∷ rest) in
+    let line = digits_for bytes ++ (10 ∷ []) in
+    before_line (glyph (b / 16)) (glyph (b % 16) ∷ text) (glyph (b % 16) ∷ line) (lines_of rest)
     (no_end (b / 16) (high b (h 0)))
-    (before-line (glyph (b % 16)) text line (lines_of rest) (no_end (b % 16) (low b (h 0)))
-    (digits-line bytes rest (λ j. h (suc j))))
+    (before_line (glyph (b % 16)) text line (lines_of rest) (no_end (b % 16) (low b (h 0)))
+    (digits_line bytes rest (λ j. h (suc j))))
 
-no-returns : (bytes : List ℕ) → Bytes bytes → (j : ℕ) → get_or (digitsFor bytes) j 0 ≡ 13 → ⊥
-unfolding digitsFor
-no-returns [] h j e = omega arith
-no-returns (b ∷ bytes) h zero e = no_return (b / 16) (high b (h 0)) e
-no-returns (b ∷ bytes) h (suc zero) e = no_return (b % 16) (low b (h 0)) e
-no-returns (b ∷ bytes) h (suc (suc j)) e = no-returns bytes (λ k. h (suc k)) j e
+no_returns : (bytes : List ℕ) → Bytes bytes → (j : ℕ) → get_or (digits_for bytes) j 0 ≡ 13 → ⊥
+unfolding digits_for
+no_returns [] h j e = omega arith
+no_returns (b ∷ bytes) h zero e = no_return (b / 16) (high b (h 0)) e
+no_returns (b ∷ bytes) h (suc zero) e = no_return (b % 16) (low b (h 0)) e
+no_returns (b ∷ bytes) h (suc (suc j)) e = no_returns bytes (λ k. h (suc k)) j e
 
-no-return-after-colon : (bytes : List ℕ) → Bytes bytes → (j : ℕ) → get_or (58 ∷ digitsFor bytes) j 0 ≡ 13 → ⊥
-no-return-after-colon bytes h zero e = omega arith
-no-return-after-colon bytes h (suc j) e = no-returns bytes h j e
+no_return_after_colon : (bytes : List ℕ) → Bytes bytes → (j : ℕ) → get_or (58 ∷ digits_for bytes) j 0 ≡ 13 → ⊥
+no_return_after_colon bytes h zero e = omega arith
+no_return_after_colon bytes h (suc j) e = no_returns bytes h j e
 
 -- what is left without the 0Ah
-cut : (line : List ℕ) → withoutLast 10 (line ++ (10 ∷ [])) ≡ line
+cut : (line : List ℕ) → without_last 10 (line ++ (10 ∷ [])) ≡ line
 cut line =
     let size : length (line ++ (10 ∷ [])) - 1 ≡ length line = omega (arith, length-append line (10 ∷ [])) in
     let ends : get_or (line ++ (10 ∷ [])) (length (line ++ (10 ∷ [])) - 1) 0 ≡ 10 =
@@ -111,22 +111,22 @@ cut line =
     sym (last_off 10 (line ++ (10 ∷ [])) ends)
     ∙ take_at line (10 ∷ []) (length (line ++ (10 ∷ [])) - 1) (sym size)
 
-pub content : (bytes : List ℕ) → Bytes bytes → contentOf (58 ∷ (digitsFor bytes ++ (10 ∷ []))) ≡ 58 ∷ digitsFor bytes
+pub content : (bytes : List ℕ) → Bytes bytes → content_of (58 ∷ (digits_for bytes ++ (10 ∷ []))) ≡ 58 ∷ digits_for bytes
 content bytes h =
-    ap (withoutLast 13) (cut (58 ∷ digitsFor bytes))
-    ∙ sym (last-stays 13 (58 ∷ digitsFor bytes) (no-return-after-colon bytes h (length (58 ∷ digitsFor bytes) - 1)))
+    ap (without_last 13) (cut (58 ∷ digits_for bytes))
+    ∙ sym (last_stays 13 (58 ∷ digits_for bytes) (no_return_after_colon bytes h (length (58 ∷ digits_for bytes) - 1)))
 
 -- the sum with the checksum
-total-append : (bytes : List ℕ) (last : ℕ) → total (bytes ++ (last ∷ [])) ≡ total bytes + last
+total_append : (bytes : List ℕ) (last : ℕ) → total (bytes ++ (last ∷ [])) ≡ total bytes + last
 unfolding total
-total-append [] last = omega arith
-total-append (b ∷ bytes) last = omega (arith, total-append bytes last)
+total_append [] last = omega arith
+total_append (b ∷ bytes) last = omega (arith, total_append bytes last)
 
-pub summed : (bytes : List ℕ) → total (bytes ++ (checksumOf bytes ∷ [])) % 256 ≡ 0
-summed bytes = rw (total-append bytes (checksumOf bytes)) (omega arith)
+pub summed : (bytes : List ℕ) → total (bytes ++ (checksum_of bytes ∷ [])) % 256 ≡ 0
+summed bytes = rw (total_append bytes (checksum_of bytes)) (omega arith)
 
-pub with-checksum : (bytes : List ℕ) → Bytes bytes → Bytes (bytes ++ (checksumOf bytes ∷ []))
-with-checksum bytes h = by bytes (checksumOf bytes) h (omega arith)
+pub with_checksum : (bytes : List ℕ) → Bytes bytes → Bytes (bytes ++ (checksum_of bytes ∷ []))
+with_checksum bytes h = by bytes (checksum_of bytes) h (omega arith)
   where
     by : (l : List ℕ) (c : ℕ) → Bytes l → c < 256 → Bytes (l ++ (c ∷ []))
     by [] c h k zero = k
@@ -135,16 +135,16 @@ with-checksum bytes h = by bytes (checksumOf bytes) h (omega arith)
     by (b ∷ l) c h k (suc j) = by l c (λ i. h (suc i)) k j
 
 -- a record that is written passes the tests
-pub record-back :
+pub record_back :
     (first : ℕ) (memory bytes : List ℕ) → Bytes bytes → length bytes ≡ 5 + get_or bytes 0 0 → total bytes % 256 ≡ 0
-    → afterLine first false memory (58 ∷ digitsFor bytes) ≡ afterRecord first memory bytes
-unfolding afterDigits
-record-back first memory bytes h n e =
-    sym (colon first memory (58 ∷ digitsFor bytes) (λ z. omega arith) refl)
+    → after_line first false memory (58 ∷ digits_for bytes) ≡ after_record first memory bytes
+unfolding after_digits
+record_back first memory bytes h n e =
+    sym (colon first memory (58 ∷ digits_for bytes) (λ z. omega arith) refl)
     ∙ rw (
       digits_are bytes h,
       bytes_back bytes h,
-      digits-length bytes,
+      digits_length bytes,
       eq-eqb (length bytes * 2) (10 + get_or bytes 0 0 * 2) (omega (arith, n)),
       e,
     )
@@ -153,40 +153,40 @@ one_byte : (b : ℕ) (bytes : List ℕ) → b < 256 → Bytes bytes → Bytes (b
 one_byte b bytes h k zero = h
 one_byte b bytes h k (suc j) = k j
 
-pub data-bytes :
-    (address : ℕ) (bytes : List ℕ) → Bytes bytes → length bytes < 256 → address < 65536 → Bytes (dataFor address bytes)
-data-bytes address bytes h n a =
+pub data_bytes :
+    (address : ℕ) (bytes : List ℕ) → Bytes bytes → length bytes < 256 → address < 65536 → Bytes (data_for address bytes)
+data_bytes address bytes h n a =
     let three = one_byte 0 bytes (omega arith) h in
     let two = one_byte (address % 256) (0 ∷ bytes) (omega arith) three in
     let one = one_byte (address / 256) (address % 256 ∷ 0 ∷ bytes) (omega arith) two in
     one_byte (length bytes) (address / 256 ∷ address % 256 ∷ 0 ∷ bytes) n one
 
 -- a data record, and the end record
-pub data-back :
+pub data_back :
     (first : ℕ) (memory : List ℕ) (address : ℕ) (bytes : List ℕ) → Bytes bytes → length bytes < 256 → address < 65536
-    → afterLine first false memory (58 ∷ digitsFor (dataFor address bytes ++ (checksumOf (dataFor address bytes) ∷ [])))
+    → after_line first false memory (58 ∷ digits_for (data_for address bytes ++ (checksum_of (data_for address bytes) ∷ [])))
     ≡ placed first address memory bytes
-unfolding afterRecord
-data-back first memory address bytes h n a =
-    record-back first memory (dataFor address bytes ++ (checksumOf (dataFor address bytes) ∷ []))
-    (with-checksum (dataFor address bytes) (data-bytes address bytes h n a))
-    (omega (arith, length-append bytes (checksumOf (dataFor address bytes) ∷ []))) (summed (dataFor address bytes))
-    ∙ rw (div-add-mod' address 256, take-append_seam bytes (checksumOf (dataFor address bytes) ∷ []))
+unfolding after_record
+data_back first memory address bytes h n a =
+    record_back first memory (data_for address bytes ++ (checksum_of (data_for address bytes) ∷ []))
+    (with_checksum (data_for address bytes) (data_bytes address bytes h n a))
+    (omega (arith, length-append bytes (checksum_of (data_for address bytes) ∷ []))) (summed (data_for address bytes))
+    ∙ rw (div-add-mod' address 256, take-append_seam bytes (checksum_of (data_for address bytes) ∷ []))
 
 pub end_back :
     (first : ℕ) (memory : List ℕ)
-    → afterLine first false memory (58 ∷ digitsFor ((0 ∷ 0 ∷ 0 ∷ 1 ∷ []) ++ (checksumOf (0 ∷ 0 ∷ 0 ∷ 1 ∷ []) ∷ [])))
+    → after_line first false memory (58 ∷ digits_for ((0 ∷ 0 ∷ 0 ∷ 1 ∷ []) ++ (checksum_of (0 ∷ 0 ∷ 0 ∷ 1 ∷ []) ∷ [])))
     ≡ goes true memory
-unfolding afterLine afterDigits afterRecord areDigits bytes_of digitOf digitsFor glyph total
+unfolding after_line after_digits after_record are_digits bytes_of digit_of digits_for glyph total
 end_back first memory = refl
 
 -- the line of a record, with what follows it
-pub line-back :
+pub line_back :
     (bytes rest : List ℕ) → Bytes bytes
     → lines_of (line_for bytes ++ rest)
-    ≡ (58 ∷ (digitsFor (bytes ++ (checksumOf bytes ∷ [])) ++ (10 ∷ []))) ∷ lines_of rest
-line-back bytes rest h =
-    let full = bytes ++ (checksumOf bytes ∷ []) in
-    before-line 58 ((digitsFor full ++ (10 ∷ [])) ++ rest) (digitsFor full ++ (10 ∷ [])) (lines_of rest)
+    ≡ (58 ∷ (digits_for (bytes ++ (checksum_of bytes ∷ [])) ++ (10 ∷ []))) ∷ lines_of rest
+line_back bytes rest h =
+    let full = bytes ++ (checksum_of bytes ∷ []) in
+    before_line 58 ((digits_for full ++ (10 ∷ [])) ++ rest) (digits_for full ++ (10 ∷ [])) (lines_of rest)
     (λ e. omega arith)
-    (rw (append_assoc (digitsFor full) (10 ∷ []) rest) (digits-line full rest (with-checksum bytes h)))
+    (rw (append_assoc (digits_for full) (10 ∷ []) rest) (digits_line full rest (with_checksum bytes h)))

@@ -11,26 +11,26 @@ use borrow.Author.Tests.{le-leb, lt-ltb}
 use Rattle.isa.specs.RoundTrip.{Bytes}
 use Rattle.hex.specs.Lines.{lines_of}
 use Rattle.hex.specs.Place.{goes, placed}
-use Rattle.hex.specs.Take.{afterLine}
-use Rattle.hex.specs.Read.{whole, afterLines}
-use Rattle.hex.specs.Write.{checksumOf, dataFor, digitsFor, line_for, rowsFor}
-use Rattle.hex.proofs.ReadLaws.{line_read, text-ends}
-use Rattle.hex.proofs.WrittenLine.{content, with-checksum, data-bytes, data-back, end_back, line-back}
+use Rattle.hex.specs.Take.{after_line}
+use Rattle.hex.specs.Read.{whole, after_lines}
+use Rattle.hex.specs.Write.{checksum_of, data_for, digits_for, line_for, rows_for}
+use Rattle.hex.proofs.ReadLaws.{line_read, text_ends}
+use Rattle.hex.proofs.WrittenLine.{content, with_checksum, data_bytes, data_back, end_back, line_back}
 
 -- so many cells that are not named
 abbrev pub unnamed : ℕ → List ℕ
 unnamed n = replicate n 256
 
 -- bytes placed where nothing is named
-pub placed-fresh :
+pub placed_fresh :
     (first : ℕ) (front bytes back : List ℕ) → first ≤ length front → length front + length bytes ≤ 4096
     → placed first (length front) (front ++ (unnamed (length bytes) ++ back)) bytes
     ≡ goes false (front ++ (bytes ++ back))
 unfolding placed
-placed-fresh first front [] back h k = refl
-placed-fresh first front (b ∷ bytes) back h k =
+placed_fresh first front [] back h k = refl
+placed_fresh first front (b ∷ bytes) back h k =
     let next : length (front ++ (b ∷ [])) ≡ suc (length front) = omega (arith, length-append front (b ∷ [])) in
-    let again = placed-fresh first (front ++ (b ∷ [])) bytes back (omega arith) (omega arith) in
+    let again = placed_fresh first (front ++ (b ∷ [])) bytes back (omega arith) (omega arith) in
     rw (
       le-leb first (length front) h,
       lt-ltb (length front) 4096 (omega arith),
@@ -54,60 +54,60 @@ bytes_drop : (n : ℕ) (bytes : List ℕ) → Bytes bytes → Bytes (drop n byte
 bytes_drop n bytes h j = rw (get_or-drop n bytes j 0) (h (n + j))
 
 -- the end record
-abbrev pub endBytes : List ℕ
-endBytes = 0 ∷ 0 ∷ 0 ∷ 1 ∷ []
+abbrev pub end_bytes : List ℕ
+end_bytes = 0 ∷ 0 ∷ 0 ∷ 1 ∷ []
 
-end-bytes : Bytes endBytes
-end-bytes zero = omega arith
-end-bytes (suc zero) = omega arith
-end-bytes (suc (suc zero)) = omega arith
-end-bytes (suc (suc (suc zero))) = omega arith
-end-bytes (suc (suc (suc (suc j)))) = omega arith
+end_bytes_lem : Bytes end_bytes
+end_bytes_lem zero = omega arith
+end_bytes_lem (suc zero) = omega arith
+end_bytes_lem (suc (suc zero)) = omega arith
+end_bytes_lem (suc (suc (suc zero))) = omega arith
+end_bytes_lem (suc (suc (suc (suc j)))) = omega arith
 
 end_read :
     (first number : ℕ) (memory : List ℕ)
-    → afterLines first false number memory (lines_of (line_for endBytes)) ≡ whole memory
+    → after_lines first false number memory (lines_of (line_for end_bytes)) ≡ whole memory
 end_read first number memory =
-    let full = endBytes ++ (checksumOf endBytes ∷ []) in
-    let line : List ℕ = 58 ∷ (digitsFor full ++ (10 ∷ [])) in
-    ap (λ (l : List ℕ). afterLines first false number memory (lines_of l)) (sym (append-nil (line_for endBytes)))
-    ∙ ap (λ (l : List (List ℕ)). afterLines first false number memory l) (line-back endBytes [] end-bytes)
+    let full = end_bytes ++ (checksum_of end_bytes ∷ []) in
+    let line : List ℕ = 58 ∷ (digits_for full ++ (10 ∷ [])) in
+    ap (λ (l : List ℕ). after_lines first false number memory (lines_of l)) (sym (append-nil (line_for end_bytes)))
+    ∙ ap (λ (l : List (List ℕ)). after_lines first false number memory l) (line_back end_bytes [] end_bytes_lem)
     ∙ line_read first false number memory line (lines_of []) true memory
-    (ap (λ (l : List ℕ). afterLine first false memory l) (content full (with-checksum endBytes end-bytes))
+    (ap (λ (l : List ℕ). after_line first false memory l) (content full (with_checksum end_bytes end_bytes_lem))
     ∙ end_back first memory)
-    ∙ sym (text-ends first (suc number) memory [] refl)
+    ∙ sym (text_ends first (suc number) memory [] refl)
 
 -- one row, before lines that follow it
 row_read :
     (first number : ℕ) (front row back rest : List ℕ) → Bytes row → length row < 256 → first ≤ length front
     → length front + length row ≤ 4096
-    → afterLines first false number (front ++ (unnamed (length row) ++ back))
-    (lines_of (line_for (dataFor (length front) row) ++ rest))
-    ≡ afterLines first false (suc number) (front ++ (row ++ back)) (lines_of rest)
+    → after_lines first false number (front ++ (unnamed (length row) ++ back))
+    (lines_of (line_for (data_for (length front) row) ++ rest))
+    ≡ after_lines first false (suc number) (front ++ (row ++ back)) (lines_of rest)
 row_read first number front row back rest h n f s =
     let address = length front in
     let small : address < 65536 = omega arith in
-    let header = data-bytes address row h n small in
-    let full = dataFor address row ++ (checksumOf (dataFor address row) ∷ []) in
-    let line : List ℕ = 58 ∷ (digitsFor full ++ (10 ∷ [])) in
+    let header = data_bytes address row h n small in
+    let full = data_for address row ++ (checksum_of (data_for address row) ∷ []) in
+    let line : List ℕ = 58 ∷ (digits_for full ++ (10 ∷ [])) in
     let memory = front ++ (unnamed (length row) ++ back) in
-    ap (λ (l : List (List ℕ)). afterLines first false number memory l) (line-back (dataFor address row) rest header)
+    ap (λ (l : List (List ℕ)). after_lines first false number memory l) (line_back (data_for address row) rest header)
     ∙ line_read first false number memory line (lines_of rest) false (front ++ (row ++ back))
-    (ap (λ (l : List ℕ). afterLine first false memory l) (content full (with-checksum (dataFor address row) header))
-    ∙ data-back first memory address row h n small
-    ∙ placed-fresh first front row back f s)
+    (ap (λ (l : List ℕ). after_line first false memory l) (content full (with_checksum (data_for address row) header))
+    ∙ data_back first memory address row h n small
+    ∙ placed_fresh first front row back f s)
 
 -- all rows, then the end record
-pub rows-read :
+pub rows_read :
     (rows first number : ℕ) (front bytes : List ℕ) → Bytes bytes → length bytes ≡ rows * 16 → first ≤ length front
     → length front + length bytes ≤ 4096
-    → afterLines first false number (front ++ unnamed (length bytes))
-    (lines_of (rowsFor rows (length front) bytes ++ line_for endBytes))
+    → after_lines first false number (front ++ unnamed (length bytes))
+    (lines_of (rows_for rows (length front) bytes ++ line_for end_bytes))
     ≡ whole (front ++ bytes)
-unfolding rowsFor
-rows-read zero first number front [] h n f s = end_read first number (front ++ [])
-rows-read zero first number front (b ∷ bytes) h n f s = absurd (omega arith)
-rows-read (suc rows) first number front bytes h n f s =
+unfolding rows_for
+rows_read zero first number front [] h n f s = end_read first number (front ++ [])
+rows_read zero first number front (b ∷ bytes) h n f s = absurd (omega arith)
+rows_read (suc rows) first number front bytes h n f s =
     let row = take 16 bytes in
     let more = drop 16 bytes in
     let long : length row ≡ 16 = length-take-le 16 bytes (omega arith) in
@@ -117,10 +117,10 @@ rows-read (suc rows) first number front bytes h n f s =
     sym (replicate-append-replicate {A = ℕ} (length row) (length more) 256 ∙ ap unnamed size) in
     let next : length (front ++ row) ≡ length front + 16 = omega (arith, length-append front row) in
     let again =
-    rows-read rows first (suc number) (front ++ row) more (bytes_drop 16 bytes h) left (omega arith) (omega arith) in
-    let rest = rowsFor rows (length front + 16) more in
+    rows_read rows first (suc number) (front ++ row) more (bytes_drop 16 bytes h) left (omega arith) (omega arith) in
+    let rest = rows_for rows (length front + 16) more in
     let cells-more = unnamed (length more) in
-    rw (cells, append_assoc (line_for (dataFor (length front) row)) rest (line_for endBytes))
-    (row_read first number front row cells-more (rest ++ line_for endBytes) (bytes_take 16 bytes h) (omega arith) f
+    rw (cells, append_assoc (line_for (data_for (length front) row)) rest (line_for end_bytes))
+    (row_read first number front row cells-more (rest ++ line_for end_bytes) (bytes_take 16 bytes h) (omega arith) f
     (omega arith)
     ∙ (rw (next, append_assoc front row cells-more, append_assoc front row more, take-append-drop 16 bytes) at again))

@@ -1,17 +1,17 @@
 -- Cases from outside: the check value that the CRC-32 is known by, and a line that is a common example of the format.
 use Rattle.std.specs.Prelude.{ℕ, ◌≡◌, false, List, [], ◌∷◌, ◌++◌, replicate}
-use Rattle.hex.specs.Crc.{crcOf}
+use Rattle.hex.specs.Crc.{crc_of}
 use Rattle.hex.specs.Place.{goes}
-use Rattle.hex.specs.Take.{afterLine}
+use Rattle.hex.specs.Take.{after_line}
 
 -- the CRC-32 of `123456789`
 -- proved by check-value, proofs/Cases
 abbrev pub CheckValue : Type 0
-CheckValue = crcOf (49 ∷ 50 ∷ 51 ∷ 52 ∷ 53 ∷ 54 ∷ 55 ∷ 56 ∷ 57 ∷ []) ≡ 0xCBF43926
+CheckValue = crc_of (49 ∷ 50 ∷ 51 ∷ 52 ∷ 53 ∷ 54 ∷ 55 ∷ 56 ∷ 57 ∷ []) ≡ 0xCBF43926
 
 -- `:0B0010006164647265737320676170A7`
-abbrev pub exampleLine : List ℕ
-exampleLine =
+abbrev pub example_line : List ℕ
+example_line =
     58 ∷ 48 ∷ 66 ∷ 48 ∷ 48 ∷ 49 ∷ 48 ∷ 48 ∷ 48 ∷ 54 ∷ 49 ∷ 54 ∷ 52 ∷ 54 ∷ 52 ∷ 55 ∷ 50 ∷ 54 ∷ 53 ∷ 55 ∷ 51 ∷ 55 ∷ 51
     ∷ 50 ∷ 48 ∷ 54 ∷ 55 ∷ 54 ∷ 49 ∷ 55 ∷ 48 ∷ 65 ∷ 55 ∷ []
 
@@ -19,7 +19,7 @@ exampleLine =
 -- proved by example-is-placed, proofs/Cases
 abbrev pub ExampleIsPlaced : Type 0
 ExampleIsPlaced =
-    afterLine 0 false (replicate 32 256) exampleLine
+    after_line 0 false (replicate 32 256) example_line
     ≡ goes false
     (replicate 16 256
     ++ (97 ∷ 100 ∷ 100 ∷ 114 ∷ 101 ∷ 115 ∷ 115 ∷ 32 ∷ 103 ∷ 97 ∷ 112 ∷ 256 ∷ 256 ∷ 256 ∷ 256 ∷ 256 ∷ []))

@@ -4,21 +4,21 @@ use Rattle.std.specs.Prelude.{ℕ, zero, suc, ◌/◌, ◌%◌, cond, List, [], 
 use Rattle.std.specs.Int.Bits.{bit_xor}
 
 -- one bit: the register is halved, and takes the polynomial where a 1 falls out
-unfoldable pub afterBit : (register : ℕ) → ℕ
-afterBit r = cond (eqb (r % 2) 1) (bit_xor (r / 2) 0xEDB88320) (r / 2)
+unfoldable pub after_bit : (register : ℕ) → ℕ
+after_bit r = cond (eqb (r % 2) 1) (bit_xor (r / 2) 0xEDB88320) (r / 2)
 
-unfoldable pub afterBits : (bits register : ℕ) → ℕ
-afterBits zero r = r
-afterBits (suc n) r = afterBits n (afterBit r)
+unfoldable pub after_bits : (bits register : ℕ) → ℕ
+after_bits zero r = r
+after_bits (suc n) r = after_bits n (after_bit r)
 
 -- one byte: added to the register, then its eight bits
-abbrev pub afterByte : (register byte : ℕ) → ℕ
-afterByte r byte = afterBits 8 (bit_xor r byte)
+abbrev pub after_byte : (register byte : ℕ) → ℕ
+after_byte r byte = after_bits 8 (bit_xor r byte)
 
-unfoldable pub afterBytes : (register : ℕ) → (bytes : List ℕ) → ℕ
-afterBytes r [] = r
-afterBytes r (byte ∷ bytes) = afterBytes (afterByte r byte) bytes
+unfoldable pub after_bytes : (register : ℕ) → (bytes : List ℕ) → ℕ
+after_bytes r [] = r
+after_bytes r (byte ∷ bytes) = after_bytes (after_byte r byte) bytes
 
 -- the CRC-32
-unfoldable pub crcOf : (bytes : List ℕ) → ℕ
-crcOf bytes = bit_xor (afterBytes 0xFFFFFFFF bytes) 0xFFFFFFFF
+unfoldable pub crc_of : (bytes : List ℕ) → ℕ
+crc_of bytes = bit_xor (after_bytes 0xFFFFFFFF bytes) 0xFFFFFFFF

@@ -12,11 +12,11 @@ filled fill memory address (suc size) =
     value_of fill (get_or memory address 0) ∷ filled fill memory (suc address) size
 
 -- the first address that is named, of so many from an address on; the address after them if none is
-unfoldable pub lowestFrom : (memory : List ℕ) → (address size : ℕ) → ℕ
-lowestFrom memory address zero = address
-lowestFrom memory address (suc size) =
-    cond (ltb (get_or memory address 0) 256) address (lowestFrom memory (suc address) size)
+unfoldable pub lowest_from : (memory : List ℕ) → (address size : ℕ) → ℕ
+lowest_from memory address zero = address
+lowest_from memory address (suc size) =
+    cond (ltb (get_or memory address 0) 256) address (lowest_from memory (suc address) size)
 
 -- the lowest address that is named, 4096 if none is
-abbrev pub lowestIn : (memory : List ℕ) → ℕ
-lowestIn memory = lowestFrom memory 0 4096
+abbrev pub lowest_in : (memory : List ℕ) → ℕ
+lowest_in memory = lowest_from memory 0 4096

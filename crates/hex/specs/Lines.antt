@@ -12,16 +12,16 @@ lines_of [] = []
 lines_of (c ∷ rest) = cond (eqb c 10) ((c ∷ []) ∷ lines_of rest) (before c (lines_of rest))
 
 -- bytes without the last, where that is the given one
-unfoldable pub withoutLast : (last : ℕ) → (bytes : List ℕ) → List ℕ
-withoutLast last bytes = cond (eqb (get_or bytes (length bytes - 1) 0) last) (take (length bytes - 1) bytes) bytes
+unfoldable pub without_last : (last : ℕ) → (bytes : List ℕ) → List ℕ
+without_last last bytes = cond (eqb (get_or bytes (length bytes - 1) 0) last) (take (length bytes - 1) bytes) bytes
 
 -- what a line says: its ending does not count, nor does a 0Dh just before it or at the very end of the text
-abbrev pub contentOf : (line : List ℕ) → List ℕ
-contentOf line = withoutLast 13 (withoutLast 10 line)
+abbrev pub content_of : (line : List ℕ) → List ℕ
+content_of line = without_last 13 (without_last 10 line)
 
 -- What the functions inside the crate promise; no claim uses it.
 
 -- how many bytes the first line has, with its ending
-unfoldable pub lineSize : (text : List ℕ) → ℕ
-lineSize [] = 0
-lineSize (c ∷ rest) = cond (eqb c 10) 1 (suc (lineSize rest))
+unfoldable pub line_size : (text : List ℕ) → ℕ
+line_size [] = 0
+line_size (c ∷ rest) = cond (eqb c 10) 1 (suc (line_size rest))

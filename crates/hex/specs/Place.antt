@@ -11,8 +11,8 @@ pub data Step : Type 0 where
   faulty : Fault → Step
 
 -- a memory of which nothing is named
-unfoldable pub noneNamed : List ℕ
-noneNamed = replicate 4096 256
+unfoldable pub none_named : List ℕ
+none_named = replicate 4096 256
 
 -- the address of a record stands after the count, its high byte first
 abbrev pub address_of : (bytes : List ℕ) → ℕ
@@ -23,8 +23,8 @@ abbrev pub data_of : (count : ℕ) → (bytes : List ℕ) → List ℕ
 data_of count bytes = take count (drop 4 bytes)
 
 -- an image that begins at `first` has the address: it is not below the first, nor above FFFh
-abbrev pub isInside : (first address : ℕ) → Bool
-isInside first address = leb first address && ltb address 4096
+abbrev pub is_inside : (first address : ℕ) → Bool
+is_inside first address = leb first address && ltb address 4096
 
 -- a cell may be named with a byte where it is not named, or is named with that byte
 abbrev pub agrees : (cell byte : ℕ) → Bool
@@ -34,6 +34,6 @@ agrees cell byte = leb 256 cell || eqb cell byte
 unfoldable pub placed : (first address : ℕ) → (memory : List ℕ) → (bytes : List ℕ) → Step
 placed first address memory [] = goes false memory
 placed first address memory (b ∷ bytes) =
-    unless (isInside first address) (faulty OutsideImage)
+    unless (is_inside first address) (faulty OutsideImage)
     (unless (agrees (get_or memory address 0) b) (faulty DifferingData)
     (placed first (suc address) (set memory address b) bytes))

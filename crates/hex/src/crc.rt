@@ -1,10 +1,10 @@
 // The CRC-32 of bytes, as zip and Ethernet have it: polynomial EDB88320h with the lowest bit first.
 ghost use Rattle.std.specs.Prelude.{◌≡◌};
-ghost use Rattle.hex.specs.Crc.{afterBit, afterByte, crcOf};
+ghost use Rattle.hex.specs.Crc.{after_bit, after_byte, crc_of};
 
 // One bit: the register is halved, and takes the polynomial where a 1 falls out.
 fn after_bit(register: u32) -> u32
-    ensures { result ≡ afterBit register }
+    ensures { result ≡ after_bit register }
 {
     let half = register / 2;
     if register % 2 == 1 {
@@ -15,7 +15,7 @@ fn after_bit(register: u32) -> u32
 
 // One byte: added to the low bits, then eight bits.
 fn after_byte(register: u32, byte: u8) -> u32
-    ensures { result ≡ afterByte register byte }
+    ensures { result ≡ after_byte register byte }
 {
     let mut r = register ^ byte as u32;
     let mut i: u32 = 0;
@@ -28,7 +28,7 @@ fn after_byte(register: u32, byte: u8) -> u32
 
 // The register starts as FFFFFFFFh, and is inverted at the end.
 pub fn crc_32(bytes: &[u8]) -> u32
-    ensures { result ≡ crcOf bytes.now }
+    ensures { result ≡ crc_of bytes.now }
 {
     let mut register: u32 = 0xFFFF_FFFF;
     let mut i = 0;

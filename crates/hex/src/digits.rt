@@ -1,10 +1,10 @@
 // Pairs of hexadecimal digits, each a byte.
 ghost use Rattle.std.specs.Prelude.{◌+◌, ◌*◌, ◌<◌, ◌≤◌, ◌≡◌, length};
-ghost use Rattle.hex.specs.Digits.{areDigits, byte_at, bytes_of, digitOf, total};
+ghost use Rattle.hex.specs.Digits.{are_digits, byte_at, bytes_of, digit_of, total};
 
 // The value of a hexadecimal digit, of upper or lower case; 16 for any other character.
 pub fn digit_of(character: u8) -> usize
-    ensures { result ≡ digitOf character }
+    ensures { result ≡ digit_of character }
 {
     let c = character as usize;
     if c < 48 {
@@ -30,7 +30,7 @@ pub fn digit_of(character: u8) -> usize
 
 // Whether every character is a hexadecimal digit.
 pub fn is_digits(digits: &[u8]) -> bool
-    ensures { result ≡ areDigits digits.now }
+    ensures { result ≡ are_digits digits.now }
 {
     let mut i = 0;
     while i < digits.len() {

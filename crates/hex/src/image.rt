@@ -1,10 +1,10 @@
 // The image made of what was named.
 ghost use Rattle.std.specs.Prelude.{◌+◌, ◌≡◌, length};
-ghost use Rattle.hex.specs.Image.{filled, lowestIn, value_of};
+ghost use Rattle.hex.specs.Image.{filled, lowest_in, value_of};
 
 // The lowest address that is named; 4096 where none is.
 pub fn lowest_of(memory: &[u16; 4096]) -> u16
-    ensures { result ≡ lowestIn memory.now }
+    ensures { result ≡ lowest_in memory.now }
 {
     let mut i: usize = 0;
     while i < 4096 {

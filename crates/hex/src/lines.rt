@@ -1,7 +1,7 @@
 // A text taken line by line.
 ghost use Rattle.std.specs.Prelude.{◌≡◌, false};
-ghost use Rattle.hex.specs.Lines.{lineSize, lines_of, withoutLast};
-ghost use Rattle.hex.specs.Read.{afterLines, linesReadOf};
+ghost use Rattle.hex.specs.Lines.{line_size, lines_of, without_last};
+ghost use Rattle.hex.specs.Read.{after_lines, lines_read_of};
 
 use crate::Fault;
 use crate::place::Taken;
@@ -16,7 +16,7 @@ pub enum LinesRead {
 
 // How many bytes the first line has, with the 0Ah that ends it.
 fn line_size(text: &[u8]) -> usize
-    ensures { result ≡ lineSize text.now }
+    ensures { result ≡ line_size text.now }
 {
     let mut i = 0;
     while i < text.len() {
@@ -30,7 +30,7 @@ fn line_size(text: &[u8]) -> usize
 
 // The bytes without the last, where that is the given one.
 fn without_last(bytes: &[u8], last: u8) -> &[u8]
-    ensures { result.now ≡ withoutLast last bytes.now }
+    ensures { result.now ≡ without_last last bytes.now }
 {
     let size = bytes.len();
     if size == 0 {
@@ -45,8 +45,8 @@ fn without_last(bytes: &[u8], last: u8) -> &[u8]
 
 // Takes every line, in order; the first that is refused ends it.
 pub fn read_lines(text: &[u8], first: usize, memory: &mut [u16; 4096]) -> LinesRead
-    ensures { linesReadOf result memory.new
-        ≡ afterLines first false 1 memory.old (lines_of text.now) }
+    ensures { lines_read_of result memory.new
+        ≡ after_lines first false 1 memory.old (lines_of text.now) }
 {
     let mut rest = text;
     let mut number: usize = 1;

@@ -1,7 +1,7 @@
 // The bytes of a data record put to their addresses.
 ghost use Rattle.std.specs.Prelude.{◌+◌, ◌*◌, ◌≤◌, ◌≡◌, length};
 ghost use Rattle.hex.specs.Digits.{bytes_of};
-ghost use Rattle.hex.specs.Place.{agrees, data_of, address_of, isInside, placed};
+ghost use Rattle.hex.specs.Place.{agrees, data_of, address_of, is_inside, placed};
 ghost use Rattle.hex.specs.Take.{step_of};
 
 use crate::Fault;
@@ -16,7 +16,7 @@ pub enum Taken {
 
 // Whether an image that begins at `first` has an address.
 fn is_inside(first: usize, address: usize) -> bool
-    ensures { result ≡ isInside first address }
+    ensures { result ≡ is_inside first address }
 {
     first <= address && address < 4096
 }

@@ -1,7 +1,7 @@
 // A line taken: tried as the format says, and what it names put to its place.
 ghost use Rattle.std.specs.Prelude.{ℕ, ◌+◌, ◌*◌, ◌≡◌, List, length};
 ghost use Rattle.hex.specs.Digits.{byte_at, bytes_of};
-ghost use Rattle.hex.specs.Take.{afterBase, afterDigits, afterLine, afterRecord, step_of};
+ghost use Rattle.hex.specs.Take.{after_base, after_digits, after_line, after_record, step_of};
 
 use crate::Fault;
 use crate::digits::{byte_in, is_digits, sum_of};
@@ -10,7 +10,7 @@ use crate::place::{Taken, place_data};
 // A base of 0 changes nothing; any other is refused.
 fn take_base(digits: &[u8], count: usize) -> Taken
     requires { (length digits.now ≡ 10 + count * 2) × (count ≡ byte_at digits.now 0) }
-    ensures { (memory : List ℕ) → step_of result memory ≡ afterBase memory (bytes_of digits.now) }
+    ensures { (memory : List ℕ) → step_of result memory ≡ after_base memory (bytes_of digits.now) }
 {
     if count != 2 {
         return Taken::Faulty(Fault::WrongLength);
@@ -28,7 +28,7 @@ fn take_base(digits: &[u8], count: usize) -> Taken
 fn take_record(digits: &[u8], count: usize, first: usize, memory: &mut [u16; 4096]) -> Taken
     requires { (length digits.now ≡ 10 + count * 2) × (count ≡ byte_at digits.now 0) }
     ensures { step_of result memory.new
-        ≡ afterRecord first memory.old (bytes_of digits.now) }
+        ≡ after_record first memory.old (bytes_of digits.now) }
 {
     let kind = byte_in(digits, 3);
     if kind == 0 {
@@ -52,7 +52,7 @@ fn take_record(digits: &[u8], count: usize, first: usize, memory: &mut [u16; 409
 // What stands after the colon: digits, of the length that the count says, with a sum of 0.
 fn take_digits(digits: &[u8], first: usize, memory: &mut [u16; 4096]) -> Taken
     ensures { step_of result memory.new
-        ≡ afterDigits first memory.old digits.now }
+        ≡ after_digits first memory.old digits.now }
 {
     if !is_digits(digits) {
         return Taken::Faulty(Fault::BadDigit);
@@ -73,7 +73,7 @@ fn take_digits(digits: &[u8], first: usize, memory: &mut [u16; 4096]) -> Taken
 // A line without its ending. An empty one is passed over, also after the end record.
 pub fn take_line(line: &[u8], ended: bool, first: usize, memory: &mut [u16; 4096]) -> Taken
     ensures { step_of result memory.new
-        ≡ afterLine first ended memory.old line.now }
+        ≡ after_line first ended memory.old line.now }
 {
     if line.len() == 0 {
         return Taken::On(ended);

@@ -8,8 +8,8 @@ use mathlib.Core.List.{List}
 use lib.ListN.{length}
 use borrow.Author.Tests.{lt-ltb}
 use Rattle.isa.specs.Decode as decode
-use Rattle.isa.specs.Rom.{isSpace, isImage, IsImage, space_of, romAt, operand_at}
-use Rattle.isa.specs.Decode.{Decoding, withForm, withSecond, withFirst, withOpcode, decodeOf, decodeAt, decodeIn}
+use Rattle.isa.specs.Rom.{is_space, is_image, IsImage, space_of, rom_at, operand_at}
+use Rattle.isa.specs.Decode.{Decoding, with_form, with_second, with_first, with_opcode, decode_of, decode_at, decode_in}
 use Rattle.isa.specs.Table.{bytes_of}
 use Rattle.isa.specs.Map.{entry_of, form_of}
 use Rattle.isa.specs.Refusals.{Numbered, plain, located, Answer, done, refused}
@@ -28,44 +28,44 @@ AtAddress a (refused r) = (r ≡ located 4 a) ⊎ (r ≡ located 5 a)
 pub defined : {i : Instruction} {n c : ℕ} {r : Numbered} → done (decode.instruction i n c) ≡ refused r → ⊥
 defined e = let z : ◌≡◌ {A = ℕ} 0 1 = cc in omega arith
 
-at-form : (a opcode : ℕ) (f : Form) → AtAddress a (withForm a opcode f)
-at-form a opcode (Is i) = tt
-at-form a opcode Undefined = inr refl
+at_form : (a opcode : ℕ) (f : Form) → AtAddress a (with_form a opcode f)
+at_form a opcode (Is i) = tt
+at_form a opcode Undefined = inr refl
 
-at_second : (a opcode first : ℕ) (b : RomByte) → AtAddress a (withSecond a opcode first b)
-at_second a opcode first (Byte second) = at-form a opcode (form_of opcode first second)
+at_second : (a opcode first : ℕ) (b : RomByte) → AtAddress a (with_second a opcode first b)
+at_second a opcode first (Byte second) = at_form a opcode (form_of opcode first second)
 at_second a opcode first Outside = inl refl
 
-at_first : (image : List ℕ) (a opcode : ℕ) (b : RomByte) → AtAddress a (withFirst image a opcode b)
+at_first : (image : List ℕ) (a opcode : ℕ) (b : RomByte) → AtAddress a (with_first image a opcode b)
 at_first image a opcode (Byte first) = at_second a opcode first (operand_at image a 2 (bytes_of (entry_of opcode)))
 at_first image a opcode Outside = inl refl
 
-at-opcode : (image : List ℕ) (a : ℕ) (b : RomByte) → AtAddress a (withOpcode image a b)
-at-opcode image a (Byte opcode) = at_first image a opcode (operand_at image a 1 (bytes_of (entry_of opcode)))
-at-opcode image a Outside = inl refl
+at_opcode : (image : List ℕ) (a : ℕ) (b : RomByte) → AtAddress a (with_opcode image a b)
+at_opcode image a (Byte opcode) = at_first image a opcode (operand_at image a 1 (bytes_of (entry_of opcode)))
+at_opcode image a Outside = inl refl
 
-pub at_address : (image : List ℕ) (a : ℕ) → isSpace (length image) ≡ true → a < 4096 → AtAddress a (decodeAt image a)
-unfolding decodeAt
-at_address image a e h = rw (e, lt-ltb a 4096 h) (at-opcode image a (romAt image a))
+pub at_address : (image : List ℕ) (a : ℕ) → is_space (length image) ≡ true → a < 4096 → AtAddress a (decode_at image a)
+unfolding decode_at
+at_address image a e h = rw (e, lt-ltb a 4096 h) (at_opcode image a (rom_at image a))
 
 -- where length and address are tested already
-pub in-range : (image : List ℕ) (a : ℕ) → isSpace (length image) ≡ true → a < 4096 → decodeOf image a ≡ decodeAt image a
-unfolding decodeAt
-in-range image a e h = rw (e, lt-ltb a 4096 h)
+pub in_range : (image : List ℕ) (a : ℕ) → is_space (length image) ≡ true → a < 4096 → decode_of image a ≡ decode_at image a
+unfolding decode_at
+in_range image a e h = rw (e, lt-ltb a 4096 h)
 
 -- decoding with a bank byte is decoding in program space as it stands
-pub in-space : (image : List ℕ) (bank a : ℕ) → IsImage image → decodeIn image bank a ≡ decodeAt (space_of image bank) a
-unfolding decodeIn
-in-space image bank a is = rw is
+pub in_space : (image : List ℕ) (bank a : ℕ) → IsImage image → decode_in image bank a ≡ decode_at (space_of image bank) a
+unfolding decode_in
+in_space image bank a is = rw is
 
 -- .. wherever it answers an instruction
-pub from-space : (image : List ℕ) (bank a : ℕ) (i : Instruction) (n c : ℕ)
-    → decodeIn image bank a ≡ done (decode.instruction i n c)
-    → decodeAt (space_of image bank) a ≡ done (decode.instruction i n c)
-unfolding decodeIn
-from-space image bank a i n c = by_length (isImage (length image))
+pub from_space : (image : List ℕ) (bank a : ℕ) (i : Instruction) (n c : ℕ)
+    → decode_in image bank a ≡ done (decode.instruction i n c)
+    → decode_at (space_of image bank) a ≡ done (decode.instruction i n c)
+unfolding decode_in
+from_space image bank a i n c = by_length (is_image (length image))
   where
-    by_length : (b : Bool) → cond b (decodeAt (space_of image bank) a) (refused (plain 1)) ≡ done (decode.instruction i n c)
-        → decodeAt (space_of image bank) a ≡ done (decode.instruction i n c)
+    by_length : (b : Bool) → cond b (decode_at (space_of image bank) a) (refused (plain 1)) ≡ done (decode.instruction i n c)
+        → decode_at (space_of image bank) a ≡ done (decode.instruction i n c)
     by_length true q = q
     by_length false q = let z : ◌≡◌ {A = ℕ} 0 1 = cc in absurd (omega arith)

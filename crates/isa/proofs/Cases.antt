@@ -5,37 +5,37 @@ use mathlib.Core.Bool.{true}
 use mathlib.Core.List.{List}
 use lib.ListN.{length}
 use Rattle.isa.specs.Refusals.{Answer}
-use Rattle.isa.specs.Table.{bytes_of, cyclesOf}
-use Rattle.isa.specs.Map.{entry_of, form_of, formAs}
-use Rattle.isa.specs.Rom.{isSpace, romAt, operand_at}
-use Rattle.isa.specs.Decode.{Decoding, decodeAt, decodeIn}
+use Rattle.isa.specs.Table.{bytes_of, cycles_of}
+use Rattle.isa.specs.Map.{entry_of, form_of, form_as}
+use Rattle.isa.specs.Rom.{is_space, rom_at, operand_at}
+use Rattle.isa.specs.Decode.{Decoding, decode_at, decode_in}
 use Rattle.isa.specs.ControlFlow.{flow_of}
 use Rattle.isa.specs.Cases.{DecodingCases}
-use Rattle.isa.proofs.AtAddress.{in-space}
-use Rattle.isa.proofs.Halves.{space-image, space-is-image}
+use Rattle.isa.proofs.AtAddress.{in_space}
+use Rattle.isa.proofs.Halves.{space_image, space_is_image}
 
 -- without pages to choose from the bank byte does not matter
-pub any-bank : (image : List ℕ) (a : ℕ) (d : Answer Decoding) → isSpace (length image) ≡ true → decodeAt image a ≡ d
-    → (bank : ℕ) → decodeIn image bank a ≡ d
-any-bank image a d is e bank = in-space image bank a (space-image image is) ∙ rw (space-is-image image bank is) e
+pub any_bank : (image : List ℕ) (a : ℕ) (d : Answer Decoding) → is_space (length image) ≡ true → decode_at image a ≡ d
+    → (bank : ℕ) → decode_in image bank a ≡ d
+any_bank image a d is e bank = in_space image bank a (space_image image is) ∙ rw (space_is_image image bank is) e
 
-pub decoding-cases : DecodingCases
-unfolding decodeAt romAt operand_at form_of formAs entry_of bytes_of cyclesOf flow_of
-decoding-cases =
+pub decoding_cases : DecodingCases
+unfolding decode_at rom_at operand_at form_of form_as entry_of bytes_of cycles_of flow_of
+decoding_cases =
     record {
       long-ends = record {
-        farthest = (any-bank _ _ _ refl refl, refl);
-        farthest-back = (any-bank _ _ _ refl refl, refl);
+        farthest = (any_bank _ _ _ refl refl, refl);
+        farthest-back = (any_bank _ _ _ refl refl, refl);
       };
       return-opcodes = record {
-        of-interrupt = (any-bank _ _ _ refl refl, refl);
-        of-subroutine = (any-bank _ _ _ refl refl, refl);
+        of-interrupt = (any_bank _ _ _ refl refl, refl);
+        of-subroutine = (any_bank _ _ _ refl refl, refl);
       };
       tested-bit = λ f s. refl;
       no-forms-of-their-own = record {
-        nop = (any-bank _ _ _ refl refl, refl);
-        clear-a = (any-bank _ _ _ refl refl, refl);
-        shift-a = (any-bank _ _ _ refl refl, refl);
-        clear = λ d. (any-bank _ _ _ refl refl, refl);
+        nop = (any_bank _ _ _ refl refl, refl);
+        clear-a = (any_bank _ _ _ refl refl, refl);
+        shift-a = (any_bank _ _ _ refl refl, refl);
+        clear = λ d. (any_bank _ _ _ refl refl, refl);
       };
     }

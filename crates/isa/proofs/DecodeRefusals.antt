@@ -11,113 +11,113 @@ use Rattle.isa.specs.declared.Form.TheVariants.{Is, Undefined}
 use Rattle.isa.specs.declared.rom.RomByte.{RomByte}
 use Rattle.isa.specs.declared.rom.RomByte.TheVariants.{Byte, Outside}
 use Rattle.isa.specs.Refusals.{Numbered, located, refused}
-use Rattle.isa.specs.Displacement.{forwardOf}
+use Rattle.isa.specs.Displacement.{forward_of}
 use Rattle.isa.specs.Table.{bytes_of}
 use Rattle.isa.specs.Map.{entry_of, form_of}
-use Rattle.isa.specs.Rom.{space_of, romAt, operand_at}
-use Rattle.isa.specs.Decode.{Decoding, withForm, withSecond, withFirst, decodeAt, decodeIn}
-use Rattle.isa.specs.Counts.{isUndefined, member, undefinedOpcodes}
+use Rattle.isa.specs.Rom.{space_of, rom_at, operand_at}
+use Rattle.isa.specs.Decode.{Decoding, with_form, with_second, with_first, decode_at, decode_in}
+use Rattle.isa.specs.Counts.{is_undefined, member, undefined_opcodes}
 use Rattle.isa.specs.DecodeRefusals.{Opcode, Cut, DecodeRefusals}
-use Rattle.isa.proofs.AtAddress.{in-space}
-use Rattle.isa.proofs.Halves.{is-space}
+use Rattle.isa.proofs.AtAddress.{in_space}
+use Rattle.isa.proofs.Halves.{is_space_lem}
 use Rattle.isa.proofs.Column.{pick}
-use Rattle.isa.proofs.Counts.{undefined-listed}
-use Rattle.isa.proofs.InImage.{bytes-few}
+use Rattle.isa.proofs.Counts.{undefined_listed}
+use Rattle.isa.proofs.InImage.{bytes_few}
 
 -- decoding goes on from an opcode that stands in ROM
-from-opcode :
+from_opcode :
     (image : List ℕ) (bank a k : ℕ) → Opcode image bank a k →
-    decodeIn image bank a
-    ≡ withFirst (space_of image bank) a k (operand_at (space_of image bank) a 1 (bytes_of (entry_of k)))
-unfolding decodeAt
-from-opcode image bank a k o =
-    in-space image bank a o.size
-    ∙ rw (is-space image bank o.size, lt-ltb a 4096 o.below, o.here)
+    decode_in image bank a
+    ≡ with_first (space_of image bank) a k (operand_at (space_of image bank) a 1 (bytes_of (entry_of k)))
+unfolding decode_at
+from_opcode image bank a k o =
+    in_space image bank a o.size
+    ∙ rw (is_space_lem image bank o.size, lt-ltb a 4096 o.below, o.here)
 
-undefined-form : (x : Form) → isUndefined x ≡ true → x ≡ Undefined
-undefined-form (Is i) e = cc
-undefined-form Undefined e = refl
+undefined_form : (x : Form) → is_undefined x ≡ true → x ≡ Undefined
+undefined_form (Is i) e = cc
+undefined_form Undefined e = refl
 
-undefined-opcode :
-    (image : List ℕ) (bank a k : ℕ) → Opcode image bank a k → member k undefinedOpcodes ≡ true
-    → decodeIn image bank a ≡ refused (located 5 a)
+undefined_opcode :
+    (image : List ℕ) (bank a k : ℕ) → Opcode image bank a k → member k undefined_opcodes ≡ true
+    → decode_in image bank a ≡ refused (located 5 a)
 unfolding operand_at
-undefined-opcode image bank a k o m =
-    let empty : bytes_of (entry_of k) ≡ 0 = undefined-listed.no_length k o.byte m in
+undefined_opcode image bank a k o m =
+    let empty : bytes_of (entry_of k) ≡ 0 = undefined_listed.no_length k o.byte m in
     let form : form_of k 0 0 ≡ Undefined =
-    undefined-form (form_of k 0 0) (undefined-listed.exactly k 0 0 o.byte ∙ m) in
-    from-opcode image bank a k o ∙ rw (empty, empty, form)
+    undefined_form (form_of k 0 0) (undefined_listed.exactly k 0 0 o.byte ∙ m) in
+    from_opcode image bank a k o ∙ rw (empty, empty, form)
 
 -- an operand byte outside ROM
-second-outside :
+second_outside :
     (image : List ℕ) (a k : ℕ) (r : RomByte) → operand_at image a 2 (bytes_of (entry_of k)) ≡ Outside →
-    withFirst image a k r ≡ refused (located 4 a)
-second-outside image a k (Byte f) e = rw e
-second-outside image a k Outside e = refl
+    with_first image a k r ≡ refused (located 4 a)
+second_outside image a k (Byte f) e = rw e
+second_outside image a k Outside e = refl
 
-operand-outside :
-    (image : List ℕ) (a k : ℕ) → a < 4096 → romAt image a ≡ Byte k → (j : ℕ) → j < 3 → j < bytes_of (entry_of k) →
-    romAt image (forwardOf a j) ≡ Outside →
-    withFirst image a k (operand_at image a 1 (bytes_of (entry_of k))) ≡ refused (located 4 a)
+operand_outside :
+    (image : List ℕ) (a k : ℕ) → a < 4096 → rom_at image a ≡ Byte k → (j : ℕ) → j < 3 → j < bytes_of (entry_of k) →
+    rom_at image (forward_of a j) ≡ Outside →
+    with_first image a k (operand_at image a 1 (bytes_of (entry_of k))) ≡ refused (located 4 a)
 unfolding operand_at
-operand-outside image a k below opcode =
+operand_outside image a k below opcode =
     let n : ℕ = bytes_of (entry_of k) in
     pick
-    (λ j. j < n → romAt image (forwardOf a j) ≡ Outside
-    → withFirst image a k (operand_at image a 1 n) ≡ refused (located 4 a))
+    (λ j. j < n → rom_at image (forward_of a j) ≡ Outside
+    → with_first image a k (operand_at image a 1 n) ≡ refused (located 4 a))
     3 (
-      λ h e. (let here : forwardOf a 0 ≡ a = omega arith in
+      λ h e. (let here : forward_of a 0 ≡ a = omega arith in
           let z : Outside ≡ Byte k = sym (rw here at e) ∙ opcode in cc),
       (
         λ h e. rw (lt-ltb 1 n h, e),
-        (λ h e. second-outside image a k (operand_at image a 1 n) (rw (lt-ltb 2 n h, e)), tt),
+        (λ h e. second_outside image a k (operand_at image a 1 n) (rw (lt-ltb 2 n h, e)), tt),
       ),
     )
 
 -- with a defined opcode and all its bytes in ROM nothing is left to refuse
 module _
     (image : List ℕ) (bank a k : ℕ) (o : Opcode image bank a k)
-    (defined : member k undefinedOpcodes ≡ false) (whole : Cut image bank a k → ⊥) (r : Numbered) where
-  in-rom : (j : ℕ) (b : Bool) → ltb j (bytes_of (entry_of k)) ≡ b
+    (defined : member k undefined_opcodes ≡ false) (whole : Cut image bank a k → ⊥) (r : Numbered) where
+  in_rom : (j : ℕ) (b : Bool) → ltb j (bytes_of (entry_of k)) ≡ b
       → operand_at (space_of image bank) a j (bytes_of (entry_of k)) ≡ Outside → ⊥
   unfolding operand_at
-  in-rom j true t e =
+  in_rom j true t e =
       whole (record { offset = j; inside = ltb-true j (bytes_of (entry_of k)) t; outside = rw t at e })
-  in-rom j false t e = let z : Byte 0 ≡ Outside = rw t at e in let y : ◌≡◌ {A = ℕ} 0 1 = cc in omega arith
+  in_rom j false t e = let z : Byte 0 ≡ Outside = rw t at e in let y : ◌≡◌ {A = ℕ} 0 1 = cc in omega arith
 
-  not-form : (f s : ℕ) (x : Form) → form_of k f s ≡ x → withForm a k x ≡ refused r → ⊥
-  not-form f s (Is i) e q = let y : ◌≡◌ {A = ℕ} 0 1 = cc in omega arith
-  not-form f s Undefined e q =
-      let z : true ≡ false = (rw e at (undefined-listed.exactly k f s o.byte)) ∙ defined in
+  not_form : (f s : ℕ) (x : Form) → form_of k f s ≡ x → with_form a k x ≡ refused r → ⊥
+  not_form f s (Is i) e q = let y : ◌≡◌ {A = ℕ} 0 1 = cc in omega arith
+  not_form f s Undefined e q =
+      let z : true ≡ false = (rw e at (undefined_listed.exactly k f s o.byte)) ∙ defined in
       let y : ◌≡◌ {A = ℕ} 0 1 = cc in omega arith
 
-  not-second : (f : ℕ) (x : RomByte) → operand_at (space_of image bank) a 2 (bytes_of (entry_of k)) ≡ x
-      → withSecond a k f x ≡ refused r → ⊥
-  not-second f (Byte s) e q = not-form f s (form_of k f s) refl q
-  not-second f Outside e q = in-rom 2 (ltb 2 (bytes_of (entry_of k))) refl e
+  not_second : (f : ℕ) (x : RomByte) → operand_at (space_of image bank) a 2 (bytes_of (entry_of k)) ≡ x
+      → with_second a k f x ≡ refused r → ⊥
+  not_second f (Byte s) e q = not_form f s (form_of k f s) refl q
+  not_second f Outside e q = in_rom 2 (ltb 2 (bytes_of (entry_of k))) refl e
 
   not_first : (x : RomByte) → operand_at (space_of image bank) a 1 (bytes_of (entry_of k)) ≡ x
-      → withFirst (space_of image bank) a k x ≡ refused r → ⊥
-  not_first (Byte f) e q = not-second f (operand_at (space_of image bank) a 2 (bytes_of (entry_of k))) refl q
-  not_first Outside e q = in-rom 1 (ltb 1 (bytes_of (entry_of k))) refl e
+      → with_first (space_of image bank) a k x ≡ refused r → ⊥
+  not_first (Byte f) e q = not_second f (operand_at (space_of image bank) a 2 (bytes_of (entry_of k))) refl q
+  not_first Outside e q = in_rom 1 (ltb 1 (bytes_of (entry_of k))) refl e
 
-  none-else : decodeIn image bank a ≡ refused r → ⊥
-  none-else q =
+  none_else : decode_in image bank a ≡ refused r → ⊥
+  none_else q =
       not_first (operand_at (space_of image bank) a 1 (bytes_of (entry_of k))) refl
-      (sym (from-opcode image bank a k o) ∙ q)
+      (sym (from_opcode image bank a k o) ∙ q)
 
-pub decode-refusals : DecodeRefusals
-unfolding decodeIn decodeAt
-decode-refusals =
+pub decode_refusals : DecodeRefusals
+unfolding decode_in decode_at
+decode_refusals =
     record {
       image-length = λ image bank a e. rw e;
-      address-range = λ image bank a e h. rw (e, is-space image bank e, le-ltb a 4096 h);
-      opcode-outside = λ image bank a e h here. rw (e, is-space image bank e, lt-ltb a 4096 h, here);
-      undefined-opcode = undefined-opcode;
-      operand-outside = λ image bank a k o cut.
-          (let few : bytes_of (entry_of k) < 4 = bytes-few k o.byte in
-          from-opcode image bank a k o
-          ∙ operand-outside (space_of image bank) a k o.below o.here cut.offset (omega (arith, cut.inside))
+      address-range = λ image bank a e h. rw (e, is_space_lem image bank e, le-ltb a 4096 h);
+      opcode-outside = λ image bank a e h here. rw (e, is_space_lem image bank e, lt-ltb a 4096 h, here);
+      undefined_opcode = undefined_opcode;
+      operand_outside = λ image bank a k o cut.
+          (let few : bytes_of (entry_of k) < 4 = bytes_few k o.byte in
+          from_opcode image bank a k o
+          ∙ operand_outside (space_of image bank) a k o.below o.here cut.offset (omega (arith, cut.inside))
           cut.inside cut.outside);
-      none-else = none-else;
+      none_else = none_else;
     }

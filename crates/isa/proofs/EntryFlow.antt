@@ -4,14 +4,14 @@ use Prim.Native.Nat.{ℕ}
 use mathlib.Core.Path.{◌≡◌, refl}
 use native.Mathlib.Omega.{arith}
 use Rattle.isa.specs.declared.Form.TheVariants.{Is, Undefined}
-use Rattle.isa.specs.Displacement.{forwardOf}
+use Rattle.isa.specs.Displacement.{forward_of}
 use Rattle.isa.specs.Table.{bytes_of}
 use Rattle.isa.specs.Map.{Addressing, rr, short, [X], [Y], Entry, JRNZ, JRNC, JRZ, JRC, CALL, JP, JRR, JRS, RES}
 use Rattle.isa.specs.Map.{SET, LD-A, LD-to, INC, DEC, ADD, SUB, AND, CP, LDI-A, LDI-rr, ADDI, SUBI, ANDI, CPI}
-use Rattle.isa.specs.Map.{COM, RLC, RET, RETI, STOP, WAIT, #, entry_of, formAs, form_of}
+use Rattle.isa.specs.Map.{COM, RLC, RET, RETI, STOP, WAIT, #, entry_of, form_as, form_of}
 use Rattle.isa.specs.Refusals.{done}
-use Rattle.isa.specs.Decode.{withForm}
-use Rattle.isa.specs.FlowAt.{goes, continuationFrom, flowAs}
+use Rattle.isa.specs.Decode.{with_form}
+use Rattle.isa.specs.FlowAt.{goes, continuation_from, flow_as}
 
 one : ◌≡◌ {A = ℕ} 1 0 → ⊥
 one h = omega (arith, h)
@@ -23,15 +23,15 @@ three : ◌≡◌ {A = ℕ} 3 0 → ⊥
 three h = omega (arith, h)
 
 -- on a data operand the bytes go by the operand, whatever the instruction
-by-source : (source : Addressing) → bytes_of (LD-A source) ≡ 0 → ⊥
+by_source : (source : Addressing) → bytes_of (LD-A source) ≡ 0 → ⊥
 unfolding bytes_of
-by-source rr h = two h
-by-source (short r) h = one h
-by-source [X] h = one h
-by-source [Y] h = one h
+by_source rr h = two h
+by_source (short r) h = one h
+by_source [X] h = one h
+by_source [Y] h = one h
 
-no_bytes : (e : Entry) (k f s : ℕ) → bytes_of e ≡ 0 → formAs e k f s ≡ Undefined
-unfolding bytes_of formAs
+no_bytes : (e : Entry) (k f s : ℕ) → bytes_of e ≡ 0 → form_as e k f s ≡ Undefined
+unfolding bytes_of form_as
 no_bytes JRNZ k f s h = absurd (one h)
 no_bytes JRNC k f s h = absurd (one h)
 no_bytes JRZ k f s h = absurd (one h)
@@ -42,14 +42,14 @@ no_bytes JRR k f s h = absurd (three h)
 no_bytes JRS k f s h = absurd (three h)
 no_bytes RES k f s h = absurd (two h)
 no_bytes SET k f s h = absurd (two h)
-no_bytes (LD-A source) k f s h = absurd (by-source source h)
-no_bytes (LD-to source) k f s h = absurd (by-source source h)
-no_bytes (INC source) k f s h = absurd (by-source source h)
-no_bytes (DEC source) k f s h = absurd (by-source source h)
-no_bytes (ADD source) k f s h = absurd (by-source source h)
-no_bytes (SUB source) k f s h = absurd (by-source source h)
-no_bytes (AND source) k f s h = absurd (by-source source h)
-no_bytes (CP source) k f s h = absurd (by-source source h)
+no_bytes (LD-A source) k f s h = absurd (by_source source h)
+no_bytes (LD-to source) k f s h = absurd (by_source source h)
+no_bytes (INC source) k f s h = absurd (by_source source h)
+no_bytes (DEC source) k f s h = absurd (by_source source h)
+no_bytes (ADD source) k f s h = absurd (by_source source h)
+no_bytes (SUB source) k f s h = absurd (by_source source h)
+no_bytes (AND source) k f s h = absurd (by_source source h)
+no_bytes (CP source) k f s h = absurd (by_source source h)
 no_bytes LDI-A k f s h = absurd (two h)
 no_bytes LDI-rr k f s h = absurd (three h)
 no_bytes ADDI k f s h = absurd (two h)
@@ -65,9 +65,9 @@ no_bytes WAIT k f s h = absurd (one h)
 no_bytes # k f s h = refl
 
 some_bytes : (e : Entry) (a k f s : ℕ) → (bytes_of e ≡ 0 → ⊥)
-    → continuationFrom a (withForm a k (formAs e k f s))
-    ≡ done (goes (flowAs (formAs e k f s) a) (forwardOf a (bytes_of (entry_of k))))
-unfolding bytes_of formAs
+    → continuation_from a (with_form a k (form_as e k f s))
+    ≡ done (goes (flow_as (form_as e k f s) a) (forward_of a (bytes_of (entry_of k))))
+unfolding bytes_of form_as
 some_bytes JRNZ a k f s h = refl
 some_bytes JRNC a k f s h = refl
 some_bytes JRZ a k f s h = refl
@@ -107,7 +107,7 @@ undefined k f s h = no_bytes (entry_of k) k f s h
 
 -- any other continues as its form does
 pub continues : (a k f s : ℕ) → (bytes_of (entry_of k) ≡ 0 → ⊥)
-    → continuationFrom a (withForm a k (form_of k f s))
-    ≡ done (goes (flowAs (form_of k f s) a) (forwardOf a (bytes_of (entry_of k))))
+    → continuation_from a (with_form a k (form_of k f s))
+    ≡ done (goes (flow_as (form_of k f s) a) (forward_of a (bytes_of (entry_of k))))
 unfolding form_of
 continues a k f s h = some_bytes (entry_of k) a k f s h

@@ -1,4 +1,4 @@
--- What decoding has read where it answers an instruction: the law that takes `decodeAt` apart.
+-- What decoding has read where it answers an instruction: the law that takes `decode_at` apart.
 use mathlib.Core.Path.{◌≡◌, refl}
 use mathlib.Core.Bool.{Bool, true, false, cond}
 use mathlib.Core.List.{List}
@@ -13,11 +13,11 @@ use Rattle.isa.specs.declared.Form.TheVariants.{Is, Undefined}
 use Rattle.isa.specs.declared.rom.RomByte.{RomByte}
 use Rattle.isa.specs.declared.rom.RomByte.TheVariants.{Byte, Outside}
 use Rattle.isa.specs.Refusals.{Numbered, plain, Answer, done, refused}
-use Rattle.isa.specs.Displacement.{forwardOf}
+use Rattle.isa.specs.Displacement.{forward_of}
 use Rattle.isa.specs.Table.{bytes_of}
 use Rattle.isa.specs.Map.{entry_of, form_of}
-use Rattle.isa.specs.Rom.{isSpace, romAt, operand_at}
-use Rattle.isa.specs.Decode.{Decoding, instruction, withForm, withSecond, withFirst, withOpcode, decodeAt}
+use Rattle.isa.specs.Rom.{is_space, rom_at, operand_at}
+use Rattle.isa.specs.Decode.{Decoding, instruction, with_form, with_second, with_first, with_opcode, decode_at}
 use Rattle.isa.specs.RoundTrip.{Bytes}
 
 -- the opcode k and the operand bytes f and s at an address, from which the map makes the instruction
@@ -26,7 +26,7 @@ pub record Read (image : List ℕ) (a : ℕ) (i : Instruction) (n : ℕ) : Type 
   pub f : ℕ
   pub s : ℕ
   pub below : a < 4096
-  pub opcode : romAt image a ≡ Byte k
+  pub opcode : rom_at image a ≡ Byte k
   pub first : operand_at image a 1 (bytes_of (entry_of k)) ≡ Byte f
   pub second : operand_at image a 2 (bytes_of (entry_of k)) ≡ Byte s
   pub form : form_of k f s ≡ Is i
@@ -41,13 +41,13 @@ passed true x r i n c q = (refl, q)
 passed false x r i n c q = let z : ◌≡◌ {A = ℕ} 0 1 = cc in absurd (omega arith)
 
 module _ (image : List ℕ) (a : ℕ) (below : a < 4096) (i : Instruction) (n c : ℕ) where
-  from-form :
-      (k f s : ℕ) → romAt image a ≡ Byte k → operand_at image a 1 (bytes_of (entry_of k)) ≡ Byte f →
-      operand_at image a 2 (bytes_of (entry_of k)) ≡ Byte s → (x : Form) → form_of k f s ≡ x → withForm a k x ≡ done
+  from_form :
+      (k f s : ℕ) → rom_at image a ≡ Byte k → operand_at image a 1 (bytes_of (entry_of k)) ≡ Byte f →
+      operand_at image a 2 (bytes_of (entry_of k)) ≡ Byte s → (x : Form) → form_of k f s ≡ x → with_form a k x ≡ done
       (instruction i n c) →
       Read image a i n
-  from-form k f s e0 e1 e2 Undefined e q = let z : ◌≡◌ {A = ℕ} 0 1 = cc in absurd (omega arith)
-  from-form k f s e0 e1 e2 (Is j) e q =
+  from_form k f s e0 e1 e2 Undefined e q = let z : ◌≡◌ {A = ℕ} 0 1 = cc in absurd (omega arith)
+  from_form k f s e0 e1 e2 (Is j) e q =
       record {
         k = k;
         f = f;
@@ -61,56 +61,56 @@ module _ (image : List ℕ) (a : ℕ) (below : a < 4096) (i : Instruction) (n c 
       }
 
   from_second :
-      (k f : ℕ) → romAt image a ≡ Byte k → operand_at image a 1 (bytes_of (entry_of k)) ≡ Byte f → (r : RomByte) →
-      operand_at image a 2 (bytes_of (entry_of k)) ≡ r → withSecond a k f r ≡ done (instruction i n c) → Read image a i n
-  from_second k f e0 e1 (Byte s) e2 q = from-form k f s e0 e1 e2 (form_of k f s) refl q
+      (k f : ℕ) → rom_at image a ≡ Byte k → operand_at image a 1 (bytes_of (entry_of k)) ≡ Byte f → (r : RomByte) →
+      operand_at image a 2 (bytes_of (entry_of k)) ≡ r → with_second a k f r ≡ done (instruction i n c) → Read image a i n
+  from_second k f e0 e1 (Byte s) e2 q = from_form k f s e0 e1 e2 (form_of k f s) refl q
   from_second k f e0 e1 Outside e2 q = let z : ◌≡◌ {A = ℕ} 0 1 = cc in absurd (omega arith)
 
   from_first :
-      (k : ℕ) → romAt image a ≡ Byte k → (r : RomByte) → operand_at image a 1 (bytes_of (entry_of k)) ≡ r →
-      withFirst image a k r ≡ done (instruction i n c) → Read image a i n
+      (k : ℕ) → rom_at image a ≡ Byte k → (r : RomByte) → operand_at image a 1 (bytes_of (entry_of k)) ≡ r →
+      with_first image a k r ≡ done (instruction i n c) → Read image a i n
   from_first k e0 (Byte f) e1 q = from_second k f e0 e1 (operand_at image a 2 (bytes_of (entry_of k))) refl q
   from_first k e0 Outside e1 q = let z : ◌≡◌ {A = ℕ} 0 1 = cc in absurd (omega arith)
 
-  from-opcode : (r : RomByte) → romAt image a ≡ r → withOpcode image a r ≡ done (instruction i n c) → Read image a i n
-  from-opcode (Byte k) e0 q = from_first k e0 (operand_at image a 1 (bytes_of (entry_of k))) refl q
-  from-opcode Outside e0 q = let z : ◌≡◌ {A = ℕ} 0 1 = cc in absurd (omega arith)
+  from_opcode : (r : RomByte) → rom_at image a ≡ r → with_opcode image a r ≡ done (instruction i n c) → Read image a i n
+  from_opcode (Byte k) e0 q = from_first k e0 (operand_at image a 1 (bytes_of (entry_of k))) refl q
+  from_opcode Outside e0 q = let z : ◌≡◌ {A = ℕ} 0 1 = cc in absurd (omega arith)
 
-pub reading : (image : List ℕ) (a : ℕ) (i : Instruction) (n c : ℕ) → decodeAt image a ≡ done (instruction i n c)
+pub reading : (image : List ℕ) (a : ℕ) (i : Instruction) (n c : ℕ) → decode_at image a ≡ done (instruction i n c)
     → Read image a i n
-unfolding decodeAt
+unfolding decode_at
 reading image a i n c q =
-    let sized : (isSpace (length image) ≡ true)
-    × (cond (ltb a 4096) (withOpcode image a (romAt image a)) (refused (plain 3)) ≡ done (instruction i n c)) =
-    passed (isSpace (length image)) _ (plain 1) i n c q in
-    let ranged : (ltb a 4096 ≡ true) × (withOpcode image a (romAt image a) ≡ done (instruction i n c)) =
+    let sized : (is_space (length image) ≡ true)
+    × (cond (ltb a 4096) (with_opcode image a (rom_at image a)) (refused (plain 3)) ≡ done (instruction i n c)) =
+    passed (is_space (length image)) _ (plain 1) i n c q in
+    let ranged : (ltb a 4096 ≡ true) × (with_opcode image a (rom_at image a) ≡ done (instruction i n c)) =
     passed (ltb a 4096) _ (plain 3) i n c sized.1 in
-    from-opcode image a (ltb-true a 4096 ranged.0) i n c (romAt image a) refl ranged.1
+    from_opcode image a (ltb-true a 4096 ranged.0) i n c (rom_at image a) refl ranged.1
 
 -- what a ROM byte or an operand byte of an image of bytes holds is a byte
 same_byte : (x k : ℕ) → x < 256 → Byte x ≡ Byte k → k < 256
 same_byte x k h e = let q : x ≡ k = cc in omega arith
 
-chosen-byte :
+chosen_byte :
     (b : Bool) (r t : RomByte) → ((k : ℕ) → r ≡ Byte k → k < 256) → ((k : ℕ) → t ≡ Byte k → k < 256) → (k : ℕ) →
     cond b r t ≡ Byte k → k < 256
-chosen-byte true r t h g k e = h k e
-chosen-byte false r t h g k e = g k e
+chosen_byte true r t h g k e = h k e
+chosen_byte false r t h g k e = g k e
 
 no_byte : (k : ℕ) → Outside ≡ Byte k → k < 256
 no_byte k e = let z : ◌≡◌ {A = ℕ} 0 1 = cc in omega arith
 
-pub rom-byte : (image : List ℕ) → Bytes image → (a k : ℕ) → romAt image a ≡ Byte k → k < 256
-unfolding romAt
-rom-byte image all a =
+pub rom_byte : (image : List ℕ) → Bytes image → (a k : ℕ) → rom_at image a ≡ Byte k → k < 256
+unfolding rom_at
+rom_byte image all a =
     let at : ℕ = a + length image - 4096 in
-    chosen-byte (ltb a 4096) _ Outside
-    (chosen-byte (leb 4096 (a + length image)) (Byte (get_or image at 0)) Outside
+    chosen_byte (ltb a 4096) _ Outside
+    (chosen_byte (leb 4096 (a + length image)) (Byte (get_or image at 0)) Outside
     (λ k. same_byte (get_or image at 0) k (all at)) no_byte)
     no_byte
 
-pub operand-byte : (image : List ℕ) → Bytes image → (a j n k : ℕ) → operand_at image a j n ≡ Byte k → k < 256
+pub operand_byte : (image : List ℕ) → Bytes image → (a j n k : ℕ) → operand_at image a j n ≡ Byte k → k < 256
 unfolding operand_at
-operand-byte image all a j n =
-    chosen-byte (ltb j n) (romAt image (forwardOf a j)) (Byte 0) (rom-byte image all (forwardOf a j))
+operand_byte image all a j n =
+    chosen_byte (ltb j n) (rom_at image (forward_of a j)) (Byte 0) (rom_byte image all (forward_of a j))
     (λ k. same_byte 0 k (omega arith))

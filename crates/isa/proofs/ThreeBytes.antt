@@ -5,20 +5,20 @@ use mathlib.Core.Bool.{Bool, true, false, cond}
 use mathlib.Core.List.{List}
 use lib.Dec.{ltb}
 use Rattle.isa.specs.declared.rom.RomByte.TheVariants.{Byte}
-use Rattle.isa.specs.Displacement.{forwardOf}
+use Rattle.isa.specs.Displacement.{forward_of}
 use Rattle.isa.specs.Table.{bytes_of}
 use Rattle.isa.specs.Map.{Addressing, rr, short, [X], [Y], Entry, JRNZ, JRNC, JRZ, JRC, CALL, JP, JRR, JRS, RES}
 use Rattle.isa.specs.Map.{SET, LD-A, LD-to, INC, DEC, ADD, SUB, AND, CP, LDI-A, LDI-rr, ADDI, SUBI, ANDI, CPI}
-use Rattle.isa.specs.Map.{COM, RLC, RET, RETI, STOP, WAIT, #, entry_of, formAs, form_of}
-use Rattle.isa.specs.Rom.{romAt, operand_at}
-use Rattle.isa.specs.Decode.{decodeOf, withForm}
+use Rattle.isa.specs.Map.{COM, RLC, RET, RETI, STOP, WAIT, #, entry_of, form_as, form_of}
+use Rattle.isa.specs.Rom.{rom_at, operand_at}
+use Rattle.isa.specs.Decode.{decode_of, with_form}
 
 -- a byte at an offset, and 0 where the entry is shorter
 abbrev kept : ℕ → Entry → ℕ → ℕ
 kept offset e byte = cond (ltb offset (bytes_of e)) byte 0
 
-same : (e : Entry) (k f s : ℕ) → formAs e k (kept 1 e f) (kept 2 e s) ≡ formAs e k f s
-unfolding bytes_of formAs
+same : (e : Entry) (k f s : ℕ) → form_as e k (kept 1 e f) (kept 2 e s) ≡ form_as e k f s
+unfolding bytes_of form_as
 same JRNZ k f s = refl
 same JRNC k f s = refl
 same JRZ k f s = refl
@@ -80,10 +80,10 @@ chosen : (b : Bool) (byte : ℕ) → cond b (Byte byte) (Byte 0) ≡ Byte (cond 
 chosen true byte = refl
 chosen false byte = refl
 
-pub read-three : (image : List ℕ) (a k f s : ℕ) → romAt image a ≡ Byte k → romAt image (forwardOf a 1) ≡ Byte f →
-    romAt image (forwardOf a 2) ≡ Byte s → withForm a k (form_of k f s) ≡ decodeOf image a
+pub read_three : (image : List ℕ) (a k f s : ℕ) → rom_at image a ≡ Byte k → rom_at image (forward_of a 1) ≡ Byte f →
+    rom_at image (forward_of a 2) ≡ Byte s → with_form a k (form_of k f s) ≡ decode_of image a
 unfolding operand_at form_of
-read-three image a k f s here first second =
+read_three image a k f s here first second =
     rw (
       here,
       first,

@@ -9,7 +9,7 @@ use lib.Dec.{leb}
 use lib.ListN.{length, take, drop}
 use lib.Seq.{take_at, drop_at}
 use Rattle.isa.specs.Refusals.{Numbered, plain, Answer, done, refused}
-use Rattle.isa.specs.Write.{outcome, bufferAfter}
+use Rattle.isa.specs.Write.{outcome, buffer_after}
 use Rattle.isa.specs.Encode.{bytes}
 use Rattle.isa.specs.WriteEffects.{WriteEffects}
 use Rattle.isa.specs.declared.Encoded.{Encoded}
@@ -51,38 +51,38 @@ fits (Three a b c) size n h = rw (le-leb 3 size h)
 fits Unencodable size n h = absurd (n refl)
 
 untouched : (e : Encoded) (buffer : List ℕ) (r : Numbered) → outcome e (length buffer) ≡ refused r
-    → bufferAfter e buffer ≡ buffer
-unfolding outcome bufferAfter
+    → buffer_after e buffer ≡ buffer
+unfolding outcome buffer_after
 untouched (One a) buffer r q = kept (bytes (One a)) buffer (leb 1 (length buffer)) r q
 untouched (Two a b) buffer r q = kept (bytes (Two a b)) buffer (leb 2 (length buffer)) r q
 untouched (Three a b c) buffer r q = kept (bytes (Three a b c)) buffer (leb 3 (length buffer)) r q
 untouched Unencodable buffer r q = rw (le-leb 0 (length buffer) (omega arith))
 
 from_first : (e : Encoded) (buffer : List ℕ) (n : ℕ) → outcome e (length buffer) ≡ done n
-    → take n (bufferAfter e buffer) ≡ bytes e
-unfolding outcome bufferAfter
+    → take n (buffer_after e buffer) ≡ bytes e
+unfolding outcome buffer_after
 from_first (One a) buffer n q = first (bytes (One a)) buffer (leb 1 (length buffer)) n q
 from_first (Two a b) buffer n q = first (bytes (Two a b)) buffer (leb 2 (length buffer)) n q
 from_first (Three a b c) buffer n q = first (bytes (Three a b c)) buffer (leb 3 (length buffer)) n q
 from_first Unencodable buffer n q = cc
 
-others-stay :
+others_stay :
     (e : Encoded) (buffer : List ℕ) (n : ℕ) → outcome e (length buffer) ≡ done n
-    → drop n (bufferAfter e buffer) ≡ drop n buffer
-unfolding outcome bufferAfter
-others-stay (One a) buffer n q = rest (bytes (One a)) buffer (leb 1 (length buffer)) n q
-others-stay (Two a b) buffer n q = rest (bytes (Two a b)) buffer (leb 2 (length buffer)) n q
-others-stay (Three a b c) buffer n q = rest (bytes (Three a b c)) buffer (leb 3 (length buffer)) n q
-others-stay Unencodable buffer n q = cc
+    → drop n (buffer_after e buffer) ≡ drop n buffer
+unfolding outcome buffer_after
+others_stay (One a) buffer n q = rest (bytes (One a)) buffer (leb 1 (length buffer)) n q
+others_stay (Two a b) buffer n q = rest (bytes (Two a b)) buffer (leb 2 (length buffer)) n q
+others_stay (Three a b c) buffer n q = rest (bytes (Three a b c)) buffer (leb 3 (length buffer)) n q
+others_stay Unencodable buffer n q = cc
 
-pub write-effects : WriteEffects
+pub write_effects : WriteEffects
 unfolding outcome
-write-effects =
+write_effects =
     record {
       beyond = λ size. refl;
       too_short = too_short;
       fits = fits;
       untouched = untouched;
       from_first = from_first;
-      others-stay = others-stay;
+      others_stay = others_stay;
     }

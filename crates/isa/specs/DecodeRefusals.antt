@@ -2,47 +2,47 @@
 -- "Decoding at an address takes the bank byte too.").
 use Rattle.std.specs.Prelude.{ℕ, ◌<◌, ◌≤◌, ◌≡◌, true, false, List, length}
 use Rattle.isa.specs.Refusals.{Numbered, plain, located, refused}
-use Rattle.isa.specs.Displacement.{forwardOf}
+use Rattle.isa.specs.Displacement.{forward_of}
 use Rattle.isa.specs.Table.{bytes_of}
 use Rattle.isa.specs.Map.{entry_of}
-use Rattle.isa.specs.Rom.{isImage, space_of, romAt}
-use Rattle.isa.specs.Decode.{decodeIn}
-use Rattle.isa.specs.Counts.{undefinedOpcodes, member}
+use Rattle.isa.specs.Rom.{is_image, space_of, rom_at}
+use Rattle.isa.specs.Decode.{decode_in}
+use Rattle.isa.specs.Counts.{undefined_opcodes, member}
 use Rattle.isa.specs.declared.rom.RomByte.TheVariants.{Byte, Outside}
 
 -- the opcode k stands at a program address, in program space as it stands with a bank byte
 pub record Opcode (image : List ℕ) (bank a k : ℕ) : Type 0 where
-  pub size : isImage (length image) ≡ true
+  pub size : is_image (length image) ≡ true
   pub below : a < 4096
-  pub here : romAt (space_of image bank) a ≡ Byte k
+  pub here : rom_at (space_of image bank) a ≡ Byte k
   pub byte : k < 256
 
 -- a byte of the instruction with the opcode k lies outside ROM
 pub record Cut (image : List ℕ) (bank a k : ℕ) : Type 0 where
   pub offset : ℕ
   pub inside : offset < bytes_of (entry_of k)
-  pub outside : romAt (space_of image bank) (forwardOf a offset) ≡ Outside
+  pub outside : rom_at (space_of image bank) (forward_of a offset) ≡ Outside
 
 -- "Decode at an address: 1 image length; 3 address above FFFh; 4 opcode byte outside ROM; 5 undefined opcode; 4 operand
 -- byte outside ROM." "The first that applies is given, and never where it doesn't apply." 4 and 5 "also give the
 -- instruction's address"
 -- proved by decode-refusals, proofs/DecodeRefusals
 pub record DecodeRefusals : Type 0 where
-  pub image-length :
-      (image : List ℕ) (bank a : ℕ) → isImage (length image) ≡ false → decodeIn image bank a ≡ refused (plain 1)
-  pub address-range :
-      (image : List ℕ) (bank a : ℕ) → isImage (length image) ≡ true → 4096 ≤ a →
-      decodeIn image bank a ≡ refused (plain 3)
-  pub opcode-outside :
-      (image : List ℕ) (bank a : ℕ) → isImage (length image) ≡ true → a < 4096 →
-      romAt (space_of image bank) a ≡ Outside →
-      decodeIn image bank a ≡ refused (located 4 a)
-  pub undefined-opcode :
-      (image : List ℕ) (bank a k : ℕ) → Opcode image bank a k → member k undefinedOpcodes ≡ true →
-      decodeIn image bank a ≡ refused (located 5 a)
-  pub operand-outside :
+  pub image_length :
+      (image : List ℕ) (bank a : ℕ) → is_image (length image) ≡ false → decode_in image bank a ≡ refused (plain 1)
+  pub address_range :
+      (image : List ℕ) (bank a : ℕ) → is_image (length image) ≡ true → 4096 ≤ a →
+      decode_in image bank a ≡ refused (plain 3)
+  pub opcode_outside :
+      (image : List ℕ) (bank a : ℕ) → is_image (length image) ≡ true → a < 4096 →
+      rom_at (space_of image bank) a ≡ Outside →
+      decode_in image bank a ≡ refused (located 4 a)
+  pub undefined_opcode :
+      (image : List ℕ) (bank a k : ℕ) → Opcode image bank a k → member k undefined_opcodes ≡ true →
+      decode_in image bank a ≡ refused (located 5 a)
+  pub operand_outside :
       (image : List ℕ) (bank a k : ℕ) → Opcode image bank a k → Cut image bank a k →
-      decodeIn image bank a ≡ refused (located 4 a)
-  pub none-else :
-      (image : List ℕ) (bank a k : ℕ) → Opcode image bank a k → member k undefinedOpcodes ≡ false →
-      (Cut image bank a k → ⊥) → (r : Numbered) → decodeIn image bank a ≡ refused r → ⊥
+      decode_in image bank a ≡ refused (located 4 a)
+  pub none_else :
+      (image : List ℕ) (bank a k : ℕ) → Opcode image bank a k → member k undefined_opcodes ≡ false →
+      (Cut image bank a k → ⊥) → (r : Numbered) → decode_in image bank a ≡ refused r → ⊥

@@ -1,7 +1,7 @@
 -- Where the instruction at an address continues: what decoding answers, seen through where its instruction continues.
 use Rattle.std.specs.Prelude.{ℕ}
 use Rattle.isa.specs.Refusals.{Numbered, numbered, Answer, done, refused}
-use Rattle.isa.specs.Displacement.{forwardOf}
+use Rattle.isa.specs.Displacement.{forward_of}
 use Rattle.isa.specs.Decode as decode
 use Rattle.isa.specs.Decode.{Decoding}
 use Rattle.isa.specs.ControlFlow.{flow_of}
@@ -17,16 +17,16 @@ pub data Continuing : Type 0 where
   goes : Flow → (next : ℕ) → Continuing
 
 -- the program's answer by document 01's numbers
-abbrev pub continuationOf : Continuation → Answer Continuing
-continuationOf (Valid f next) = done (goes f next)
-continuationOf (Refused r) = refused (numbered r)
+abbrev pub continuation_of : Continuation → Answer Continuing
+continuation_of (Valid f next) = done (goes f next)
+continuation_of (Refused r) = refused (numbered r)
 
 -- where the instruction of an answer at address a continues
-abbrev pub continuationFrom : ℕ → Answer Decoding → Answer Continuing
-continuationFrom a (done (decode.instruction i bytes cycles)) = done (goes (flow_of i a) (forwardOf a bytes))
-continuationFrom a (refused r) = refused r
+abbrev pub continuation_from : ℕ → Answer Decoding → Answer Continuing
+continuation_from a (done (decode.instruction i bytes cycles)) = done (goes (flow_of i a) (forward_of a bytes))
+continuation_from a (refused r) = refused r
 
 -- where a form at address a continues; what is undefined is never asked
-abbrev pub flowAs : Form → ℕ → Flow
-flowAs (Is i) a = flow_of i a
-flowAs Undefined a = flow.Next
+abbrev pub flow_as : Form → ℕ → Flow
+flow_as (Is i) a = flow_of i a
+flow_as Undefined a = flow.Next

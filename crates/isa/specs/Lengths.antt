@@ -5,13 +5,13 @@ use Rattle.isa.specs.declared.Operand.{Operand}
 use Rattle.isa.specs.declared.Operand.TheVariants.{Direct, Short, ThroughX, ThroughY}
 use Rattle.isa.specs.declared.Instruction.{Instruction}
 use Rattle.isa.specs.declared.Instruction.TheVariants as I
-use Rattle.isa.specs.Decode.{instruction, decodeIn}
+use Rattle.isa.specs.Decode.{instruction, decode_in}
 
-abbrev pub lengthWith : Operand → ℕ
-lengthWith (Direct a) = 2
-lengthWith (Short n) = 1
-lengthWith ThroughX = 1
-lengthWith ThroughY = 1
+abbrev pub length_with : Operand → ℕ
+length_with (Direct a) = 2
+length_with (Short n) = 1
+length_with ThroughX = 1
+length_with ThroughY = 1
 
 abbrev pub length_of : Instruction → ℕ
 length_of (I.Jrnz d) = 1
@@ -24,19 +24,19 @@ length_of (I.Jrr bit a d) = 3
 length_of (I.Jrs bit a d) = 3
 length_of (I.Res bit a) = 2
 length_of (I.Set bit a) = 2
-length_of (I.LoadA o) = lengthWith o
-length_of (I.StoreA o) = lengthWith o
+length_of (I.LoadA o) = length_with o
+length_of (I.StoreA o) = length_with o
 length_of (I.LoadAImmediate n) = 2
 length_of (I.LoadImmediate a n) = 3
-length_of (I.Inc o) = lengthWith o
-length_of (I.Dec o) = lengthWith o
-length_of (I.Add o) = lengthWith o
+length_of (I.Inc o) = length_with o
+length_of (I.Dec o) = length_with o
+length_of (I.Add o) = length_with o
 length_of (I.AddImmediate n) = 2
-length_of (I.Sub o) = lengthWith o
+length_of (I.Sub o) = length_with o
 length_of (I.SubImmediate n) = 2
-length_of (I.And o) = lengthWith o
+length_of (I.And o) = length_with o
 length_of (I.AndImmediate n) = 2
-length_of (I.Cp o) = lengthWith o
+length_of (I.Cp o) = length_with o
 length_of (I.CpImmediate n) = 2
 length_of I.Com = 1
 length_of I.Rlc = 1
@@ -50,4 +50,4 @@ length_of I.Wait = 1
 abbrev pub DecodedLength : Type 0
 DecodedLength =
     (image : List ℕ) (bank a : ℕ) (i : Instruction) (n cycles : ℕ) →
-    decodeIn image bank a ≡ done (instruction i n cycles) → n ≡ length_of i
+    decode_in image bank a ≡ done (instruction i n cycles) → n ≡ length_of i

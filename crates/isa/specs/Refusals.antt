@@ -51,9 +51,9 @@ numbered R.RecordEntry = plain 29
 numbered R.RecordTooLong = plain 30
 
 -- the program's number of a refusal
-abbrev pub asNumbered : Number → Numbered
-asNumbered (Plain n) = plain n
-asNumbered (Located n a) = located n a
+abbrev pub as_numbered : Number → Numbered
+as_numbered (Plain n) = plain n
+as_numbered (Located n a) = located n a
 
 -- an operation's answer: done, with a value, or refused or stopped, by number
 pub data Answer (A : Type 0) : Type 0 where

@@ -1,7 +1,7 @@
 -- Where an instruction that was decoded may jump to.
 use Rattle.std.specs.Prelude.{ℕ, ◌<◌, ◌≡◌, List}
 use Rattle.isa.specs.Refusals.{done}
-use Rattle.isa.specs.Decode.{instruction, decodeIn}
+use Rattle.isa.specs.Decode.{instruction, decode_in}
 use Rattle.isa.specs.ControlFlow.{flow_of}
 use Rattle.isa.specs.RoundTrip.{Bytes}
 use Rattle.isa.specs.declared.Flow.{Flow}
@@ -23,4 +23,4 @@ InRange flow.Sleep = Unit {0}
 abbrev pub TargetsInRange : Type 0
 TargetsInRange =
     (image : List ℕ) → Bytes image → (bank a : ℕ) (i : Instruction) (n cycles : ℕ) →
-    decodeIn image bank a ≡ done (instruction i n cycles) → InRange (flow_of i a)
+    decode_in image bank a ≡ done (instruction i n cycles) → InRange (flow_of i a)

@@ -8,9 +8,9 @@ use Rattle.isa.specs.declared.Written.{Written}
 use Rattle.isa.specs.declared.Written.TheVariants.{Done, Refused}
 
 -- what writing answers: how many bytes were written, or a refusal, by document 01's numbers
-abbrev pub outcomeOf : Written → Answer ℕ
-outcomeOf (Done n) = done n
-outcomeOf (Refused r) = refused (numbered r)
+abbrev pub outcome_of : Written → Answer ℕ
+outcome_of (Done n) = done n
+outcome_of (Refused r) = refused (numbered r)
 
 -- "9 buffer shorter than the instruction"
 abbrev fitted : List ℕ → ℕ → Answer ℕ
@@ -25,10 +25,10 @@ outcome (Three a b c) size = fitted (bytes (Three a b c)) size
 outcome Unencodable size = refused (plain 8)
 
 -- "It is written from the buffer's first byte; bytes after it stay": untouched where they do not fit or there are none
-unfoldable pub bufferAfter : Encoded → List ℕ → List ℕ
-bufferAfter e buffer = cond (leb (length (bytes e)) (length buffer)) (bytes e ++ drop (length (bytes e)) buffer) buffer
+unfoldable pub buffer_after : Encoded → List ℕ → List ℕ
+buffer_after e buffer = cond (leb (length (bytes e)) (length buffer)) (bytes e ++ drop (length (bytes e)) buffer) buffer
 
 -- what writing an encoding into a buffer does: its answer, and the buffer after it
 pub record Wrote (e : Encoded) (before after : List ℕ) (r : Written) : Type 0 where
-  pub answer : outcomeOf r ≡ outcome e (length before)
-  pub buffer : after ≡ bufferAfter e before
+  pub answer : outcome_of r ≡ outcome e (length before)
+  pub buffer : after ≡ buffer_after e before

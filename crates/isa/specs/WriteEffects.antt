@@ -1,7 +1,7 @@
 -- What writing answers and does to the buffer (document 01, "What each operation turns down").
 use Rattle.std.specs.Prelude.{ℕ, ◌<◌, ◌≤◌, ◌≡◌, List, length, take, drop}
 use Rattle.isa.specs.Refusals.{Numbered, plain, done, refused}
-use Rattle.isa.specs.Write.{outcome, bufferAfter}
+use Rattle.isa.specs.Write.{outcome, buffer_after}
 use Rattle.isa.specs.Encode.{bytes}
 use Rattle.isa.specs.declared.Encoded.{Encoded}
 use Rattle.isa.specs.declared.Encoded.TheVariants.{Unencodable}
@@ -18,10 +18,10 @@ pub record WriteEffects : Type 0 where
       outcome e size ≡ done (length (bytes e))
   pub untouched :
       (e : Encoded) (buffer : List ℕ) (r : Numbered) → outcome e (length buffer) ≡ refused r →
-      bufferAfter e buffer ≡ buffer
+      buffer_after e buffer ≡ buffer
   pub from_first :
       (e : Encoded) (buffer : List ℕ) (n : ℕ) → outcome e (length buffer) ≡ done n →
-      take n (bufferAfter e buffer) ≡ bytes e
-  pub others-stay :
+      take n (buffer_after e buffer) ≡ bytes e
+  pub others_stay :
       (e : Encoded) (buffer : List ℕ) (n : ℕ) → outcome e (length buffer) ≡ done n →
-      drop n (bufferAfter e buffer) ≡ drop n buffer
+      drop n (buffer_after e buffer) ≡ drop n buffer

@@ -2,7 +2,7 @@
 ghost use Rattle.std.specs.Prelude.{◌≡◌, ◌++◌, ◌<◌};
 ghost use Rattle.isa.specs.Rom.{Halves};
 ghost use Rattle.isa.specs.Table.{Timings};
-ghost use Rattle.isa.specs.Decode.{decodeOf, codeAs};
+ghost use Rattle.isa.specs.Decode.{decode_of, code_as};
 
 use crate::rom::{HALF_SPACE, RomByte, half, operand_byte, rom_byte};
 use crate::table::timing_of;
@@ -18,7 +18,7 @@ pub enum Code {
 // The bytes one by one: an instruction at the end of a half goes on in the other one.
 fn code_across<'a>(table: &[u8; 256], page: &'a [u8], fixed: &'a [u8], address: u16) -> Code
     ensures { Halves page.now fixed.now → address < 4096 → Timings table.now
-        → codeAs address result ≡ decodeOf (page.now ++ fixed.now) address }
+        → code_as address result ≡ decode_of (page.now ++ fixed.now) address }
 {
     let RomByte::Byte(opcode) = rom_byte(page, fixed, address) else {
         return Code::Outside;
@@ -37,7 +37,7 @@ fn code_across<'a>(table: &[u8; 256], page: &'a [u8], fixed: &'a [u8], address: 
 // whatever the instruction's length, where the half has them.
 pub fn code_at<'a>(table: &[u8; 256], page: &'a [u8], fixed: &'a [u8], address: u16) -> Code
     ensures { Halves page.now fixed.now → address < 4096 → Timings table.now
-        → codeAs address result ≡ decodeOf (page.now ++ fixed.now) address }
+        → code_as address result ≡ decode_of (page.now ++ fixed.now) address }
 {
     let part = half(page, fixed, address);
     let at = (address as usize) % HALF_SPACE;

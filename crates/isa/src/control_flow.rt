@@ -1,6 +1,6 @@
 // Where an instruction continues.
 ghost use Rattle.std.specs.Prelude.{◌≡◌};
-ghost use Rattle.isa.specs.ControlFlow.{short_of, longOf, flow_of};
+ghost use Rattle.isa.specs.ControlFlow.{short_of, long_of, flow_of};
 
 use crate::displacement::{long_target, short_target};
 use crate::{Condition, Flow, Instruction};
@@ -17,7 +17,7 @@ pub fn short(condition: Condition, address: u16, displacement: i8) -> Flow
 
 // A branch by a long displacement, counted from the opcode's address plus 2.
 pub fn long(condition: Condition, address: u16, displacement: i8) -> Flow
-    ensures { result ≡ longOf condition address displacement }
+    ensures { result ≡ long_of condition address displacement }
 {
     Flow::Branch {
         condition,

@@ -2,7 +2,7 @@
 ghost use Rattle.std.specs.Prelude.{◌≡◌, ◌<◌};
 ghost use Rattle.isa.specs.Rom.{IsImage, space_of};
 ghost use Rattle.isa.specs.Table.{Timings};
-ghost use Rattle.isa.specs.Decode.{answer_of, decodeOf, decodeIn};
+ghost use Rattle.isa.specs.Decode.{answer_of, decode_of, decode_in};
 
 use crate::code::{Code, code_at};
 use crate::map::form;
@@ -16,7 +16,7 @@ use crate::{Decoded, Form, Refusal};
 // a fixed half is refused at once: every step decodes, and the halves are then found without further tests.
 pub fn decode_in_range(table: &[u8; 256], image: &[u8], bank: u8, address: u16) -> Decoded
     ensures { IsImage image.now → address < 4096 → Timings table.now
-        → answer_of result ≡ decodeOf (space_of image.now bank) address }
+        → answer_of result ≡ decode_of (space_of image.now bank) address }
 {
     if image.len() < HALF_SPACE {
         return Decoded::Refused(Refusal::ImageLength);
@@ -40,7 +40,7 @@ pub fn decode_in_range(table: &[u8; 256], image: &[u8], bank: u8, address: u16) 
 // The instruction at an address of an image with a bank byte. The answer is taken apart and made again: handed on
 // whole, it is read at once from the memory into which it was written part by part, and the processor waits for that.
 pub fn decode(image: &[u8], bank: u8, address: u16) -> Decoded
-    ensures { answer_of result ≡ decodeIn image.now bank address }
+    ensures { answer_of result ≡ decode_in image.now bank address }
 {
     if !is_image_length(image.len()) {
         return Decoded::Refused(Refusal::ImageLength);

@@ -1,21 +1,21 @@
 // From an instruction to its bytes.
 ghost use Rattle.std.specs.Prelude.{◌≡◌, ◌<◌, ◌≤◌};
-ghost use Rattle.isa.specs.Encode.{withByte, withBytes, withBit, shortJump, extendedJump};
-ghost use Rattle.isa.specs.Encode.{bitDirect, bitJump, onData, onShort, encodeOf};
+ghost use Rattle.isa.specs.Encode.{with_byte, with_bytes, with_bit, short_jump, extended_jump};
+ghost use Rattle.isa.specs.Encode.{bit_direct, bit_jump, on_data, on_short, encode_of};
 
 use crate::displacement::{is_short, long_byte, short_field};
 use crate::{Encoded, Instruction, Operand};
 
 // An opcode with one operand byte.
 fn with_byte(opcode: u8, first: u8) -> Encoded
-    ensures { result ≡ withByte opcode first }
+    ensures { result ≡ with_byte opcode first }
 {
     Encoded::Two(opcode, first)
 }
 
 // An opcode with two operand bytes.
 fn with_bytes(opcode: u8, first: u8, second: u8) -> Encoded
-    ensures { result ≡ withBytes opcode first second }
+    ensures { result ≡ with_bytes opcode first second }
 {
     Encoded::Three(opcode, first, second)
 }
@@ -23,7 +23,7 @@ fn with_bytes(opcode: u8, first: u8, second: u8) -> Encoded
 // A short jump. `base` is the opcode at displacement 0.
 fn short_jump(base: u8, displacement: i8) -> Encoded
     requires { base < 8 }
-    ensures { result ≡ shortJump base displacement }
+    ensures { result ≡ short_jump base displacement }
 {
     if is_short(displacement) {
         Encoded::One(short_field(displacement) * 8 + base)
@@ -35,7 +35,7 @@ fn short_jump(base: u8, displacement: i8) -> Encoded
 // CALL or JP. `base` is the opcode at a target whose lowest digit is 0.
 fn extended_jump(base: u8, target: u16) -> Encoded
     requires { base < 16 }
-    ensures { result ≡ extendedJump base target }
+    ensures { result ≡ extended_jump base target }
 {
     if target < 4096 {
         Encoded::Two((target % 16 * 16) as u8 + base, (target / 16) as u8)
@@ -47,7 +47,7 @@ fn extended_jump(base: u8, target: u16) -> Encoded
 // The opcode with a bit number in its top three bits, reversed. `base` is the opcode for bit 0.
 fn with_bit(base: u8, bit: u8) -> u8
     requires { (base < 32) × (bit < 8) }
-    ensures { result ≡ withBit base bit }
+    ensures { result ≡ with_bit base bit }
 {
     (bit % 2 * 4 + bit / 2 % 2 * 2 + bit / 4) * 32 + base
 }
@@ -55,7 +55,7 @@ fn with_bit(base: u8, bit: u8) -> u8
 // JRR or JRS.
 fn bit_jump(base: u8, bit: u8, address: u8, displacement: i8) -> Encoded
     requires { base < 32 }
-    ensures { result ≡ bitJump base bit address displacement }
+    ensures { result ≡ bit_jump base bit address displacement }
 {
     if bit < 8 {
         with_bytes(with_bit(base, bit), address, long_byte(displacement))
@@ -67,7 +67,7 @@ fn bit_jump(base: u8, bit: u8, address: u8, displacement: i8) -> Encoded
 // RES or SET.
 fn bit_direct(base: u8, bit: u8, address: u8) -> Encoded
     requires { base < 32 }
-    ensures { result ≡ bitDirect base bit address }
+    ensures { result ≡ bit_direct base bit address }
 {
     if bit < 8 {
         with_byte(with_bit(base, bit), address)
@@ -78,7 +78,7 @@ fn bit_direct(base: u8, bit: u8, address: u8) -> Encoded
 
 // An instruction on a data operand, by its opcodes for (X), (Y) and rr.
 fn on_data(x: u8, y: u8, rr: u8, operand: Operand) -> Encoded
-    ensures { result ≡ onData x y rr operand }
+    ensures { result ≡ on_data x y rr operand }
 {
     match operand {
         Operand::Direct(address) => with_byte(rr, address),
@@ -91,7 +91,7 @@ fn on_data(x: u8, y: u8, rr: u8, operand: Operand) -> Encoded
 // The same with a short operand too, by the opcode for register X.
 fn on_short(short: u8, x: u8, y: u8, rr: u8, operand: Operand) -> Encoded
     requires { short < 64 }
-    ensures { result ≡ onShort short x y rr operand }
+    ensures { result ≡ on_short short x y rr operand }
 {
     match operand {
         Operand::Direct(address) => with_byte(rr, address),
@@ -109,7 +109,7 @@ fn on_short(short: u8, x: u8, y: u8, rr: u8, operand: Operand) -> Encoded
 
 // The bytes of an instruction.
 pub fn encode(instruction: Instruction) -> Encoded
-    ensures { result ≡ encodeOf instruction }
+    ensures { result ≡ encode_of instruction }
 {
     match instruction {
         Instruction::Jrnz(d) => short_jump(0x00, d),

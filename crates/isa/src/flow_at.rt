@@ -4,8 +4,8 @@ ghost use Rattle.std.specs.Prelude.{◌≡◌, ◌++◌, ℕ, ◌%◌, ◌<◌};
 ghost use Rattle.isa.specs.Rom.{IsImage, space_of, Halves};
 ghost use Rattle.isa.specs.Table.{Timings};
 ghost use Rattle.isa.specs.Map.{form_of};
-ghost use Rattle.isa.specs.Decode.{decodeOf};
-ghost use Rattle.isa.specs.FlowAt.{flowAs, continuationOf, continuationFrom};
+ghost use Rattle.isa.specs.Decode.{decode_of};
+ghost use Rattle.isa.specs.FlowAt.{flow_as, continuation_of, continuation_from};
 
 use crate::code::{Code, code_at};
 use crate::control_flow::{long, short};
@@ -19,7 +19,7 @@ use crate::{Condition, Continuation, Flow, Refusal};
 // Column 3: a branch on a bit, JRR in the even rows, JRS in the odd ones.
 fn column_3(opcode: u8, first: u8, second: u8, at: u16) -> Flow
     requires { opcode % 16 ≡ 3 }
-    ensures { result ≡ flowAs (form_of opcode first second) at }
+    ensures { result ≡ flow_as (form_of opcode first second) at }
 {
     let bit = bit_number(opcode);
     let displacement = long_displacement(second);
@@ -43,7 +43,7 @@ fn column_3(opcode: u8, first: u8, second: u8, at: u16) -> Flow
 // Column D: the returns, STOP and WAIT; the others go on at the next address.
 fn column_d(opcode: u8) -> Flow
     requires { opcode % 16 ≡ 13 }
-    ensures { (first second at : ℕ) → result ≡ flowAs (form_of opcode first second) at }
+    ensures { (first second at : ℕ) → result ≡ flow_as (form_of opcode first second) at }
 {
     match opcode {
         0x4D => Flow::ReturnFromInterrupt,
@@ -55,7 +55,7 @@ fn column_d(opcode: u8) -> Flow
 
 // Where an opcode with the two bytes that follow it continues.
 fn flow_by(opcode: u8, first: u8, second: u8, at: u16) -> Flow
-    ensures { result ≡ flowAs (form_of opcode first second) at }
+    ensures { result ≡ flow_as (form_of opcode first second) at }
 {
     match opcode % 16 {
         0 | 8 => short(Condition::Zero(false), at, short_displacement(opcode)),
@@ -75,8 +75,8 @@ fn flow_by(opcode: u8, first: u8, second: u8, at: u16) -> Flow
 // opcode has length 0.
 pub fn flow_at<'a>(table: &[u8; 256], page: &'a [u8], fixed: &'a [u8], address: u16) -> Continuation
     ensures { Halves page.now fixed.now → address < 4096 → Timings table.now
-        → continuationOf result
-        ≡ continuationFrom address (decodeOf (page.now ++ fixed.now) address) }
+        → continuation_of result
+        ≡ continuation_from address (decode_of (page.now ++ fixed.now) address) }
 {
     let Code::Bytes(opcode, first, second) = code_at(table, page, fixed, address) else {
         return Continuation::Refused(Refusal::OutsideRom(address));
@@ -95,7 +95,7 @@ pub fn flow_at<'a>(table: &[u8; 256], page: &'a [u8], fixed: &'a [u8], address: 
 // `flow_by` once more, for `flow_in`. Each has one caller: where the check and the maker share a function here, the
 // compiler makes the check's loop longer, or leaves the function out of it.
 fn flow_as(opcode: u8, first: u8, second: u8, at: u16) -> Flow
-    ensures { result ≡ flowAs (form_of opcode first second) at }
+    ensures { result ≡ flow_as (form_of opcode first second) at }
 {
     match opcode % 16 {
         0 | 8 => short(Condition::Zero(false), at, short_displacement(opcode)),
@@ -113,7 +113,7 @@ fn flow_as(opcode: u8, first: u8, second: u8, at: u16) -> Flow
 // The same of an image with a bank byte, for the maker.
 pub fn flow_in(table: &[u8; 256], image: &[u8], bank: u8, address: u16) -> Continuation
     ensures { IsImage image.now → address < 4096 → Timings table.now
-        → continuationOf result ≡ continuationFrom address (decodeOf (space_of image.now bank) address) }
+        → continuation_of result ≡ continuation_from address (decode_of (space_of image.now bank) address) }
 {
     if image.len() < HALF_SPACE {
         return Continuation::Refused(Refusal::ImageLength);

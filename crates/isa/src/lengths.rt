@@ -1,12 +1,12 @@
 // The length of an instruction on a data operand.
 ghost use Rattle.std.specs.Prelude.{◌≡◌};
-ghost use Rattle.isa.specs.Lengths.{lengthWith};
+ghost use Rattle.isa.specs.Lengths.{length_with};
 
 use crate::Operand;
 
 // A direct operand takes a byte more.
 pub fn length_with(operand: Operand) -> u8
-    ensures { result ≡ lengthWith operand }
+    ensures { result ≡ length_with operand }
 {
     match operand {
         Operand::Direct(_) => 2,

@@ -1,13 +1,13 @@
 // From an opcode and its operand bytes to the instruction.
 ghost use Rattle.std.specs.Prelude.{◌≡◌, ℕ, ◌%◌, ◌/◌};
-ghost use Rattle.isa.specs.Map.{bitNumber, extended, form_of, on_operand};
+ghost use Rattle.isa.specs.Map.{bit_number, extended, form_of, on_operand};
 
 use crate::displacement::{long_displacement, short_displacement};
 use crate::{Form, Instruction, Operand};
 
 // The bit number: the opcode's top three bits, reversed.
 pub fn bit_number(opcode: u8) -> u8
-    ensures { result ≡ bitNumber opcode }
+    ensures { result ≡ bit_number opcode }
 {
     opcode / 32 % 2 * 4 + opcode / 64 % 2 * 2 + opcode / 128
 }

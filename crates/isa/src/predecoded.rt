@@ -4,13 +4,13 @@
 // kind of its operand; the codes below 12 are those of the instructions that may go elsewhere than to the next address.
 ghost use Rattle.std.specs.Prelude.{◌≡◌, ◌%◌, ◌/◌, ◌+◌, ◌*◌, ◌<◌, ◌≤◌, eqb, ltb};
 ghost use Rattle.isa.specs.Predecoded.{
-  instructionByCode,
-  onOperandByCode,
-  instructionOfWord,
-  cyclesOfWord,
+  instruction_by_code,
+  on_operand_by_code,
+  instruction_of_word,
+  cycles_of_word,
   IsWord,
-  tagFor,
-  tagOfWord,
+  tag_for,
+  tag_of_word,
   Predecoded,
 };
 
@@ -22,7 +22,7 @@ const FIRST_OPERATION: u64 = 12;
 
 // The number of a code with its cycles and operands.
 fn word(code: u8, cycles: u8, a: u8, b: u8, c: u8) -> u64
-    ensures { IsWord result (instructionByCode code a b c) cycles }
+    ensures { IsWord result (instruction_by_code code a b c) cycles }
 {
     c as u64 * 0x100000000
         + b as u64 * 0x1000000
@@ -34,7 +34,7 @@ fn word(code: u8, cycles: u8, a: u8, b: u8, c: u8) -> u64
 // The number of a code that has an operand: the code with its kind.
 fn on(code: u8, cycles: u8, operand: Operand) -> u64
     requires { code < 252 }
-    ensures { IsWord result (onOperandByCode code operand) cycles }
+    ensures { IsWord result (on_operand_by_code code operand) cycles }
 {
     match operand {
         Operand::Direct(a) => word(code, cycles, a, 0, 0),
@@ -84,7 +84,7 @@ fn word_of(instruction: Instruction, cycles: u8) -> u64
 
 // The tag of a bank byte and an address.
 fn tag(bank: u8, address: u16) -> u64
-    ensures { (result ≡ tagFor bank address) × (result < 16777216) }
+    ensures { (result ≡ tag_for bank address) × (result < 16777216) }
 {
     0x100000 + bank as u64 * 0x1000 + address as u64
 }
@@ -98,14 +98,14 @@ pub fn predecode(instruction: Instruction, cycles: u8, bank: u8, address: u16) -
 
 // Whether a number was decoded with this bank byte at this address.
 pub fn has_tag(word: u64, bank: u8, address: u16) -> bool
-    ensures { result ≡ eqb (tagOfWord word) (tagFor bank address) }
+    ensures { result ≡ eqb (tag_of_word word) (tag_for bank address) }
 {
     word / 0x10000000000 == tag(bank, address)
 }
 
 // The cycles of a number's instruction.
 pub fn cycles_in(word: u64) -> u8
-    ensures { result ≡ cyclesOfWord word }
+    ensures { result ≡ cycles_of_word word }
 {
     (word / 0x100 % 16) as u8
 }
@@ -126,7 +126,7 @@ fn target(low: u8, high: u8) -> u16
 
 // The instruction of a number, where it may go elsewhere.
 pub fn transfer_in(word: u64) -> Instruction
-    ensures { word % 256 < 12 → result ≡ instructionOfWord word }
+    ensures { word % 256 < 12 → result ≡ instruction_of_word word }
 {
     let a = (word / 0x10000 % 0x100) as u8;
     let b = (word / 0x1000000 % 0x100) as u8;
@@ -150,7 +150,7 @@ pub fn transfer_in(word: u64) -> Instruction
 // The instruction of a number, where it goes on at the next address. One match, though it is long: in two functions it
 // costs a run one more jump in each step, 4 % of its time.
 pub fn operation_in(word: u64) -> Instruction
-    ensures { 12 ≤ word % 256 → result ≡ instructionOfWord word }
+    ensures { 12 ≤ word % 256 → result ≡ instruction_of_word word }
 {
     let a = (word / 0x10000 % 0x100) as u8;
     let b = (word / 0x1000000 % 0x100) as u8;

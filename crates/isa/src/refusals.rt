@@ -1,12 +1,12 @@
 // Refusals by the papers' numbers.
 ghost use Rattle.std.specs.Prelude.{◌≡◌};
-ghost use Rattle.isa.specs.Refusals.{asNumbered, numbered};
+ghost use Rattle.isa.specs.Refusals.{as_numbered, numbered};
 
 use crate::{Number, Refusal};
 
 // The number of a refusal, with the address where the papers give one.
 pub fn number_of(refusal: Refusal) -> Number
-    ensures { asNumbered result ≡ numbered refusal }
+    ensures { as_numbered result ≡ numbered refusal }
 {
     match refusal {
         Refusal::ImageLength => Number::Plain(1),

@@ -1,7 +1,7 @@
 // The image's bytes by program address. Program space as it stands is a page, or nothing, below 800h, and the fixed half
 // above. What is promised of two halves holds where their lengths are those of a page, or nothing, and of a fixed half.
 ghost use Rattle.std.specs.Prelude.{◌≡◌, true, ◌++◌, ◌<◌, ◌%◌};
-ghost use Rattle.isa.specs.Rom.{isImage, isSpace, spacesIn, page_of, fixed_of, Halves, half_of, romAt, operand_at};
+ghost use Rattle.isa.specs.Rom.{is_image, is_space, spaces_in, page_of, fixed_of, Halves, half_of, rom_at, operand_at};
 
 use crate::displacement::forward;
 use crate::parts::{fixed_in, page_in};
@@ -22,7 +22,7 @@ pub enum RomByte {
 
 // Whether an image may have this many bytes.
 pub fn is_image_length(length: usize) -> bool
-    ensures { result ≡ isImage length }
+    ensures { result ≡ is_image length }
 {
     if length % HALF_SPACE != 0 {
         return false;
@@ -32,7 +32,7 @@ pub fn is_image_length(length: usize) -> bool
 
 // Whether program space as it stands may have this many bytes: the lengths of an image that needs no bank byte.
 pub fn is_space_length(length: usize) -> bool
-    ensures { result ≡ isSpace length }
+    ensures { result ≡ is_space length }
 {
     length == HALF_SPACE || length == PROGRAM_SPACE
 }
@@ -40,7 +40,7 @@ pub fn is_space_length(length: usize) -> bool
 // In how many ways program space can stand: one for each page of an image of this many bytes, and one where there are
 // none.
 pub fn spaces_in(length: usize) -> u8
-    ensures { isImage length ≡ true → result ≡ spacesIn length }
+    ensures { is_image length ≡ true → result ≡ spaces_in length }
 {
     if length <= PROGRAM_SPACE {
         return 1;
@@ -54,7 +54,7 @@ pub fn spaces_in(length: usize) -> u8
 // The number of the page that a bank byte picks; 0 where there is nothing to pick. Without a division where it is the
 // bank byte itself: a run waits for it at each change of the page.
 pub fn page_number(length: usize, bank: u8) -> u8
-    ensures { isImage length ≡ true → result ≡ bank % spacesIn length }
+    ensures { is_image length ≡ true → result ≡ bank % spaces_in length }
 {
     let spaces = spaces_in(length);
     if spaces <= 1 {
@@ -99,7 +99,7 @@ pub fn half<'a>(page: &'a [u8], fixed: &'a [u8], address: u16) -> &'a [u8]
 // The ROM byte at a program address, of a page and a fixed half.
 pub fn rom_byte<'a>(page: &'a [u8], fixed: &'a [u8], address: u16) -> RomByte
     ensures { Halves page.now fixed.now → address < 4096
-        → result ≡ romAt (page.now ++ fixed.now) address }
+        → result ≡ rom_at (page.now ++ fixed.now) address }
 {
     let part = half(page, fixed, address);
     let at = (address as usize) % HALF_SPACE;

@@ -1,6 +1,6 @@
 // Interrupt sources: their bits in a request byte or a wired byte, and their vectors.
 ghost use Rattle.std.specs.Prelude.{◌≡◌};
-ghost use Rattle.isa.specs.Sources.{namesOnlySources, isNamed, vectorOf};
+ghost use Rattle.isa.specs.Sources.{names_only_sources, is_named, vector_of};
 
 use crate::Source;
 
@@ -9,14 +9,14 @@ pub const RESET_VECTOR: u16 = 0xFFE;
 
 // Whether a byte names nothing but sources: bits 5, 6 and 7 are 0.
 pub fn names_only_sources(byte: u8) -> bool
-    ensures { result ≡ namesOnlySources byte }
+    ensures { result ≡ names_only_sources byte }
 {
     byte < 32
 }
 
 // Whether a byte has the bit of a source.
 pub fn names(byte: u8, source: Source) -> bool
-    ensures { result ≡ isNamed byte source }
+    ensures { result ≡ is_named byte source }
 {
     match source {
         Source::Nmi => byte % 2 == 1,
@@ -29,7 +29,7 @@ pub fn names(byte: u8, source: Source) -> bool
 
 // The address where a source's service begins.
 pub fn vector_of(source: Source) -> u16
-    ensures { result ≡ vectorOf source }
+    ensures { result ≡ vector_of source }
 {
     match source {
         Source::Nmi => 0xFFC,

@@ -1,6 +1,6 @@
 // Writing an instruction into a buffer.
 ghost use Rattle.isa.specs.Write.{Wrote};
-ghost use Rattle.isa.specs.Encode.{encodeOf};
+ghost use Rattle.isa.specs.Encode.{encode_of};
 
 use crate::encode::encode;
 use crate::{Encoded, Instruction, Refusal, Written};
@@ -40,7 +40,7 @@ fn write_three(buffer: &mut [u8], a: u8, b: u8, c: u8) -> Written
 
 // Writes an instruction from the buffer's first byte.
 pub fn write(instruction: Instruction, buffer: &mut [u8]) -> Written
-    ensures { Wrote (encodeOf instruction) buffer.old buffer.new result }
+    ensures { Wrote (encode_of instruction) buffer.old buffer.new result }
 {
     match encode(instruction) {
         Encoded::One(a) => write_one(buffer, a),

@@ -9,12 +9,12 @@ use borrow.Author.Tests.{le-leb}
 use Rattle.isa.specs.Refusals.{plain, done, refused}
 use Rattle.jobs.specs.declared.Answered.{Answered}
 use Rattle.jobs.specs.declared.Answered.TheVariants.{Line}
-use Rattle.jobs.specs.Answer.{Answers, fits, outcomeOf, SixteenBytesAreEnough}
+use Rattle.jobs.specs.Answer.{Answers, fits, outcome_of, SixteenBytesAreEnough}
 
 -- a line that was written lies within the buffer
-pub within-buffer :
+pub within_buffer :
     {line before after : List ℕ} {r : Answered} {n : ℕ} → r ≡ Line n → Answers line before after r → n ≤ length after
-within-buffer {line} {before} {after} {r} {n} e a = go (fits line before) (ap outcomeOf (sym e) ∙ a.answer) a.buffer
+within_buffer {line} {before} {after} {r} {n} e a = go (fits line before) (ap outcome_of (sym e) ∙ a.answer) a.buffer
   where
     go :
         (b : Bool)
@@ -26,7 +26,7 @@ within-buffer {line} {before} {after} {r} {n} e a = go (fits line before) (ap ou
         rw (q, length-append) (omega arith)
     go false p q = let never : ◌≡◌ {A = ℕ} 0 1 = cc in absurd (omega arith)
 
-pub sixteen-bytes-are-enough : SixteenBytesAreEnough
-sixteen-bytes-are-enough line before after r a h =
+pub sixteen_bytes_are_enough : SixteenBytesAreEnough
+sixteen_bytes_are_enough line before after r a h =
     let room : length line ≤ length before = omega (arith, a.short) in
     rw le-leb at a.answer

@@ -11,11 +11,11 @@ use lib.ListN.{length, take, drop, length-append}
 use lib.Seq.{take_at, drop_at, take_all, drop-drop}
 use borrow.Author.Tests.{eq-eqb, eqb-true, le-leb}
 use Rattle.isa.proofs.Halves.{by_length}
-use Rattle.certificate.specs.Check.{checkOf}
-use Rattle.jobs.specs.CheckJob.{isCount, countOf, job_of, jobFor, JobsAreChecked}
+use Rattle.certificate.specs.Check.{check_of}
+use Rattle.jobs.specs.CheckJob.{is_count, count_of, job_of, job_for, JobsAreChecked}
 
 -- a count is that of the wired byte, and of the image and the certificate, which have as many bytes each
-pub halves : (n : ℕ) → isCount n ≡ true → n ≡ 1 + ((n - 1) / 2 + (n - 1) / 2)
+pub halves : (n : ℕ) → is_count n ≡ true → n ≡ 1 + ((n - 1) / 2 + (n - 1) / 2)
 halves n e = go (eqb n 4097) (eqb n 8193) refl refl e
   where
     go : (s t : Bool) → eqb n 4097 ≡ s → eqb n 8193 ≡ t → (s || t) ≡ true → n ≡ 1 + ((n - 1) / 2 + (n - 1) / 2)
@@ -25,17 +25,17 @@ halves n e = go (eqb n 4097) (eqb n 8193) refl refl e
 
 module _ (wired : ℕ) (image certificate : List ℕ) (same : length certificate ≡ length image) where
   abbrev job : List ℕ
-  job = jobFor wired image certificate
+  job = job_for wired image certificate
 
   abbrev count : ℕ
   count = 1 + (length image + length certificate)
 
-  checked : isCount count ≡ true → job_of job ≡ checkOf image certificate wired
+  checked : is_count count ≡ true → job_of job ≡ check_of image certificate wired
   unfolding job_of
   checked known =
       let n = length image in
       let joined = length-append image certificate in
-      let counted : countOf job ≡ count = div-add-mod' count 256 in
+      let counted : count_of job ≡ count = div-add-mod' count 256 in
       let long : 3 ≤ length job = omega (arith, joined) in
       let whole : length job - 3 ≡ count = omega (arith, joined) in
       let half : (count - 1) / 2 ≡ n = omega arith in
@@ -44,7 +44,7 @@ module _ (wired : ℕ) (image certificate : List ℕ) (same : length certificate
       let last : take n certificate ≡ certificate = take_all n certificate (omega arith) in
       rw (le-leb _ _ long, counted, known, eq-eqb _ _ whole, half, ← drop-drop n 4 job, first, rest, last)
 
-pub jobs-are-checked : JobsAreChecked
-jobs-are-checked wired image certificate is same =
+pub jobs_are_checked : JobsAreChecked
+jobs_are_checked wired image certificate is same =
     checked wired image certificate same
-    (rw same (by_length (λ n. isCount (1 + (n + n)) ≡ true) refl refl (length image) is))
+    (rw same (by_length (λ n. is_count (1 + (n + n)) ≡ true) refl refl (length image) is))

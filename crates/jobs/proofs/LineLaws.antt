@@ -6,11 +6,11 @@ use mathlib.Core.List.{List, ◌++◌, append_assoc}
 use lib.ListN.{length, take, drop, replicate, length-append, length-drop}
 use lib.Seq.{length-take-le, take-length, take-append_seam}
 use Rattle.jobs.specs.declared.LineBuffer.{LineBuffer}
-use Rattle.jobs.specs.LineBuffer.{contentOf, Fits, Holds, Appends}
+use Rattle.jobs.specs.LineBuffer.{content_of, Fits, Holds, Appends}
 
 -- a line has as many bytes as it counts
-pub content-length : (t : LineBuffer) → Fits t → length (contentOf t) ≡ t.count
-content-length t f = length-take-le t.count t.letters (omega arith)
+pub content_length : (t : LineBuffer) → Fits t → length (content_of t) ≡ t.count
+content_length t f = length-take-le t.count t.letters (omega arith)
 
 -- a word copied to the front of the array
 pub begun :

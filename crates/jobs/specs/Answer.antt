@@ -5,9 +5,9 @@ use Rattle.jobs.specs.declared.Answered.{Answered}
 use Rattle.jobs.specs.declared.Answered.TheVariants.{Line, Refused}
 
 -- the program's answer by document 01's numbers
-abbrev pub outcomeOf : Answered → Answer ℕ
-outcomeOf (Line n) = done n
-outcomeOf (Refused r) = refused (numbered r)
+abbrev pub outcome_of : Answered → Answer ℕ
+outcome_of (Line n) = done n
+outcome_of (Refused r) = refused (numbered r)
 
 -- "9 buffer shorter than the instruction", here than the line
 abbrev pub fits : (line buffer : List ℕ) → Bool
@@ -17,7 +17,7 @@ fits line buffer = leb (length line) (length buffer)
 -- and "A refusal .. leaves buffers .. untouched"
 pub record Answers (line before after : List ℕ) (r : Answered) : Type 0 where
   pub short : length line ≤ 16
-  pub answer : outcomeOf r ≡ cond (fits line before) (done (length line)) (refused (plain 9))
+  pub answer : outcome_of r ≡ cond (fits line before) (done (length line)) (refused (plain 9))
   pub buffer : after ≡ cond (fits line before) (line ++ drop (length line) before) before
 
 -- a buffer of 16 bytes takes every line that is answered so
@@ -25,4 +25,4 @@ pub record Answers (line before after : List ℕ) (r : Answered) : Type 0 where
 abbrev pub SixteenBytesAreEnough : Type 0
 SixteenBytesAreEnough =
     (line before after : List ℕ) (r : Answered) → Answers line before after r → 16 ≤ length before
-    → outcomeOf r ≡ done (length line)
+    → outcome_of r ≡ done (length line)

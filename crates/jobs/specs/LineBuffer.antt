@@ -3,8 +3,8 @@ use Rattle.std.specs.Prelude.{ℕ, ◌+◌, ◌≤◌, ◌≡◌, List, ◌++◌
 use Rattle.jobs.specs.declared.LineBuffer.{LineBuffer}
 
 -- the bytes of the line
-abbrev pub contentOf : LineBuffer → List ℕ
-contentOf b = take b.count b.letters
+abbrev pub content_of : LineBuffer → List ℕ
+content_of b = take b.count b.letters
 
 -- a line within its array of 16 bytes
 pub record Fits (b : LineBuffer) : Type 0 where
@@ -13,12 +13,12 @@ pub record Fits (b : LineBuffer) : Type 0 where
 
 -- a line of the given bytes
 pub record Holds (bytes : List ℕ) (b : LineBuffer) : Type 0 where
-  pub content : contentOf b ≡ bytes
+  pub content : content_of b ≡ bytes
   pub count : b.count ≡ length bytes
   pub fits : Fits b
 
 -- a line with bytes after those of another
 pub record Appends (bytes : List ℕ) (before after : LineBuffer) : Type 0 where
-  pub content : contentOf after ≡ contentOf before ++ bytes
+  pub content : content_of after ≡ content_of before ++ bytes
   pub count : after.count ≡ before.count + length bytes
   pub fits : Fits after

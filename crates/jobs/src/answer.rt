@@ -2,7 +2,7 @@
 ghost use Rattle.jobs.specs.Answer.{Answers};
 ghost use Rattle.jobs.specs.CheckJob.{job_of};
 ghost use Rattle.jobs.specs.Line.{line_of};
-ghost use Rattle.jobs.specs.LineBuffer.{Fits, contentOf};
+ghost use Rattle.jobs.specs.LineBuffer.{Fits, content_of};
 
 use crate::check_job::check_job;
 use crate::line::line_of;
@@ -12,7 +12,7 @@ use isa::Refusal;
 // Writes what was made from the buffer's first byte, where it fits.
 fn write_line(made: LineBuffer, line: &mut [u8]) -> Answered
     requires { Fits made }
-    ensures { Answers (contentOf made) line.old line.new result }
+    ensures { Answers (content_of made) line.old line.new result }
 {
     let letters = made.letters;
     let count = made.count;

@@ -1,7 +1,7 @@
 // A job taken apart and checked.
 ghost use Rattle.std.specs.Prelude.{◌+◌, ◌≤◌, ◌≡◌, length};
-ghost use Rattle.certificate.specs.Check.{answered, checkOf};
-ghost use Rattle.jobs.specs.CheckJob.{certificateOf, countOf, image_of, isCount, job_of, wiredOf};
+ghost use Rattle.certificate.specs.Check.{answered, check_of};
+ghost use Rattle.jobs.specs.CheckJob.{certificate_of, count_of, image_of, is_count, job_of, wired_of};
 
 use certificate::Checked;
 use certificate::check::check;
@@ -10,14 +10,14 @@ use isa::Refusal;
 // The count in a job's second and third byte, the high one first.
 fn count_of(job: &[u8]) -> usize
     requires { 3 ≤ length job.now }
-    ensures { result ≡ countOf job.now }
+    ensures { result ≡ count_of job.now }
 {
     job[1] as usize * 256 + job[2] as usize
 }
 
 // Whether a count is that of a 2K or of a 4K job.
 fn is_count(count: usize) -> bool
-    ensures { result ≡ isCount count }
+    ensures { result ≡ is_count count }
 {
     count == 4097 || count == 8193
 }
@@ -26,8 +26,8 @@ fn is_count(count: usize) -> bool
 fn check_parts(job: &[u8], size: usize) -> Checked
     requires { length job.now ≡ 4 + (size + size) }
     ensures { answered result
-        ≡ checkOf (image_of size job.now) (certificateOf size job.now)
-        (wiredOf job.now) }
+        ≡ check_of (image_of size job.now) (certificate_of size job.now)
+        (wired_of job.now) }
 {
     let middle = 4 + size;
     check(&job[4..middle], &job[middle..], job[3])

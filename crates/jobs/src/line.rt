@@ -1,5 +1,5 @@
 // The line that an answer is printed as.
-ghost use Rattle.isa.specs.Refusals.{asNumbered, refused};
+ghost use Rattle.isa.specs.Refusals.{as_numbered, refused};
 ghost use Rattle.certificate.specs.Check.{answered};
 ghost use Rattle.jobs.specs.Line.{line_of};
 ghost use Rattle.jobs.specs.LineBuffer.{Holds};
@@ -11,7 +11,7 @@ use isa::refusals::number_of;
 
 // The line of a refusal: its number, and its address where it has one.
 fn refusal_line(number: Number) -> LineBuffer
-    ensures { Holds (line_of (refused (asNumbered number))) result }
+    ensures { Holds (line_of (refused (as_numbered number))) result }
 {
     let line = LineBuffer::new(b"refused ");
     match number {

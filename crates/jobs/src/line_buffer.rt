@@ -1,6 +1,6 @@
 // LineBuffer in the making: a word, then pieces put after it.
 ghost use Rattle.std.specs.Prelude.{◌≡◌, ◌+◌, ◌<◌, ◌≤◌, length, [], ◌∷◌};
-ghost use Rattle.jobs.specs.Line.{decimalOf, glyph, threeDigits};
+ghost use Rattle.jobs.specs.Line.{decimal_of, glyph, three_digits};
 ghost use Rattle.jobs.specs.LineBuffer.{Appends, Holds};
 
 use crate::LineBuffer;
@@ -45,7 +45,7 @@ impl LineBuffer {
     // A number in decimal, without leading zeros.
     pub fn decimal(self, number: u8) -> Self
         requires { self.count + 3 ≤ 16 }
-        ensures { Appends (decimalOf number) self result }
+        ensures { Appends (decimal_of number) self result }
     {
         let last = glyph_of(number % 10);
         if number < 10 {
@@ -62,7 +62,7 @@ impl LineBuffer {
     // An address in three hexadecimal digits.
     pub fn address(self, address: u16) -> Self
         requires { self.count + 3 ≤ 16 }
-        ensures { Appends (threeDigits address) self result }
+        ensures { Appends (three_digits address) self result }
     {
         let first = glyph_of((address / 256 % 16) as u8);
         let second = glyph_of((address / 16 % 16) as u8);

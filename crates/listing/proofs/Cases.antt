@@ -1,27 +1,27 @@
 -- Lines and texts, computed.
 use mathlib.Core.Path.{refl}
-use Rattle.isa.specs.Decode.{decodeAt, decodeIn}
-use Rattle.isa.specs.Rom.{fixed_of, operand_at, page_of, romAt, space_of}
-use Rattle.isa.specs.Map.{entry_of, formAs, form_of}
-use Rattle.isa.specs.Table.{bytes_of, cyclesOf}
+use Rattle.isa.specs.Decode.{decode_at, decode_in}
+use Rattle.isa.specs.Rom.{fixed_of, operand_at, page_of, rom_at, space_of}
+use Rattle.isa.specs.Map.{entry_of, form_as, form_of}
+use Rattle.isa.specs.Table.{bytes_of, cycles_of}
 use Rattle.isa.specs.ControlFlow.{flow_of}
-use Rattle.certificate.specs.Marks.{markAt, needAt}
-use Rattle.jobs.specs.Line.{decimalOf}
-use Rattle.listing.specs.InstructionText.{instructionText, operandText}
-use Rattle.listing.specs.Kinds.{kindName}
-use Rattle.listing.specs.Pages.{choicesIn, pageText, romIn}
-use Rattle.listing.specs.AddressLine.{addressLine, byteText, codeText, markText, needText, operandByteText}
+use Rattle.certificate.specs.Marks.{mark_at, need_at}
+use Rattle.jobs.specs.Line.{decimal_of}
+use Rattle.listing.specs.InstructionText.{instruction_text, operand_text}
+use Rattle.listing.specs.Kinds.{kind_name}
+use Rattle.listing.specs.Pages.{choices_in, page_text, rom_in}
+use Rattle.listing.specs.AddressLine.{address_line, byte_text, code_text, mark_text, need_text, operand_byte_text}
 use Rattle.listing.specs.Cases.{TextCases, LineCases}
 
-pub text-cases : TextCases
-unfolding instructionText operandText decimalOf
-text-cases = record { call = refl; bit = refl; set = refl; store = refl; through = refl; immediate = refl }
+pub text_cases : TextCases
+unfolding instruction_text operand_text decimal_of
+text_cases = record { call = refl; bit = refl; set = refl; store = refl; through = refl; immediate = refl }
 
-pub line-cases : LineCases
-unfolding addressLine codeText byteText operandByteText markText needText kindName instructionText operandText
-    decimalOf decodeAt decodeIn romAt romIn operand_at form_of formAs entry_of bytes_of cyclesOf flow_of markAt needAt
-    space_of page_of fixed_of choicesIn pageText
-line-cases =
+pub line_cases : LineCases
+unfolding address_line code_text byte_text operand_byte_text mark_text need_text kind_name instruction_text operand_text
+    decimal_of decode_at decode_in rom_at rom_in operand_at form_of form_as entry_of bytes_of cycles_of flow_of mark_at need_at
+    space_of page_of fixed_of choices_in page_text
+line_cases =
     record {
       call = refl;
       return = refl;

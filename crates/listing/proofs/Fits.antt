@@ -8,13 +8,13 @@ use mathlib.Core.List.{List, [], ◌++◌}
 use lib.Dec.{eqb, leb}
 use lib.ListN.{length, length-append, length-replicate}
 use borrow.Author.Tests.{leb-true}
-use Rattle.isa.specs.Displacement.{forwardOf}
+use Rattle.isa.specs.Displacement.{forward_of}
 use Rattle.isa.specs.Refusals.{plain, located, Answer, done, refused}
-use Rattle.isa.specs.Rom.{isImage, spacesIn, space_of}
+use Rattle.isa.specs.Rom.{is_image, spaces_in, space_of}
 use Rattle.isa.specs.ControlFlow.{flow_of}
-use Rattle.isa.specs.Map.{entry_of, formAs, form_of}
+use Rattle.isa.specs.Map.{entry_of, form_as, form_of}
 use Rattle.isa.specs.Decode as decode
-use Rattle.isa.specs.Decode.{Decoding, decodeAt, decodeIn}
+use Rattle.isa.specs.Decode.{Decoding, decode_at, decode_in}
 use Rattle.isa.specs.RoundTrip.{Bytes}
 use Rattle.isa.specs.declared.Instruction.{Instruction}
 use Rattle.isa.specs.declared.Flow.{Flow}
@@ -24,42 +24,42 @@ use Rattle.isa.specs.declared.Form.TheVariants.{Is, Undefined}
 use Rattle.isa.specs.declared.rom.RomByte.{RomByte}
 use Rattle.isa.specs.declared.rom.RomByte.TheVariants.{Byte, Outside}
 use Rattle.isa.proofs.Finite.{bounded}
-use Rattle.isa.proofs.Halves.{Sized, sized, space-bytes}
-use Rattle.isa.proofs.Reading.{reading, rom-byte}
-use Rattle.certificate.specs.Marks.{kind_of, markAt, needAt, need_of}
-use Rattle.jobs.specs.Line.{decimalOf, threeDigits}
-use Rattle.jobs.proofs.Digits.{at-most-three, one-digit}
+use Rattle.isa.proofs.Halves.{Sized, sized, space_bytes}
+use Rattle.isa.proofs.Reading.{reading, rom_byte}
+use Rattle.certificate.specs.Marks.{kind_of, mark_at, need_at, need_of}
+use Rattle.jobs.specs.Line.{decimal_of, three_digits}
+use Rattle.jobs.proofs.Digits.{at_most_three, one_digit}
 use Rattle.listing.specs.Words.{ascii}
-use Rattle.listing.specs.Pieces.{padTo, twoDigits}
-use Rattle.listing.specs.InstructionText.{instructionText, operandText, TextFits}
-use Rattle.listing.specs.Kinds.{kindName}
-use Rattle.listing.specs.Pages.{choicesIn, pageText, romIn}
-use Rattle.listing.specs.AddressLine.{addressLine, byteText, callText, codeText, length_of, LineFits, markText}
-use Rattle.listing.specs.AddressLine.{needText, operandByteText, standingText, targetText}
+use Rattle.listing.specs.Pieces.{pad_to, two_digits}
+use Rattle.listing.specs.InstructionText.{instruction_text, operand_text, TextFits}
+use Rattle.listing.specs.Kinds.{kind_name}
+use Rattle.listing.specs.Pages.{choices_in, page_text, rom_in}
+use Rattle.listing.specs.AddressLine.{address_line, byte_text, call_text, code_text, length_of, LineFits, mark_text}
+use Rattle.listing.specs.AddressLine.{need_text, operand_byte_text, standing_text, target_text}
 
-abbrev formText : Form → ℕ → List ℕ
-formText (Is i) a = instructionText i a
-formText Undefined a = []
+abbrev form_text : Form → ℕ → List ℕ
+form_text (Is i) a = instruction_text i a
+form_text Undefined a = []
 
 -- whatever the operand bytes are, by the 256 opcodes
-form-fits : (k first second a : ℕ) → k < 256 → length (formText (form_of k first second) a) < 17
-unfolding instructionText operandText decimalOf form_of formAs entry_of
-form-fits k first second a h = bounded (λ j. length (formText (form_of j first second) a)) 17 tt k h
+form_fits : (k first second a : ℕ) → k < 256 → length (form_text (form_of k first second) a) < 17
+unfolding instruction_text operand_text decimal_of form_of form_as entry_of
+form_fits k first second a h = bounded (λ j. length (form_text (form_of j first second) a)) 17 tt k h
 
 -- what decodes in an image decodes in program space as it stands
-in-space :
+in_space :
     (t : Bool) (d : Answer Decoding) (i : Instruction) (n cycles : ℕ)
     → cond t d (refused (plain 1)) ≡ done (decode.instruction i n cycles) → d ≡ done (decode.instruction i n cycles)
-in-space true d i n cycles e = e
-in-space false d i n cycles e = absurd (let z : ◌≡◌ {A = ℕ} 0 1 = cc in omega arith)
+in_space true d i n cycles e = e
+in_space false d i n cycles e = absurd (let z : ◌≡◌ {A = ℕ} 0 1 = cc in omega arith)
 
-pub text-fits : TextFits
-unfolding decodeIn
-text-fits image bytes bank a i n cycles e =
+pub text_fits : TextFits
+unfolding decode_in
+text_fits image bytes bank a i n cycles e =
     let space = space_of image bank in
-    let read = reading space a i n cycles (in-space (isImage (length image)) (decodeAt space a) i n cycles e) in
-    let opcode = rom-byte space (space-bytes image bank bytes) a read.k read.opcode in
-    let fits = form-fits read.k read.f read.s a opcode in
+    let read = reading space a i n cycles (in_space (is_image (length image)) (decode_at space a) i n cycles e) in
+    let opcode = rom_byte space (space_bytes image bank bytes) a read.k read.opcode in
+    let fits = form_fits read.k read.f read.s a opcode in
     omega (arith, rw read.form at fits)
 
 -- texts one after the other, and one of two
@@ -70,71 +70,71 @@ chosen : (b : Bool) (s t : List ℕ) (n : ℕ) → length s ≤ n → length t �
 chosen true s t n p q = p
 chosen false s t n p q = q
 
-pad-fits : (column : ℕ) (s : List ℕ) → length s ≤ column → length (padTo column s) ≤ column
-pad-fits column s h = rw (length-append, length-replicate) (omega arith)
+pad_fits : (column : ℕ) (s : List ℕ) → length s ≤ column → length (pad_to column s) ≤ column
+pad_fits column s h = rw (length-append, length-replicate) (omega arith)
 
-byte_fits : (r : RomByte) → length (byteText r) ≤ 2
-unfolding byteText
+byte_fits : (r : RomByte) → length (byte_text r) ≤ 2
+unfolding byte_text
 byte_fits (Byte n) = leb-true 2 2 refl
 byte_fits Outside = leb-true 0 2 refl
 
-operand-fits : (image : List ℕ) (bank a offset bytes : ℕ) → length (operandByteText image bank a offset bytes) ≤ 3
-unfolding operandByteText
-operand-fits image bank a offset bytes =
-    let byte = byteText (romIn image bank (forwardOf a offset)) in
+operand_fits : (image : List ℕ) (bank a offset bytes : ℕ) → length (operand_byte_text image bank a offset bytes) ≤ 3
+unfolding operand_byte_text
+operand_fits image bank a offset bytes =
+    let byte = byte_text (rom_in image bank (forward_of a offset)) in
     chosen (leb bytes offset) [] (ascii " " ++ byte) 3 (leb-true 0 3 refl)
-    (joined (ascii " ") byte 1 2 (leb-true 1 1 refl) (byte_fits (romIn image bank (forwardOf a offset))))
+    (joined (ascii " ") byte 1 2 (leb-true 1 1 refl) (byte_fits (rom_in image bank (forward_of a offset))))
 
-code_fits : (image : List ℕ) (bank a bytes : ℕ) → length (codeText image bank a bytes) ≤ 8
-unfolding codeText
+code_fits : (image : List ℕ) (bank a bytes : ℕ) → length (code_text image bank a bytes) ≤ 8
+unfolding code_text
 code_fits image bank a bytes =
-    let first = operandByteText image bank a 1 bytes in
-    let second = operandByteText image bank a 2 bytes in
-    joined (byteText (romIn image bank a)) (first ++ second) 2 6 (byte_fits (romIn image bank a))
-    (joined first second 3 3 (operand-fits image bank a 1 bytes) (operand-fits image bank a 2 bytes))
+    let first = operand_byte_text image bank a 1 bytes in
+    let second = operand_byte_text image bank a 2 bytes in
+    joined (byte_text (rom_in image bank a)) (first ++ second) 2 6 (byte_fits (rom_in image bank a))
+    (joined first second 3 3 (operand_fits image bank a 1 bytes) (operand_fits image bank a 2 bytes))
 
-standing-fits :
-    (image : List ℕ) → Bytes image → (bank a : ℕ) → length (standingText a (decodeIn image bank a)) ≤ 16
-standing-fits image bytes bank a = go (decodeIn image bank a) refl
+standing_fits :
+    (image : List ℕ) → Bytes image → (bank a : ℕ) → length (standing_text a (decode_in image bank a)) ≤ 16
+standing_fits image bytes bank a = go (decode_in image bank a) refl
   where
-    go : (d : Answer Decoding) → decodeIn image bank a ≡ d → length (standingText a d) ≤ 16
-    go (done (decode.instruction i n cycles)) e = text-fits image bytes bank a i n cycles e
+    go : (d : Answer Decoding) → decode_in image bank a ≡ d → length (standing_text a d) ≤ 16
+    go (done (decode.instruction i n cycles)) e = text_fits image bytes bank a i n cycles e
     go (refused (plain n)) e = leb-true 11 16 refl
     go (refused (located n at)) e =
         chosen (eqb n 5) (ascii "undefined opcode") (ascii "outside ROM") 16 (leb-true 16 16 refl) (leb-true 11 16 refl)
 
-decimal-fits : (n : ℕ) → n < 256 → length (decimalOf n) ≤ 3
-decimal-fits n h = omega (arith, at-most-three n h)
+decimal_fits : (n : ℕ) → n < 256 → length (decimal_of n) ≤ 3
+decimal_fits n h = omega (arith, at_most_three n h)
 
-target_fits : (certificate : List ℕ) (f : Flow) → length (targetText certificate f) ≤ 22
-unfolding needAt
+target_fits : (certificate : List ℕ) (f : Flow) → length (target_text certificate f) ≤ 22
+unfolding need_at
 target_fits certificate flow.Next = leb-true 0 22 refl
 target_fits certificate (flow.Jump target) = leb-true 0 22 refl
 target_fits certificate (flow.Branch condition target) = leb-true 0 22 refl
 target_fits certificate (flow.Call target) =
-    joined (ascii "; its target needs ") (decimalOf (markAt certificate target % 16)) 19 3 (leb-true 19 19 refl)
-    (decimal-fits (markAt certificate target % 16) (omega arith))
+    joined (ascii "; its target needs ") (decimal_of (mark_at certificate target % 16)) 19 3 (leb-true 19 19 refl)
+    (decimal_fits (mark_at certificate target % 16) (omega arith))
 target_fits certificate flow.Return = leb-true 0 22 refl
 target_fits certificate flow.ReturnFromInterrupt = leb-true 0 22 refl
 target_fits certificate flow.Sleep = leb-true 0 22 refl
 
-call_fits : (certificate : List ℕ) (a : ℕ) (d : Answer Decoding) → length (callText certificate a d) ≤ 22
-call_fits certificate a (done (decode.instruction i n cycles)) = target_fits certificate (flow_of i a)
-call_fits certificate a (refused r) = leb-true 0 22 refl
+call_fits_lem : (certificate : List ℕ) (a : ℕ) (d : Answer Decoding) → length (call_text certificate a d) ≤ 22
+call_fits_lem certificate a (done (decode.instruction i n cycles)) = target_fits certificate (flow_of i a)
+call_fits_lem certificate a (refused r) = leb-true 0 22 refl
 
-need-fits :
-    (certificate : List ℕ) (a : ℕ) (d : Answer Decoding) (mark : ℕ) → length (needText certificate a d mark) ≤ 33
-unfolding needText
-need-fits certificate a d mark =
-    let needs = ascii ", needs " ++ decimalOf (need_of mark) in
-    chosen (eqb (kind_of mark) 0) [] (needs ++ callText certificate a d) 33 (leb-true 0 33 refl)
-    (joined needs (callText certificate a d) 11 22
-    (joined (ascii ", needs ") (decimalOf (need_of mark)) 8 3 (leb-true 8 8 refl)
-    (decimal-fits (need_of mark) (omega arith)))
-    (call_fits certificate a d))
+need_fits :
+    (certificate : List ℕ) (a : ℕ) (d : Answer Decoding) (mark : ℕ) → length (need_text certificate a d mark) ≤ 33
+unfolding need_text
+need_fits certificate a d mark =
+    let needs = ascii ", needs " ++ decimal_of (need_of mark) in
+    chosen (eqb (kind_of mark) 0) [] (needs ++ call_text certificate a d) 33 (leb-true 0 33 refl)
+    (joined needs (call_text certificate a d) 11 22
+    (joined (ascii ", needs ") (decimal_of (need_of mark)) 8 3 (leb-true 8 8 refl)
+    (decimal_fits (need_of mark) (omega arith)))
+    (call_fits_lem certificate a d))
 
-kind_fits : (mark : ℕ) → length (kindName mark) ≤ 10
-unfolding kindName
+kind_fits : (mark : ℕ) → length (kind_name mark) ≤ 10
+unfolding kind_name
 kind_fits mark =
     let kind = kind_of mark in
     chosen (eqb mark 0x00) (ascii "unmarked") _ 10 (leb-true 8 10 refl)
@@ -143,55 +143,55 @@ kind_fits mark =
     (chosen (eqb kind 3) (ascii "service") _ 10 (leb-true 7 10 refl)
     (chosen (eqb kind 4) (ascii "subroutine") (ascii "malformed") 10 (leb-true 10 10 refl) (leb-true 9 10 refl)))))
 
-mark-fits : (certificate : List ℕ) (a : ℕ) (d : Answer Decoding) → length (markText certificate a d) ≤ 47
-unfolding markText
-mark-fits certificate a d =
-    let mark = markAt certificate a in
-    let byte = twoDigits mark ++ ascii "  " in
-    joined (byte ++ kindName mark) (needText certificate a d mark) 14 33
-    (joined byte (kindName mark) 4 10 (leb-true 4 4 refl) (kind_fits mark))
-    (need-fits certificate a d mark)
+mark_fits : (certificate : List ℕ) (a : ℕ) (d : Answer Decoding) → length (mark_text certificate a d) ≤ 47
+unfolding mark_text
+mark_fits certificate a d =
+    let mark = mark_at certificate a in
+    let byte = two_digits mark ++ ascii "  " in
+    joined (byte ++ kind_name mark) (need_text certificate a d mark) 14 33
+    (joined byte (kind_name mark) 4 10 (leb-true 4 4 refl) (kind_fits mark))
+    (need_fits certificate a d mark)
 
 -- there are at most nine pages, so that a page's number has one digit
-few-choices : (n : ℕ) → (0 < choicesIn n) × (choicesIn n < 10)
-unfolding choicesIn
-few-choices n = by-test (isImage n) refl
+few_choices : (n : ℕ) → (0 < choices_in n) × (choices_in n < 10)
+unfolding choices_in
+few_choices n = by_test (is_image n) refl
   where
-    by-test : (t : Bool) → isImage n ≡ t → (0 < cond t (spacesIn n) 1) × (cond t (spacesIn n) 1 < 10)
-    by-test true is = let size : Sized n = sized n is in (omega arith, omega (arith, size.most))
-    by-test false is = (omega arith, omega arith)
+    by_test : (t : Bool) → is_image n ≡ t → (0 < cond t (spaces_in n) 1) × (cond t (spaces_in n) 1 < 10)
+    by_test true is = let size : Sized n = sized n is in (omega arith, omega (arith, size.most))
+    by_test false is = (omega arith, omega arith)
 
-page-digit : (n bank : ℕ) → bank % choicesIn n < 10
-page-digit n bank =
-    let few = few-choices n in
-    let below : bank % choicesIn n < choicesIn n = mod-lt bank few.0 in
+page_digit : (n bank : ℕ) → bank % choices_in n < 10
+page_digit n bank =
+    let few = few_choices n in
+    let below : bank % choices_in n < choices_in n = mod-lt bank few.0 in
     omega (arith, few.1)
 
-pub page-fits : (n bank a : ℕ) → length (pageText n bank a) ≤ 2
-unfolding pageText
-page-fits n bank a =
-    let digits = decimalOf (bank % choicesIn n) in
-    let one : length digits ≤ 1 = rw (one-digit (bank % choicesIn n) (page-digit n bank)) (leb-true 1 1 refl) in
-    chosen (leb (choicesIn n) 1) [] _ 2 (leb-true 0 2 refl)
+pub page_fits : (n bank a : ℕ) → length (page_text n bank a) ≤ 2
+unfolding page_text
+page_fits n bank a =
+    let digits = decimal_of (bank % choices_in n) in
+    let one : length digits ≤ 1 = rw (one_digit (bank % choices_in n) (page_digit n bank)) (leb-true 1 1 refl) in
+    chosen (leb (choices_in n) 1) [] _ 2 (leb-true 0 2 refl)
     (chosen (leb 2048 a) [] (digits ++ ascii ":") 2 (leb-true 0 2 refl) (joined digits (ascii ":") 1 1 one (leb-true 1 1 refl)))
 
-pub line-fits : LineFits
-unfolding addressLine
-line-fits image bytes bank certificate a =
-    let d = decodeIn image bank a in
-    let page = pageText (length image) bank a in
-    let begun = (page ++ threeDigits a) ++ ascii "  " in
-    let code = begun ++ codeText image bank a (length_of d) in
-    let text = padTo (length page + 15) code ++ standingText a d in
-    let marked = padTo (length page + 33) text in
-    let few : length page ≤ 2 = page-fits (length image) bank a in
+pub line_fits : LineFits
+unfolding address_line
+line_fits image bytes bank certificate a =
+    let d = decode_in image bank a in
+    let page = page_text (length image) bank a in
+    let begun = (page ++ three_digits a) ++ ascii "  " in
+    let code = begun ++ code_text image bank a (length_of d) in
+    let text = pad_to (length page + 15) code ++ standing_text a d in
+    let marked = pad_to (length page + 33) text in
+    let few : length page ≤ 2 = page_fits (length image) bank a in
     let addressed : length begun ≡ length page + 5 = simp length-append (omega arith) in
     let coded : length code ≤ length page + 5 + 8 =
-    joined begun (codeText image bank a (length_of d)) (length page + 5) 8 (omega arith) (code_fits image bank a (length_of d)) in
+    joined begun (code_text image bank a (length_of d)) (length page + 5) 8 (omega arith) (code_fits image bank a (length_of d)) in
     let told : length text ≤ length page + 15 + 16 =
-    joined (padTo (length page + 15) code) (standingText a d) (length page + 15) 16
-    (pad-fits (length page + 15) code (omega arith)) (standing-fits image bytes bank a) in
-    let whole : length (marked ++ markText certificate a d) ≤ length page + 33 + 47 =
-    joined marked (markText certificate a d) (length page + 33) 47
-    (pad-fits (length page + 33) text (omega arith)) (mark-fits certificate a d) in
+    joined (pad_to (length page + 15) code) (standing_text a d) (length page + 15) 16
+    (pad_fits (length page + 15) code (omega arith)) (standing_fits image bytes bank a) in
+    let whole : length (marked ++ mark_text certificate a d) ≤ length page + 33 + 47 =
+    joined marked (mark_text certificate a d) (length page + 33) 47
+    (pad_fits (length page + 33) text (omega arith)) (mark_fits certificate a d) in
     omega arith

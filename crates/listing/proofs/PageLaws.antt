@@ -5,18 +5,18 @@ use mathlib.Core.Bool.{Bool, true, false, cond}
 use mathlib.Core.List.{List}
 use lib.ListN.{length}
 use borrow.Author.Tests.{le-ltb}
-use Rattle.isa.specs.Rom.{isImage, romAt, space_of}
+use Rattle.isa.specs.Rom.{is_image, rom_at, space_of}
 use Rattle.isa.specs.declared.rom.RomByte.{RomByte}
 use Rattle.isa.specs.declared.rom.RomByte.TheVariants.{Outside}
-use Rattle.listing.specs.Pages.{romIn}
+use Rattle.listing.specs.Pages.{rom_in}
 
 either : (t : Bool) (r : RomByte) → r ≡ Outside → cond t r Outside ≡ Outside
 either true r e = e
 either false r e = refl
 
 -- no byte stands at an address above FFFh
-pub no-rom : (image : List ℕ) (bank a : ℕ) → 4096 ≤ a → romIn image bank a ≡ Outside
-unfolding romIn romAt
-no-rom image bank a h =
-    let none : romAt (space_of image bank) a ≡ Outside = rw (le-ltb a 4096 h) in
-    either (isImage (length image)) (romAt (space_of image bank) a) none
+pub no_rom : (image : List ℕ) (bank a : ℕ) → 4096 ≤ a → rom_in image bank a ≡ Outside
+unfolding rom_in rom_at
+no_rom image bank a h =
+    let none : rom_at (space_of image bank) a ≡ Outside = rw (le-ltb a 4096 h) in
+    either (is_image (length image)) (rom_at (space_of image bank) a) none

@@ -4,15 +4,15 @@ use Rattle.isa.specs.Refusals.{Answer, done, refused}
 use Rattle.isa.specs.Decode as decode
 use Rattle.isa.specs.Decode.{Decoding}
 use Rattle.listing.specs.declared.LineWritten.{LineWritten}
-use Rattle.listing.specs.InstructionText.{instructionText}
-use Rattle.listing.specs.Write.{Writes, outcomeOf}
+use Rattle.listing.specs.InstructionText.{instruction_text}
+use Rattle.listing.specs.Write.{Writes, outcome_of}
 
 -- the text of what decoding answers at address a
 abbrev pub text_of : (a : ℕ) → Answer Decoding → Answer (List ℕ)
-text_of a (done (decode.instruction i bytes cycles)) = done (instructionText i a)
+text_of a (done (decode.instruction i bytes cycles)) = done (instruction_text i a)
 text_of a (refused r) = refused r
 
 -- writing a text to a buffer, or the refusal in its place, with the buffer untouched
 unfoldable pub WritesText : Answer (List ℕ) → (before after : List ℕ) → LineWritten → Type 0
 WritesText (done text) before after r = Writes text before after r
-WritesText (refused n) before after r = (outcomeOf r ≡ refused n) × (after ≡ before)
+WritesText (refused n) before after r = (outcome_of r ≡ refused n) × (after ≡ before)

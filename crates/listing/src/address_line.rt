@@ -2,9 +2,9 @@
 ghost use Rattle.std.specs.Prelude.{◌≡◌};
 ghost use Rattle.isa.specs.Refusals.{numbered};
 ghost use Rattle.isa.specs.Decode.{answer_of};
-ghost use Rattle.listing.specs.Pieces.{Adds, contentOf};
-ghost use Rattle.listing.specs.AddressLine.{addressLine, byteText, callText, codeText, length_of, markText};
-ghost use Rattle.listing.specs.AddressLine.{needText, operandByteText, refusalText, standingText};
+ghost use Rattle.listing.specs.Pieces.{Adds, content_of};
+ghost use Rattle.listing.specs.AddressLine.{address_line, byte_text, call_text, code_text, length_of, mark_text};
+ghost use Rattle.listing.specs.AddressLine.{need_text, operand_byte_text, refusal_text, standing_text};
 
 use crate::Line;
 use crate::instruction::instruction;
@@ -25,7 +25,7 @@ const MARK_COLUMN: usize = 33;
 
 // A ROM byte, nothing outside ROM.
 fn rom_text(line: Line, byte: RomByte) -> Line
-    ensures { Adds (byteText byte) line result }
+    ensures { Adds (byte_text byte) line result }
 {
     match byte {
         RomByte::Byte(n) => line.byte(n),
@@ -35,7 +35,7 @@ fn rom_text(line: Line, byte: RomByte) -> Line
 
 // The byte of an instruction at an offset from its address, nothing where the instruction is shorter.
 fn operand_text(line: Line, image: &[u8], bank: u8, address: u16, offset: u8, length: u8) -> Line
-    ensures { Adds (operandByteText image.now bank address offset length) line result }
+    ensures { Adds (operand_byte_text image.now bank address offset length) line result }
 {
     if length <= offset {
         return line;
@@ -48,7 +48,7 @@ fn operand_text(line: Line, image: &[u8], bank: u8, address: u16, offset: u8, le
 
 // The bytes of an instruction of the given length.
 fn code(line: Line, image: &[u8], bank: u8, address: u16, length: u8) -> Line
-    ensures { Adds (codeText image.now bank address length) line result }
+    ensures { Adds (code_text image.now bank address length) line result }
 {
     let opcode = rom_text(line, rom_in(image, bank, address));
     let first = operand_text(opcode, image, bank, address, 1, length);
@@ -71,7 +71,7 @@ fn length_of(decoded: Decoded) -> u8
 
 // Why nothing decodes.
 fn refusal_text(line: Line, refusal: Refusal) -> Line
-    ensures { Adds (refusalText (numbered refusal)) line result }
+    ensures { Adds (refusal_text (numbered refusal)) line result }
 {
     match number_of(refusal) {
         Number::Plain(_) => line.word(b"outside ROM"),
@@ -87,7 +87,7 @@ fn refusal_text(line: Line, refusal: Refusal) -> Line
 
 // The instruction, or why there is none.
 fn standing_text(line: Line, decoded: Decoded, address: u16) -> Line
-    ensures { Adds (standingText address (answer_of decoded)) line result }
+    ensures { Adds (standing_text address (answer_of decoded)) line result }
 {
     match decoded {
         Decoded::Valid {
@@ -101,7 +101,7 @@ fn standing_text(line: Line, decoded: Decoded, address: u16) -> Line
 
 // What the target of a CALL needs; nothing for another instruction.
 fn call_text(line: Line, certificate: &[u8], decoded: Decoded, address: u16) -> Line
-    ensures { Adds (callText certificate.now address (answer_of decoded)) line result }
+    ensures { Adds (call_text certificate.now address (answer_of decoded)) line result }
 {
     let Decoded::Valid {
         instruction: i,
@@ -120,7 +120,7 @@ fn call_text(line: Line, certificate: &[u8], decoded: Decoded, address: u16) -> 
 
 // The need of a mark, and of a CALL's target; nothing where the mark has no kind.
 fn need_text(line: Line, certificate: &[u8], decoded: Decoded, address: u16, mark: u8) -> Line
-    ensures { Adds (needText certificate.now address (answer_of decoded) mark) line result }
+    ensures { Adds (need_text certificate.now address (answer_of decoded) mark) line result }
 {
     if kind_of(mark) == 0 {
         return line;
@@ -132,7 +132,7 @@ fn need_text(line: Line, certificate: &[u8], decoded: Decoded, address: u16, mar
 
 // The mark as a byte and in words.
 fn mark_text(line: Line, certificate: &[u8], decoded: Decoded, address: u16) -> Line
-    ensures { Adds (markText certificate.now address (answer_of decoded)) line result }
+    ensures { Adds (mark_text certificate.now address (answer_of decoded)) line result }
 {
     let mark = mark_at(certificate, address);
     let named = kind_name(line.byte(mark).word(b"  "), mark);
@@ -141,7 +141,7 @@ fn mark_text(line: Line, certificate: &[u8], decoded: Decoded, address: u16) -> 
 
 // The line of an address, without line end, with a bank byte: its bytes, its instruction and its mark.
 pub fn address_line(image: &[u8], bank: u8, certificate: &[u8], address: u16) -> Line
-    ensures { contentOf result ≡ addressLine image.now bank certificate.now address }
+    ensures { content_of result ≡ address_line image.now bank certificate.now address }
 {
     let decoded = decode(image, bank, address);
     let paged = page_text(Line::new(), image.len(), bank, address);

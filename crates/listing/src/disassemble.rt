@@ -1,5 +1,5 @@
 // The instruction at an address of an image with a bank byte, as text in a buffer.
-ghost use Rattle.isa.specs.Decode.{decodeIn};
+ghost use Rattle.isa.specs.Decode.{decode_in};
 ghost use Rattle.listing.specs.Disassemble.{WritesText, text_of};
 
 use crate::instruction::instruction;
@@ -10,7 +10,7 @@ use isa::decode::decode;
 
 // Writes the text of the instruction at an address from the buffer's first byte. What decoding refuses is refused.
 pub fn write_instruction(image: &[u8], bank: u8, address: u16, buffer: &mut [u8]) -> LineWritten
-    ensures { WritesText (text_of address (decodeIn image.now bank address))
+    ensures { WritesText (text_of address (decode_in image.now bank address))
         buffer.old buffer.new result }
 {
     match decode(image, bank, address) {

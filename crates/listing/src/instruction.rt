@@ -2,8 +2,8 @@
 ghost use Rattle.std.specs.Prelude.{◌≡◌, ◌++◌};
 ghost use Rattle.listing.specs.Words.{ascii};
 ghost use Rattle.listing.specs.Pieces.{Adds};
-ghost use Rattle.listing.specs.InstructionText.{addressText, bitText, dataText, instructionText, operandText};
-ghost use Rattle.listing.specs.InstructionText.{registerLetter};
+ghost use Rattle.listing.specs.InstructionText.{address_text, bit_text, data_text, instruction_text, operand_text};
+ghost use Rattle.listing.specs.InstructionText.{register_letter};
 
 use crate::Line;
 use isa::displacement::{long_target, short_target};
@@ -11,7 +11,7 @@ use isa::{Instruction, Operand};
 
 // The name of a short register: X, Y, V, W.
 fn register_letter(register: u8) -> u8
-    ensures { result ≡ registerLetter register }
+    ensures { result ≡ register_letter register }
 {
     match register {
         0 => b'X',
@@ -23,13 +23,13 @@ fn register_letter(register: u8) -> u8
 
 // A data address or an immediate.
 fn data(line: Line, n: u8) -> Line
-    ensures { Adds (dataText n) line result }
+    ensures { Adds (data_text n) line result }
 {
     line.byte(n).letter(b'h')
 }
 
 fn data_operand(line: Line, operand: Operand) -> Line
-    ensures { Adds (operandText operand) line result }
+    ensures { Adds (operand_text operand) line result }
 {
     match operand {
         Operand::Direct(address) => data(line, address),
@@ -40,51 +40,51 @@ fn data_operand(line: Line, operand: Operand) -> Line
 }
 
 fn jump(line: Line, name: &[u8], target: u16) -> Line
-    ensures { Adds (name.now ++ addressText target) line result }
+    ensures { Adds (name.now ++ address_text target) line result }
 {
     line.word(name).address(target).letter(b'h')
 }
 
 fn on_bit(line: Line, name: &[u8], bit: u8, address: u8) -> Line
-    ensures { Adds (name.now ++ bitText bit address) line result }
+    ensures { Adds (name.now ++ bit_text bit address) line result }
 {
     let numbered = line.word(name).decimal(bit as u32);
     data(numbered.letter(b','), address)
 }
 
 fn bit_jump(line: Line, name: &[u8], bit: u8, address: u8, target: u16) -> Line
-    ensures { Adds ((name.now ++ bitText bit address) ++ (ascii "," ++ addressText target)) line result }
+    ensures { Adds ((name.now ++ bit_text bit address) ++ (ascii "," ++ address_text target)) line result }
 {
     jump(on_bit(line, name, bit, address), b",", target)
 }
 
 fn on_operand(line: Line, name: &[u8], operand: Operand) -> Line
-    ensures { Adds (name.now ++ operandText operand) line result }
+    ensures { Adds (name.now ++ operand_text operand) line result }
 {
     data_operand(line.word(name), operand)
 }
 
 fn store(line: Line, operand: Operand) -> Line
-    ensures { Adds ((ascii "LD " ++ operandText operand) ++ ascii ",A") line result }
+    ensures { Adds ((ascii "LD " ++ operand_text operand) ++ ascii ",A") line result }
 {
     on_operand(line, b"LD ", operand).word(b",A")
 }
 
 fn immediate(line: Line, name: &[u8], value: u8) -> Line
-    ensures { Adds (name.now ++ dataText value) line result }
+    ensures { Adds (name.now ++ data_text value) line result }
 {
     data(line.word(name), value)
 }
 
 fn load_immediate(line: Line, address: u8, value: u8) -> Line
-    ensures { Adds ((ascii "LDI " ++ dataText address) ++ (ascii "," ++ dataText value)) line result }
+    ensures { Adds ((ascii "LDI " ++ data_text address) ++ (ascii "," ++ data_text value)) line result }
 {
     immediate(immediate(line, b"LDI ", address), b",", value)
 }
 
 // Adds the text of the instruction at an address.
 pub fn instruction(line: Line, i: Instruction, at: u16) -> Line
-    ensures { Adds (instructionText i at) line result }
+    ensures { Adds (instruction_text i at) line result }
 {
     match i {
         Instruction::Jrnz(e) => jump(line, b"JRNZ ", short_target(at, e)),

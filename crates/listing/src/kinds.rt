@@ -1,13 +1,13 @@
 // The kinds of marks in words.
 ghost use Rattle.listing.specs.Pieces.{Adds};
-ghost use Rattle.listing.specs.Kinds.{kindName};
+ghost use Rattle.listing.specs.Kinds.{kind_name};
 
 use crate::Line;
 use certificate::marks::{MAIN, SERVICE, START_UP, SUBROUTINE, kind_of};
 
 // Adds the name of a mark's kind.
 pub fn kind_name(line: Line, mark: u8) -> Line
-    ensures { Adds (kindName mark) line result }
+    ensures { Adds (kind_name mark) line result }
 {
     if mark == 0 {
         return line.word(b"unmarked");

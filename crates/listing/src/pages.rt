@@ -1,14 +1,14 @@
 // Program space with a page in place: its bytes, and addresses with the page that they lie in.
 ghost use Rattle.std.specs.Prelude.{◌≡◌};
 ghost use Rattle.listing.specs.Pieces.{Adds};
-ghost use Rattle.listing.specs.Pages.{choicesIn, pageText, pagedText, romIn};
+ghost use Rattle.listing.specs.Pages.{choices_in, page_text, paged_text, rom_in};
 
 use crate::Line;
 use isa::rom::{RomByte, fixed_of, is_image_length, page_of, rom_byte, spaces_in};
 
 // The ROM byte at an address with a bank byte: outside ROM too where there is no image, or no such address.
 pub fn rom_in(image: &[u8], bank: u8, address: u16) -> RomByte
-    ensures { result ≡ romIn image.now bank address }
+    ensures { result ≡ rom_in image.now bank address }
 {
     if !is_image_length(image.len()) {
         return RomByte::Outside;
@@ -21,7 +21,7 @@ pub fn rom_in(image: &[u8], bank: u8, address: u16) -> RomByte
 
 // How many pages an image of so many bytes has to choose from: 1 where there is no choice.
 pub fn choices_in(length: usize) -> u8
-    ensures { result ≡ choicesIn length }
+    ensures { result ≡ choices_in length }
 {
     if !is_image_length(length) {
         return 1;
@@ -31,7 +31,7 @@ pub fn choices_in(length: usize) -> u8
 
 // Adds the page in place, as `2:`, where there are several and the address lies in it.
 pub fn page_text(line: Line, length: usize, bank: u8, address: u16) -> Line
-    ensures { Adds (pageText length bank address) line result }
+    ensures { Adds (page_text length bank address) line result }
 {
     let pages = choices_in(length);
     if pages <= 1 {
@@ -45,7 +45,7 @@ pub fn page_text(line: Line, length: usize, bank: u8, address: u16) -> Line
 
 // Adds an address with its page.
 pub fn paged_address(line: Line, length: usize, bank: u8, address: u16) -> Line
-    ensures { Adds (pagedText length bank address) line result }
+    ensures { Adds (paged_text length bank address) line result }
 {
     page_text(line, length, bank, address).address(address)
 }

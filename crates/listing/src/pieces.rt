@@ -1,7 +1,7 @@
 // Pieces put after a line's bytes. What goes beyond the line's 128 bytes is cut off, so that none has to be refused.
 ghost use Rattle.std.specs.Prelude.{◌≡◌, ◌-◌, ◌%◌, [], ◌∷◌, length};
-ghost use Rattle.jobs.specs.Line.{decimalOf, glyph, threeDigits};
-ghost use Rattle.listing.specs.Pieces.{Adds, Holds, contentOf, spaces, twoDigits};
+ghost use Rattle.jobs.specs.Line.{decimal_of, glyph, three_digits};
+ghost use Rattle.listing.specs.Pieces.{Adds, Holds, content_of, spaces, two_digits};
 
 use crate::{Line, MOST};
 
@@ -30,7 +30,7 @@ impl Line {
 
     // How many bytes the line has.
     pub fn length(self) -> usize
-        ensures { result ≡ length (contentOf self) }
+        ensures { result ≡ length (content_of self) }
     {
         if self.count < MOST {
             return self.count;
@@ -69,7 +69,7 @@ impl Line {
 
     // A number in decimal, without leading zeros.
     pub fn decimal(self, n: u32) -> Self
-        ensures { Adds (decimalOf n) self result }
+        ensures { Adds (decimal_of n) self result }
     {
         let last = digit((n % 10) as u16);
         if n < 10 {
@@ -80,7 +80,7 @@ impl Line {
 
     // A byte in two hexadecimal digits.
     pub fn byte(self, n: u8) -> Self
-        ensures { Adds (twoDigits n) self result }
+        ensures { Adds (two_digits n) self result }
     {
         let high = digit(n as u16 / 16);
         let low = digit(n as u16);
@@ -89,7 +89,7 @@ impl Line {
 
     // A program address in three hexadecimal digits.
     pub fn address(self, n: u16) -> Self
-        ensures { Adds (threeDigits n) self result }
+        ensures { Adds (three_digits n) self result }
     {
         let first = digit(n / 256);
         let second = digit(n / 16);
@@ -99,7 +99,7 @@ impl Line {
 
     // Spaces until the line has as many bytes as `column` says; none where it has them already.
     pub fn spaces_to(self, column: usize) -> Self
-        ensures { Adds (spaces (column - length (contentOf self))) self result }
+        ensures { Adds (spaces (column - length (content_of self))) self result }
     {
         let mut line = self;
         let mut at = self.length();

@@ -5,39 +5,39 @@ use mathlib.Core.Bool.{Bool, true, false, cond}
 use mathlib.Core.List.{List}
 use lib.ListN.{length}
 use Rattle.isa.specs.Refusals.{Numbered, plain, Answer, done, refused, unless}
-use Rattle.isa.specs.Sources.{namesOnlySources}
-use Rattle.isa.specs.Rom.{isImage}
-use Rattle.isa.specs.Decode.{decodeAt}
+use Rattle.isa.specs.Sources.{names_only_sources}
+use Rattle.isa.specs.Rom.{is_image}
+use Rattle.isa.specs.Decode.{decode_at}
 use Rattle.isa.specs.Decode as decode
 use Rattle.isa.specs.declared.Instruction.{Instruction}
 use Rattle.isa.specs.declared.Source.{Source}
 use Rattle.data.specs.Space.{program_of}
 use Rattle.control.specs.declared.Requested.{Requested}
 use Rattle.control.specs.declared.Requested.TheVariants.{Nothing, Taken}
-use Rattle.control.specs.Requests.{requestedOf}
+use Rattle.control.specs.Requests.{requested_of}
 use Rattle.machine.specs.declared.Machine.{Machine}
-use Rattle.machine.specs.State.{isWellFormed}
+use Rattle.machine.specs.State.{is_well_formed}
 use Rattle.machine.specs.Actions.{
   StepAction,
   takes,
   idles,
   executes,
   refuses,
-  enabledOf,
-  decodedAction,
-  unrequestedAction,
-  requestedAction,
-  dueOf,
-  actionOf,
+  enabled_of,
+  decoded_action,
+  unrequested_action,
+  requested_action,
+  due_of,
+  action_of,
 }
 use Rattle.machine.specs.Refusals.{
   Takes,
   TakesNone,
   AtPc,
   StepRefused,
-  image-length,
-  ill-formed,
-  unknown-source,
+  image_length,
+  ill_formed,
+  unknown_source,
 }
 
 -- an action with why it is due
@@ -48,75 +48,75 @@ pub data Due (image : List ℕ) (m : Machine) (request : ℕ) : StepAction → T
       (i : Instruction) (bytes cycles : ℕ) → TakesNone m request → m.control.asleep ≡ false →
       AtPc image m i bytes cycles → Due image m request (executes i bytes cycles)
   undecoding :
-      (r : Numbered) → TakesNone m request → m.control.asleep ≡ false → decodeAt image m.control.pc ≡ refused r →
+      (r : Numbered) → TakesNone m request → m.control.asleep ≡ false → decode_at image m.control.pc ≡ refused r →
       Due image m request (refuses r)
 
 module _ (image : List ℕ) (m : Machine) (request : ℕ) where
   -- each in its case
-  pub takes-due : (source : Source) → Takes m request source → dueOf image m request ≡ takes source
-  unfolding dueOf
-  takes-due source e = rw e
+  pub takes_due : (source : Source) → Takes m request source → due_of image m request ≡ takes source
+  unfolding due_of
+  takes_due source e = rw e
 
-  pub idles-due : TakesNone m request → m.control.asleep ≡ true → dueOf image m request ≡ idles
-  unfolding dueOf unrequestedAction
-  idles-due none asleep = rw (none, asleep)
+  pub idles_due : TakesNone m request → m.control.asleep ≡ true → due_of image m request ≡ idles
+  unfolding due_of unrequested_action
+  idles_due none asleep = rw (none, asleep)
 
-  pub awake-due :
+  pub awake_due :
       TakesNone m request → m.control.asleep ≡ false → (a : Answer decode.Decoding) →
-      decodeAt image m.control.pc ≡ a → dueOf image m request ≡ decodedAction a
-  unfolding dueOf unrequestedAction
-  awake-due none awake a at = rw (none, awake, at)
+      decode_at image m.control.pc ≡ a → due_of image m request ≡ decoded_action a
+  unfolding due_of unrequested_action
+  awake_due none awake a at = rw (none, awake, at)
 
   -- and no other
   decoded :
       TakesNone m request → m.control.asleep ≡ false → (a : Answer decode.Decoding) →
-      decodeAt image m.control.pc ≡ a → Due image m request (decodedAction a)
+      decode_at image m.control.pc ≡ a → Due image m request (decoded_action a)
   decoded none awake (done (decode.instruction i bytes cycles)) e = executing i bytes cycles none awake e
   decoded none awake (refused r) e = undecoding r none awake e
 
   unrequested :
       TakesNone m request → (asleep : Bool) → m.control.asleep ≡ asleep →
-      Due image m request (cond asleep idles (decodedAction (decodeAt image m.control.pc)))
+      Due image m request (cond asleep idles (decoded_action (decode_at image m.control.pc)))
   unrequested none true e = idling none e
-  unrequested none false e = decoded none e (decodeAt image m.control.pc) refl
+  unrequested none false e = decoded none e (decode_at image m.control.pc) refl
 
   requested :
-      (r : Requested) → requestedOf m.control.mode (enabledOf m.bytes) request ≡ r →
-      Due image m request (requestedAction image m.control r)
-  unfolding unrequestedAction
+      (r : Requested) → requested_of m.control.mode (enabled_of m.bytes) request ≡ r →
+      Due image m request (requested_action image m.control r)
+  unfolding unrequested_action
   requested (Taken source) e = taking source e
   requested Nothing e = unrequested e m.control.asleep refl
 
-  pub is-due : Due image m request (dueOf image m request)
-  unfolding dueOf
-  is-due = requested (requestedOf m.control.mode (enabledOf m.bytes) request) refl
+  pub is_due : Due image m request (due_of image m request)
+  unfolding due_of
+  is_due = requested (requested_of m.control.mode (enabled_of m.bytes) request) refl
 
 -- an action: refused for one of three reasons, or due
 pub data ActionTested (image : List ℕ) (m : Machine) (request : ℕ) : StepAction → Type 0 where
   refusing : (r : Numbered) → StepRefused image m request r → ActionTested image m request (refuses r)
   passing :
-      isImage (length image) ≡ true → isWellFormed m ≡ true → namesOnlySources request ≡ true →
-      ActionTested image m request (dueOf (program_of image m.bytes) m request)
+      is_image (length image) ≡ true → is_well_formed m ≡ true → names_only_sources request ≡ true →
+      ActionTested image m request (due_of (program_of image m.bytes) m request)
 
 module _ (image : List ℕ) (m : Machine) (request : ℕ) where
-  pub is-tested : ActionTested image m request (actionOf image m request)
-  unfolding actionOf
-  is-tested = by_tests (isImage (length image)) refl (isWellFormed m) refl (namesOnlySources request) refl
+  pub is_tested : ActionTested image m request (action_of image m request)
+  unfolding action_of
+  is_tested = by_tests (is_image (length image)) refl (is_well_formed m) refl (names_only_sources request) refl
     where
       by_tests :
-          (i : Bool) → isImage (length image) ≡ i → (w : Bool) → isWellFormed m ≡ w → (n : Bool) →
-          namesOnlySources request ≡ n →
+          (i : Bool) → is_image (length image) ≡ i → (w : Bool) → is_well_formed m ≡ w → (n : Bool) →
+          names_only_sources request ≡ n →
           ActionTested image m request
           (unless i (refuses (plain 1))
           (unless w (refuses (plain 2))
-          (unless n (refuses (plain 11)) (dueOf (program_of image m.bytes) m request))))
-      by_tests false e w f n g = refusing (plain 1) (image-length e)
-      by_tests true e false f n g = refusing (plain 2) (ill-formed e f)
-      by_tests true e true f false g = refusing (plain 11) (unknown-source e f g)
+          (unless n (refuses (plain 11)) (due_of (program_of image m.bytes) m request))))
+      by_tests false e w f n g = refusing (plain 1) (image_length e)
+      by_tests true e false f n g = refusing (plain 2) (ill_formed e f)
+      by_tests true e true f false g = refusing (plain 11) (unknown_source e f g)
       by_tests true e true f true g = passing e f g
 
-  pub action-due :
-      isImage (length image) ≡ true → isWellFormed m ≡ true → namesOnlySources request ≡ true →
-      actionOf image m request ≡ dueOf (program_of image m.bytes) m request
-  unfolding actionOf
-  action-due i w n = rw (i, w, n)
+  pub action_due :
+      is_image (length image) ≡ true → is_well_formed m ≡ true → names_only_sources request ≡ true →
+      action_of image m request ≡ due_of (program_of image m.bytes) m request
+  unfolding action_of
+  action_due i w n = rw (i, w, n)

@@ -10,21 +10,21 @@ use lib.ListN.{length, get_or, drop}
 use lib.Seq.{get_or-drop}
 use Rattle.isa.specs.Refusals.{Numbered, Answer, Ended, done, refused}
 use Rattle.isa.specs.RoundTrip.{Bytes}
-use Rattle.isa.specs.Sources.{namesOnlySources}
-use Rattle.isa.specs.Rom.{isImage}
+use Rattle.isa.specs.Sources.{names_only_sources}
+use Rattle.isa.specs.Rom.{is_image}
 use Rattle.isa.specs.declared.Instruction.{Instruction}
 use Rattle.isa.specs.declared.Flow.TheVariants as flow
-use Rattle.control.specs.Requests.{requestedOf}
-use Rattle.control.specs.Transfers.{advanceOf}
+use Rattle.control.specs.Requests.{requested_of}
+use Rattle.control.specs.Transfers.{advance_of}
 use Rattle.data.specs.Space.{program_of}
-use Rattle.isa.proofs.Halves.{is-space}
+use Rattle.isa.proofs.Halves.{is_space_lem}
 use Rattle.machine.specs.declared.Machine.{Machine}
-use Rattle.machine.specs.Execute.{executeOf}
-use Rattle.machine.specs.State.{isWellFormed}
-use Rattle.machine.specs.Advance.{Step, done_of, completedOf, executedOf, actedOf}
+use Rattle.machine.specs.Execute.{execute_of}
+use Rattle.machine.specs.State.{is_well_formed}
+use Rattle.machine.specs.Advance.{Step, done_of, completed_of, executed_of, acted_of}
 use Rattle.machine.specs.Refusals.{TakesNone}
 use Rattle.machine.specs.Step.{step_of}
-use Rattle.machine.specs.Steps.{Run, run_at, joinedBy, joinedOf, continuedBy, continuedOf, steps_of, requestsFit}
+use Rattle.machine.specs.Steps.{Run, run_at, joined_by, joined_of, continued_by, continued_of, steps_of, requests_fit}
 use Rattle.machine.specs.Laws.{
   Does,
   stops,
@@ -35,111 +35,111 @@ use Rattle.machine.specs.Laws.{
   DataGoesOn,
   StopsOnly,
   RunEndsByStop,
-  followedBy,
+  followed_by,
   RunIsSteps,
   SleeperStays,
 }
-use Rattle.machine.proofs.StepDoes.{step-does, stops-numbered}
-use Rattle.machine.proofs.StepByStep.{fits-at, next-step}
-use Rattle.machine.proofs.Due.{idles-due, action-due}
-use Rattle.machine.proofs.StaysWellFormed.{stays-well-formed}
+use Rattle.machine.proofs.StepDoes.{step_does, stops_numbered}
+use Rattle.machine.proofs.StepByStep.{fits_at, next_step}
+use Rattle.machine.proofs.Due.{idles_due, action_due}
+use Rattle.machine.proofs.StaysWellFormed.{stays_well_formed}
 
-pub data-goes-on : DataGoesOn
-unfolding executedOf completedOf executeOf advanceOf
-data-goes-on image m i bytes cycles e = record { control = rw e; stack = rw e; answer = rw e }
+pub data_goes_on : DataGoesOn
+unfolding executed_of completed_of execute_of advance_of
+data_goes_on image m i bytes cycles e = record { control = rw e; stack = rw e; answer = rw e }
 
 -- a run that has not ended is at a step that is not refused
-module _ (image : List ℕ) (all : Bytes image) (size : isImage (length image) ≡ true) (requests : List ℕ) (m : Machine)
-    (formed : isWellFormed m ≡ true) where
+module _ (image : List ℕ) (all : Bytes image) (size : is_image (length image) ≡ true) (requests : List ℕ) (m : Machine)
+    (formed : is_well_formed m ≡ true) where
   stopped :
-      (n : Machine) (request : ℕ) → isWellFormed n ≡ true → (s : Step) →
+      (n : Machine) (request : ℕ) → is_well_formed n ≡ true → (s : Step) →
       Does (program_of image n.bytes) n request s → (r : Run) →
-      StopsOnly (joinedOf r s).machine (joinedOf r s).report.ending
+      StopsOnly (joined_of r s).machine (joined_of r s).report.ending
   stopped n request w _ (stops reason why) r =
-      stops-numbered (program_of image n.bytes) n request (is-space image (get_or n.bytes 0xCA 0) size) w reason why
+      stops_numbered (program_of image n.bytes) n request (is_space_lem image (get_or n.bytes 0xCA 0) size) w reason why
   stopped n request w _ (takes source e none) r = tt
   stopped n request w _ (idles none asleep) r = tt
   stopped n request w _ (executes i bytes cycles none awake at goes) r = tt
 
   continued :
-      (r : Run) (request : ℕ) → isWellFormed r.machine ≡ true → namesOnlySources request ≡ true → (e : Ended) →
+      (r : Run) (request : ℕ) → is_well_formed r.machine ≡ true → names_only_sources request ≡ true → (e : Ended) →
       r.report.ending ≡ e → StopsOnly r.machine e →
-      StopsOnly (continuedBy image r request e).machine (continuedBy image r request e).report.ending
+      StopsOnly (continued_by image r request e).machine (continued_by image r request e).report.ending
   continued r request w fits (done tt) is f =
-      stopped r.machine request w _ (step-does image r.machine request size w fits) r
+      stopped r.machine request w _ (step_does image r.machine request size w fits) r
   continued r request w fits (refused reason) is f = rw is f
 
   ends :
-      (n : ℕ) → requestsFit requests n ≡ true → (k : ℕ) → k ≤ n →
+      (n : ℕ) → requests_fit requests n ≡ true → (k : ℕ) → k ≤ n →
       StopsOnly (steps_of image requests m k).machine (steps_of image requests m k).report.ending
   unfolding steps_of
   ends n fit zero h = tt
   ends n fit (suc k) h =
       continued (steps_of image requests m k) (get_or requests k 0)
-      (stays-well-formed.by-steps image all requests m formed k) (fits-at requests n fit k (omega arith))
+      (stays_well_formed.by-steps image all requests m formed k) (fits_at requests n fit k (omega arith))
       (steps_of image requests m k).report.ending refl (ends n fit k (omega arith))
 
-pub run-ends-by-stop : RunEndsByStop
-run-ends-by-stop image all size requests n fit m formed = ends image all size requests m formed n fit n (omega arith)
+pub run_ends_by_stop : RunEndsByStop
+run_ends_by_stop image all size requests n fit m formed = ends image all size requests m formed n fit n (omega arith)
 
 -- a run is its machine and its report
-run_is : (r : Run) → r.report.ending ≡ done tt → followedBy r (run_at r.machine 0 0 (done tt)) ≡ r
+run_is : (r : Run) → r.report.ending ≡ done tt → followed_by r (run_at r.machine 0 0 (done tt)) ≡ r
 run_is r e = rw (add-zero r.report.steps, add-zero r.report.cycles, e)
 
 -- going on after the second of two runs
-followed-on :
+followed_on :
     (image : List ℕ) (r s : Run) (request : ℕ) (e : Ended) → s.report.ending ≡ e →
-    continuedBy image (followedBy r s) request e ≡ followedBy r (continuedBy image s request e)
-followed-on image r s request (done tt) e =
+    continued_by image (followed_by r s) request e ≡ followed_by r (continued_by image s request e)
+followed_on image r s request (done tt) e =
     by_answer (step_of image s.machine request).machine (step_of image s.machine request).answer
   where
-    by_answer : (n : Machine) (a : Answer ℕ) → joinedBy (followedBy r s) n a ≡ followedBy r (joinedBy s n a)
+    by_answer : (n : Machine) (a : Answer ℕ) → joined_by (followed_by r s) n a ≡ followed_by r (joined_by s n a)
     by_answer n (done cycles) =
         rw (add_assoc r.report.steps s.report.steps 1, add_assoc r.report.cycles s.report.cycles cycles)
     by_answer n (refused reason) = refl
-followed-on image r s request (refused reason) e = refl
+followed_on image r s request (refused reason) e = refl
 
 module _ (image requests : List ℕ) (m : Machine) (n : ℕ)
     (completes : (steps_of image requests m n).report.ending ≡ done tt) where
   more :
       (k : ℕ) →
       steps_of image requests m (n + k)
-      ≡ followedBy (steps_of image requests m n)
+      ≡ followed_by (steps_of image requests m n)
       (steps_of image (drop n requests) (steps_of image requests m n).machine k)
   unfolding steps_of
   more zero = rw (add-zero n) (sym (run_is (steps_of image requests m n) completes))
   more (suc k) =
       let r : Run = steps_of image requests m n in
       let s : Run = steps_of image (drop n requests) r.machine k in
-      ap (steps_of image requests m) (add-suc n k) ∙ next-step image requests m (n + k)
-      ∙ ap (λ (x : Run). continuedOf image x (get_or requests (n + k) 0)) (more k)
-      ∙ ap (continuedOf image (followedBy r s)) (sym (get_or-drop n requests k 0))
-      ∙ followed-on image r s (get_or (drop n requests) k 0) s.report.ending refl
+      ap (steps_of image requests m) (add-suc n k) ∙ next_step image requests m (n + k)
+      ∙ ap (λ (x : Run). continued_of image x (get_or requests (n + k) 0)) (more k)
+      ∙ ap (continued_of image (followed_by r s)) (sym (get_or-drop n requests k 0))
+      ∙ followed_on image r s (get_or (drop n requests) k 0) s.report.ending refl
 
-pub run-is-steps : RunIsSteps
+pub run_is_steps : RunIsSteps
 unfolding steps_of
-run-is-steps = record {
+run_is_steps = record {
   one = λ image m q n cycles e. rw (e, zero-add cycles);
   one-stops = λ image m q n r e. rw e;
   more = λ image requests m n k e. more image requests m n e k;
 }
 
 -- a sleeping machine without requests
-module _ (image : List ℕ) (m : Machine) (size : isImage (length image) ≡ true) (formed : isWellFormed m ≡ true)
+module _ (image : List ℕ) (m : Machine) (size : is_image (length image) ≡ true) (formed : is_well_formed m ≡ true)
     (asleep : m.control.asleep ≡ true) where
   none : TakesNone m 0
-  unfolding requestedOf
+  unfolding requested_of
   none = refl
 
-  idles-on : step_of image m 0 ≡ done_of m 0
-  unfolding step_of actedOf
-  idles-on =
-      rw (action-due image m 0 size formed refl, idles-due (program_of image m.bytes) m 0 none asleep)
+  idles_on : step_of image m 0 ≡ done_of m 0
+  unfolding step_of acted_of
+  idles_on =
+      rw (action_due image m 0 size formed refl, idles_due (program_of image m.bytes) m 0 none asleep)
 
-  all-idle : (n : ℕ) → steps_of image [] m n ≡ run_at m n 0 (done tt)
+  all_idle : (n : ℕ) → steps_of image [] m n ≡ run_at m n 0 (done tt)
   unfolding steps_of
-  all-idle zero = refl
-  all-idle (suc n) = rw (all-idle n, idles-on, add-one n)
+  all_idle zero = refl
+  all_idle (suc n) = rw (all_idle n, idles_on, add-one n)
 
-pub sleeper-stays : SleeperStays
-sleeper-stays = record { by-step = idles-on; by-steps = all-idle }
+pub sleeper_stays : SleeperStays
+sleeper_stays = record { by-step = idles_on; by-steps = all_idle }

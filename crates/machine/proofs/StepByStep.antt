@@ -9,101 +9,101 @@ use native.Mathlib.Numerals.{add-one}
 use borrow.Author.Count.{below_more}
 use lib.ListN.{get_or, length, get_or-eq_default}
 use Rattle.isa.specs.Refusals.{Numbered, done, refused}
-use Rattle.isa.specs.Sources.{namesOnlySources}
-use Rattle.isa.specs.Rom.{isImage}
-use Rattle.isa.specs.Decode.{decodeAt}
+use Rattle.isa.specs.Sources.{names_only_sources}
+use Rattle.isa.specs.Rom.{is_image}
+use Rattle.isa.specs.Decode.{decode_at}
 use Rattle.data.specs.Space.{program_of}
 use Rattle.machine.specs.declared.Machine.{Machine}
-use Rattle.machine.specs.State.{isWellFormed}
-use Rattle.machine.specs.Advance.{Step, done_of, refusedOf, actedOf, advancedOf}
-use Rattle.machine.specs.Actions.{decodedAction, unrequestedAction}
+use Rattle.machine.specs.State.{is_well_formed}
+use Rattle.machine.specs.Advance.{Step, done_of, refused_of, acted_of, advanced_of}
+use Rattle.machine.specs.Actions.{decoded_action, unrequested_action}
 use Rattle.machine.specs.Step.{step_of}
-use Rattle.machine.specs.Steps.{Run, run_at, continuedOf, steps_of, requestsFit}
-use Rattle.machine.proofs.Due.{action-due}
+use Rattle.machine.specs.Steps.{Run, run_at, continued_of, steps_of, requests_fit}
+use Rattle.machine.proofs.Due.{action_due}
 
 -- a step that is not refused
-pub step-advances :
-    (image : List ℕ) (m : Machine) (request : ℕ) → isImage (length image) ≡ true → isWellFormed m ≡ true →
-    namesOnlySources request ≡ true → step_of image m request ≡ advancedOf (program_of image m.bytes) m request
-unfolding step_of advancedOf
-step-advances image m request i w n =
-    ap (actedOf (program_of image m.bytes) m) (action-due image m request i w n)
+pub step_advances :
+    (image : List ℕ) (m : Machine) (request : ℕ) → is_image (length image) ≡ true → is_well_formed m ≡ true →
+    names_only_sources request ≡ true → step_of image m request ≡ advanced_of (program_of image m.bytes) m request
+unfolding step_of advanced_of
+step_advances image m request i w n =
+    ap (acted_of (program_of image m.bytes) m) (action_due image m request i w n)
 
 -- each of the first n request bytes names nothing but sources
-pub fits-at :
-    (requests : List ℕ) (n : ℕ) → requestsFit requests n ≡ true → (k : ℕ) → k < n →
-    namesOnlySources (get_or requests k 0) ≡ true
-unfolding requestsFit
-fits-at requests zero e k h = absurd (omega arith)
-fits-at requests (suc n) e k h =
-    let p : (namesOnlySources (get_or requests n 0) ≡ true) × (requestsFit requests n ≡ true) =
-    (and-eq-true_iff (namesOnlySources (get_or requests n 0)) (requestsFit requests n)).0 e in
-    below_more (λ j. namesOnlySources (get_or requests j 0) ≡ true) n (fits-at requests n p.1) p.0 k (omega arith)
+pub fits_at :
+    (requests : List ℕ) (n : ℕ) → requests_fit requests n ≡ true → (k : ℕ) → k < n →
+    names_only_sources (get_or requests k 0) ≡ true
+unfolding requests_fit
+fits_at requests zero e k h = absurd (omega arith)
+fits_at requests (suc n) e k h =
+    let p : (names_only_sources (get_or requests n 0) ≡ true) × (requests_fit requests n ≡ true) =
+    (and-eq-true_iff (names_only_sources (get_or requests n 0)) (requests_fit requests n)).0 e in
+    below_more (λ j. names_only_sources (get_or requests j 0) ≡ true) n (fits_at requests n p.1) p.0 k (omega arith)
 
 -- a byte that does not makes the test fail
 pub fits_not :
-    (requests : List ℕ) (n k : ℕ) → k < n → namesOnlySources (get_or requests k 0) ≡ false →
-    (b : Bool) → requestsFit requests n ≡ b → b ≡ false
+    (requests : List ℕ) (n k : ℕ) → k < n → names_only_sources (get_or requests k 0) ≡ false →
+    (b : Bool) → requests_fit requests n ≡ b → b ≡ false
 fits_not requests n k h named false e = refl
 fits_not requests n k h named true e =
-    let fits : namesOnlySources (get_or requests k 0) ≡ true = fits-at requests n e k h in
+    let fits : names_only_sources (get_or requests k 0) ≡ true = fits_at requests n e k h in
     cc
 
 -- past the list's end there is nothing that does not fit
 past_end :
-    (requests : List ℕ) (d : ℕ) → requestsFit requests (d + length requests) ≡ requestsFit requests (length requests)
-unfolding requestsFit
-past_end requests zero = ap (requestsFit requests) (zero-add (length requests))
+    (requests : List ℕ) (d : ℕ) → requests_fit requests (d + length requests) ≡ requests_fit requests (length requests)
+unfolding requests_fit
+past_end requests zero = ap (requests_fit requests) (zero-add (length requests))
 past_end requests (suc d) =
-    ap (requestsFit requests) (suc-add d (length requests))
+    ap (requests_fit requests) (suc-add d (length requests))
     ∙ rw (get_or-eq_default requests 0 {n = d + length requests} (omega arith)) (past_end requests d)
 
-pub fit-past :
+pub fit_past :
     (requests : List ℕ) (n : ℕ) → length requests ≤ n →
-    requestsFit requests (length requests) ≡ requestsFit requests n
-fit-past requests n h =
+    requests_fit requests (length requests) ≡ requests_fit requests n
+fit_past requests n h =
     let whole : (n - length requests) + length requests ≡ n = omega arith in
-    sym (past_end requests (n - length requests)) ∙ ap (requestsFit requests) whole
+    sym (past_end requests (n - length requests)) ∙ ap (requests_fit requests) whole
 
 -- step i of a run, from what the program knows
 pub stepped :
-    (image requests : List ℕ) (m : Machine) (n i request : ℕ) (s : Step) → isImage (length image) ≡ true →
-    isWellFormed m ≡ true → requestsFit requests n ≡ true → i < n → request ≡ get_or requests i 0 →
-    s ≡ advancedOf (program_of image m.bytes) m request → s ≡ step_of image m (get_or requests i 0)
+    (image requests : List ℕ) (m : Machine) (n i request : ℕ) (s : Step) → is_image (length image) ≡ true →
+    is_well_formed m ≡ true → requests_fit requests n ≡ true → i < n → request ≡ get_or requests i 0 →
+    s ≡ advanced_of (program_of image m.bytes) m request → s ≡ step_of image m (get_or requests i 0)
 stepped image requests m n i request s v w f h e a =
-    a ∙ ap (advancedOf (program_of image m.bytes) m) e
-    ∙ sym (step-advances image m (get_or requests i 0) v w (fits-at requests n f i h))
+    a ∙ ap (advanced_of (program_of image m.bytes) m) e
+    ∙ sym (step_advances image m (get_or requests i 0) v w (fits_at requests n f i h))
 
 -- asleep with nothing to take, and awake
 pub idle :
     (image : List ℕ) (m : Machine) → m.control.asleep ≡ true →
-    done_of m 0 ≡ actedOf image m (unrequestedAction image m.control)
-unfolding actedOf unrequestedAction
+    done_of m 0 ≡ acted_of image m (unrequested_action image m.control)
+unfolding acted_of unrequested_action
 idle image m e = rw e
 
 pub awake :
     (image : List ℕ) (m : Machine) → m.control.asleep ≡ false →
-    actedOf image m (decodedAction (decodeAt image m.control.pc))
-    ≡ actedOf image m (unrequestedAction image m.control)
-unfolding unrequestedAction
+    acted_of image m (decoded_action (decode_at image m.control.pc))
+    ≡ acted_of image m (unrequested_action image m.control)
+unfolding unrequested_action
 awake image m e = rw e
 
 -- a run that has ended stays as it is
-ended-stays :
+ended_stays :
     (image : List ℕ) (r : Run) (request : ℕ) (n : Numbered) → r.report.ending ≡ refused n →
-    continuedOf image r request ≡ r
-ended-stays image r request n e = rw e
+    continued_of image r request ≡ r
+ended_stays image r request n e = rw e
 
 module _ (image requests : List ℕ) (m : Machine) where
-  pub next-step :
-      (i : ℕ) → steps_of image requests m (suc i) ≡ continuedOf image (steps_of image requests m i) (get_or requests i 0)
+  pub next_step :
+      (i : ℕ) → steps_of image requests m (suc i) ≡ continued_of image (steps_of image requests m i) (get_or requests i 0)
   unfolding steps_of
-  next-step i = refl
+  next_step i = refl
 
   after :
       (i : ℕ) (r : Run) → r ≡ steps_of image requests m i →
-      continuedOf image r (get_or requests i 0) ≡ steps_of image requests m (suc i)
-  after i r e = rw (next-step i, ← e)
+      continued_of image r (get_or requests i 0) ≡ steps_of image requests m (suc i)
+  after i r e = rw (next_step i, ← e)
 
   stays_by :
       (k d : ℕ) (r : Numbered) → (steps_of image requests m k).report.ending ≡ refused r →
@@ -111,8 +111,8 @@ module _ (image requests : List ℕ) (m : Machine) where
   stays_by k zero r e = ap (steps_of image requests m) (zero-add k)
   stays_by k (suc d) r e =
       let before : steps_of image requests m (d + k) ≡ steps_of image requests m k = stays_by k d r e in
-      ap (steps_of image requests m) (suc-add d k) ∙ next-step (d + k)
-      ∙ ended-stays image (steps_of image requests m (d + k)) (get_or requests (d + k) 0) r
+      ap (steps_of image requests m) (suc-add d k) ∙ next_step (d + k)
+      ∙ ended_stays image (steps_of image requests m (d + k)) (get_or requests (d + k) 0) r
       (ap (λ (x : Run). x.report.ending) before ∙ e)
       ∙ before
 
@@ -123,17 +123,17 @@ module _ (image requests : List ℕ) (m : Machine) where
       run_at o (i + 1) (cycles + more) (done tt) ≡ steps_of image requests m (i + 1)
   one_more i cycles more n o e s =
       let joined : run_at o (i + 1) (cycles + more) (done tt)
-      ≡ continuedOf image (run_at n i cycles (done tt)) (get_or requests i 0) =
+      ≡ continued_of image (run_at n i cycles (done tt)) (get_or requests i 0) =
       rw (← s) in
       joined ∙ after i (run_at n i cycles (done tt)) e ∙ ap (steps_of image requests m) (sym (add-one i))
 
   -- a step that stops, after i that completed, ends the run
   pub stops_at :
       (i n cycles : ℕ) (o p : Machine) (r : Numbered) → i < n →
-      run_at o i cycles (done tt) ≡ steps_of image requests m i → refusedOf p r ≡ step_of image o (get_or requests i 0) →
+      run_at o i cycles (done tt) ≡ steps_of image requests m i → refused_of p r ≡ step_of image o (get_or requests i 0) →
       run_at p i cycles (refused r) ≡ steps_of image requests m n
   stops_at i n cycles o p r h e s =
-      let joined : run_at p i cycles (refused r) ≡ continuedOf image (run_at o i cycles (done tt)) (get_or requests i 0) =
+      let joined : run_at p i cycles (refused r) ≡ continued_of image (run_at o i cycles (done tt)) (get_or requests i 0) =
       rw (← s) in
       let here : run_at p i cycles (refused r) ≡ steps_of image requests m (suc i) =
       joined ∙ after i (run_at o i cycles (done tt)) e in

@@ -9,49 +9,49 @@ use borrow.Author.Tests.{leb-true, eqb-true}
 use lib.Dec.{eqb}
 use lib.ListN.{length}
 use Rattle.isa.specs.Refusals.{Numbered, located, Answer, done, refused}
-use Rattle.isa.specs.Displacement.{forwardOf}
+use Rattle.isa.specs.Displacement.{forward_of}
 use Rattle.isa.specs.ControlFlow.{flow_of}
-use Rattle.isa.specs.Sources.{namesOnlySources}
-use Rattle.isa.specs.Rom.{isImage, isSpace}
-use Rattle.isa.specs.Decode.{decodeAt}
+use Rattle.isa.specs.Sources.{names_only_sources}
+use Rattle.isa.specs.Rom.{is_image, is_space}
+use Rattle.isa.specs.Decode.{decode_at}
 use Rattle.isa.specs.Decode as decode
 use Rattle.isa.specs.declared.Instruction.{Instruction}
 use Rattle.isa.specs.declared.Source.{Source}
 use Rattle.isa.proofs.AtAddress.{AtAddress, at_address}
 use Rattle.control.specs.declared.Stop.{Stop}
 use Rattle.control.specs.declared.Stop.TheVariants as stop
-use Rattle.control.specs.Modes.{isReset}
-use Rattle.control.specs.Stack.{isFull}
-use Rattle.control.specs.Transfers.{advanceOf}
-use Rattle.control.proofs.StaysWellFormed.{formed-exactly}
-use Rattle.control.proofs.Stopped.{take-stops, call-stops, pop-stops, return-stops}
+use Rattle.control.specs.Modes.{is_reset}
+use Rattle.control.specs.Stack.{is_full}
+use Rattle.control.specs.Transfers.{advance_of}
+use Rattle.control.proofs.StaysWellFormed.{formed_exactly}
+use Rattle.control.proofs.Stopped.{take_stops, call_stops, pop_stops, return_stops}
 use Rattle.data.specs.Space.{program_of}
 use Rattle.machine.specs.declared.Machine.{Machine}
-use Rattle.machine.specs.Execute.{executeOf}
-use Rattle.machine.specs.State.{view_of, isWellFormed}
+use Rattle.machine.specs.Execute.{execute_of}
+use Rattle.machine.specs.State.{view_of, is_well_formed}
 use Rattle.machine.specs.Advance.{
   Step,
-  refusedOf,
-  stoppedOf,
-  takenBy,
+  refused_of,
+  stopped_of,
+  taken_by,
   taken_of,
-  completedOf,
-  executedOf,
-  actedOf,
-  advancedOf,
+  completed_of,
+  executed_of,
+  acted_of,
+  advanced_of,
 }
-use Rattle.machine.specs.Actions.{StepAction, actionOf}
+use Rattle.machine.specs.Actions.{StepAction, action_of}
 use Rattle.machine.specs.Step.{step_of}
 use Rattle.machine.specs.Refusals.{
   Takes,
   TakesNone,
   AtPc,
   StepStops,
-  request-full,
+  request_full,
   undecoded,
-  call-full,
-  ret-empty,
-  reti-empty,
+  call_full,
+  ret_empty,
+  reti_empty,
   StepRefused,
 }
 use Rattle.machine.specs.Laws.{IsStop, StopsNumbered, Does, stops, takes, idles, executes, StepDoes}
@@ -61,86 +61,86 @@ use Rattle.machine.proofs.Due.{
   idling,
   executing,
   undecoding,
-  is-due,
+  is_due,
   ActionTested,
   refusing,
   passing,
-  is-tested,
-  action-due,
+  is_tested,
+  action_due,
 }
-use Rattle.machine.proofs.Stops.{MayStop, is_call, is-ret, is-reti, goes_on, may-stop}
+use Rattle.machine.proofs.Stops.{MayStop, is_call, is_ret, is_reti_lem, goes_on_lem, may_stop}
 
 never : {P : Type 0} → ◌≡◌ {A = Bool} false true → P
 never e = let z : ◌≡◌ {A = ℕ} 0 1 = cc in absurd (omega arith)
 
 -- a RETI that pops from an empty stack is not in reset mode
-not-start-up : (empty reset : Bool) → (not (empty && reset) && empty) ≡ true → (empty ≡ true) × (reset ≡ false)
-not-start-up true true e = never e
-not-start-up true false e = (refl, refl)
-not-start-up false reset e = never e
+not_start_up : (empty reset : Bool) → (not (empty && reset) && empty) ≡ true → (empty ≡ true) × (reset ≡ false)
+not_start_up true true e = never e
+not_start_up true false e = (refl, refl)
+not_start_up false reset e = never e
 
-module _ (image : List ℕ) (m : Machine) (request : ℕ) (formed : isWellFormed m ≡ true) where
+module _ (image : List ℕ) (m : Machine) (request : ℕ) (formed : is_well_formed m ≡ true) where
   -- by the test that makes it stop
-  by-test :
+  by_test :
       (x : Stop) (more : Step) (s : Stop) (test : Bool) → x ≡ cond test s stop.None → (x ≡ stop.None →
       Does image m request more) →
-      (test ≡ true → Does image m request (stoppedOf m s more)) → Does image m request (stoppedOf m x more)
-  by-test x more s true e goes stopping = rw e (stopping refl)
-  by-test x more s false e goes stopping = rw e (goes e)
+      (test ≡ true → Does image m request (stopped_of m s more)) → Does image m request (stopped_of m x more)
+  by_test x more s true e goes stopping = rw e (stopping refl)
+  by_test x more s false e goes stopping = rw e (goes e)
 
   -- a stack that has no room has six levels in use
-  six : isFull m.control ≡ true → m.control.levels ≡ 6
-  six e = omega (arith, leb-true 6 m.control.levels e, (formed-exactly.facts m.stack m.control formed).levels)
+  six : is_full m.control ≡ true → m.control.levels ≡ 6
+  six e = omega (arith, leb-true 6 m.control.levels e, (formed_exactly.facts m.stack m.control formed).levels)
 
   taken : (source : Source) → Takes m request source → Does image m request (taken_of m source)
-  unfolding taken_of takenBy
+  unfolding taken_of taken_by
   taken source e =
-      by-test _ _ stop.Full (isFull m.control) (take-stops m.stack m.control source).stop (takes source e)
-      (λ f. stops _ (request-full source e (six f)))
+      by_test _ _ stop.Full (is_full m.control) (take_stops m.stack m.control source).stop (takes source e)
+      (λ f. stops _ (request_full source e (six f)))
 
   executed :
       TakesNone m request → m.control.asleep ≡ false → (i : Instruction) (bytes cycles : ℕ) →
       AtPc image m i bytes cycles → MayStop i →
-      Does image m request (executedOf image m i bytes cycles)
-  unfolding executedOf completedOf executeOf advanceOf flow_of
+      Does image m request (executed_of image m i bytes cycles)
+  unfolding executed_of completed_of execute_of advance_of flow_of
   executed none awake i bytes cycles at (is_call to) =
-      by-test _ _ stop.Full (isFull m.control)
-      (call-stops m.stack m.control to (forwardOf m.control.pc bytes)).stop
-      (executes i bytes cycles none awake at) (λ f. stops _ (call-full to bytes cycles none awake at (six f)))
-  executed none awake i bytes cycles at is-ret =
-      by-test _ _ stop.Empty (eqb m.control.levels 0) (pop-stops m.stack m.control).stop
+      by_test _ _ stop.Full (is_full m.control)
+      (call_stops m.stack m.control to (forward_of m.control.pc bytes)).stop
+      (executes i bytes cycles none awake at) (λ f. stops _ (call_full to bytes cycles none awake at (six f)))
+  executed none awake i bytes cycles at is_ret =
+      by_test _ _ stop.Empty (eqb m.control.levels 0) (pop_stops m.stack m.control).stop
       (executes i bytes cycles none awake at)
-      (λ f. stops _ (ret-empty bytes cycles none awake at (eqb-true m.control.levels 0 f)))
-  executed none awake i bytes cycles at is-reti =
-      by-test _ _ stop.Empty _ (return-stops m.stack m.control (forwardOf m.control.pc bytes)).stop
+      (λ f. stops _ (ret_empty bytes cycles none awake at (eqb-true m.control.levels 0 f)))
+  executed none awake i bytes cycles at is_reti_lem =
+      by_test _ _ stop.Empty _ (return_stops m.stack m.control (forward_of m.control.pc bytes)).stop
       (executes i bytes cycles none awake at)
       (λ f.
-      let p = not-start-up (eqb m.control.levels 0) (isReset m.control.mode) f in
-      stops _ (reti-empty bytes cycles none awake at (eqb-true m.control.levels 0 p.0) p.1))
-  executed none awake i bytes cycles at (goes_on e) =
-      by-test _ _ stop.Full false (e image (view_of m) m.stack m.control (forwardOf m.control.pc bytes))
+      let p = not_start_up (eqb m.control.levels 0) (is_reset m.control.mode) f in
+      stops _ (reti_empty bytes cycles none awake at (eqb-true m.control.levels 0 p.0) p.1))
+  executed none awake i bytes cycles at (goes_on_lem e) =
+      by_test _ _ stop.Full false (e image (view_of m) m.stack m.control (forward_of m.control.pc bytes))
       (executes i bytes cycles none awake at) (λ f. never f)
 
   -- what comes of an action that is due
-  acts : (a : StepAction) → Due image m request a → Does image m request (actedOf image m a)
-  unfolding actedOf
+  acts : (a : StepAction) → Due image m request a → Does image m request (acted_of image m a)
+  unfolding acted_of
   acts _ (taking source e) = taken source e
   acts _ (idling none asleep) = idles none asleep
-  acts _ (executing i bytes cycles none awake at) = executed none awake i bytes cycles at (may-stop i)
+  acts _ (executing i bytes cycles none awake at) = executed none awake i bytes cycles at (may_stop i)
   acts _ (undecoding r none awake e) = stops r (undecoded r none awake e)
 
 -- of a step in program space
-pub advance-does :
-    (image : List ℕ) (m : Machine) (request : ℕ) → isWellFormed m ≡ true →
-    Does image m request (advancedOf image m request)
-unfolding advancedOf
-advance-does image m request formed = acts image m request formed _ (is-due image m request)
+pub advance_does :
+    (image : List ℕ) (m : Machine) (request : ℕ) → is_well_formed m ≡ true →
+    Does image m request (advanced_of image m request)
+unfolding advanced_of
+advance_does image m request formed = acts image m request formed _ (is_due image m request)
 
-pub step-does : StepDoes
+pub step_does : StepDoes
 unfolding step_of
-step-does image m request size formed sources =
-    rw (action-due image m request size formed sources)
-    (acts (program_of image m.bytes) m request formed _ (is-due (program_of image m.bytes) m request))
+step_does image m request size formed sources =
+    rw (action_due image m request size formed sources)
+    (acts (program_of image m.bytes) m request formed _ (is_due (program_of image m.bytes) m request))
 
 -- a stop has one of four numbers, and PC
 is_stop : (m : Machine) (number : ℕ) → 3 < number → number < 8 → IsStop m (located number m.control.pc)
@@ -150,43 +150,43 @@ is_stop m number h l = record {
   is = refl;
 }
 
-module _ (image : List ℕ) (m : Machine) (request : ℕ) (size : isSpace (length image) ≡ true)
-    (formed : isWellFormed m ≡ true) where
-  by-decoding :
+module _ (image : List ℕ) (m : Machine) (request : ℕ) (size : is_space (length image) ≡ true)
+    (formed : is_well_formed m ≡ true) where
+  by_decoding :
       (a : Answer decode.Decoding) → AtAddress m.control.pc a → (r : Numbered) → a ≡ refused r → IsStop m r
-  by-decoding (done d) at r e = let z : ◌≡◌ {A = ℕ} 0 1 = cc in absurd (omega arith)
-  by-decoding (refused q) (inl is) r e =
+  by_decoding (done d) at r e = let z : ◌≡◌ {A = ℕ} 0 1 = cc in absurd (omega arith)
+  by_decoding (refused q) (inl is) r e =
       let f : r ≡ located 4 m.control.pc = cc in rw f (is_stop m 4 (omega arith) (omega arith))
-  by-decoding (refused q) (inr is) r e =
+  by_decoding (refused q) (inr is) r e =
       let f : r ≡ located 5 m.control.pc = cc in rw f (is_stop m 5 (omega arith) (omega arith))
 
-  numbered-stop : (r : Numbered) → StepStops image m request r → IsStop m r
-  numbered-stop _ (request-full source e l) = is_stop m 6 (omega arith) (omega arith)
-  numbered-stop r (undecoded _ none awake e) =
-      by-decoding (decodeAt image m.control.pc)
-      (at_address image m.control.pc size (formed-exactly.facts m.stack m.control formed).pc) r e
-  numbered-stop _ (call-full to bytes cycles none awake at l) = is_stop m 6 (omega arith) (omega arith)
-  numbered-stop _ (ret-empty bytes cycles none awake at l) = is_stop m 7 (omega arith) (omega arith)
-  numbered-stop _ (reti-empty bytes cycles none awake at l mode) = is_stop m 7 (omega arith) (omega arith)
+  numbered_stop : (r : Numbered) → StepStops image m request r → IsStop m r
+  numbered_stop _ (request_full source e l) = is_stop m 6 (omega arith) (omega arith)
+  numbered_stop r (undecoded _ none awake e) =
+      by_decoding (decode_at image m.control.pc)
+      (at_address image m.control.pc size (formed_exactly.facts m.stack m.control formed).pc) r e
+  numbered_stop _ (call_full to bytes cycles none awake at l) = is_stop m 6 (omega arith) (omega arith)
+  numbered_stop _ (ret_empty bytes cycles none awake at l) = is_stop m 7 (omega arith) (omega arith)
+  numbered_stop _ (reti_empty bytes cycles none awake at l mode) = is_stop m 7 (omega arith) (omega arith)
 
-pub stops-numbered : StopsNumbered
-stops-numbered image m request size formed r stop = numbered-stop image m request size formed r stop
+pub stops_numbered : StopsNumbered
+stops_numbered image m request size formed r stop = numbered_stop image m request size formed r stop
 
 -- a step: refused for one of three reasons, or as above
 pub data Tested (image : List ℕ) (m : Machine) (request : ℕ) : Step → Type 0 where
-  refuses : (r : Numbered) → StepRefused image m request r → Tested image m request (refusedOf m r)
+  refuses : (r : Numbered) → StepRefused image m request r → Tested image m request (refused_of m r)
   passes :
-      isImage (length image) ≡ true → isWellFormed m ≡ true → namesOnlySources request ≡ true →
+      is_image (length image) ≡ true → is_well_formed m ≡ true → names_only_sources request ≡ true →
       (s : Step) → Does (program_of image m.bytes) m request s → Tested image m request s
 
-pub step-tested : (image : List ℕ) (m : Machine) (request : ℕ) → Tested image m request (step_of image m request)
-unfolding step_of actedOf
-step-tested image m request = by_tests (actionOf image m request) (is-tested image m request)
+pub step_tested : (image : List ℕ) (m : Machine) (request : ℕ) → Tested image m request (step_of image m request)
+unfolding step_of acted_of
+step_tested image m request = by_tests (action_of image m request) (is_tested image m request)
   where
     by_tests :
         (a : StepAction) → ActionTested image m request a →
-        Tested image m request (actedOf (program_of image m.bytes) m a)
+        Tested image m request (acted_of (program_of image m.bytes) m a)
     by_tests _ (refusing r why) = refuses r why
     by_tests _ (passing i w n) =
         passes i w n _
-        (acts (program_of image m.bytes) m request w _ (is-due (program_of image m.bytes) m request))
+        (acts (program_of image m.bytes) m request w _ (is_due (program_of image m.bytes) m request))

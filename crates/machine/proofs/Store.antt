@@ -9,40 +9,40 @@ use lib.ListN.{length, get_or, set, replicate, length-replicate, get_or-replicat
 use lib.Seq.{get_or-set_same, get_or-set_other}
 use borrow.Author.Tests.{ltb-true, ltb-false, eqb-true, eqb-false}
 use Rattle.isa.specs.Rom.{space_of}
-use Rattle.isa.specs.Decode.{decodeOf}
-use Rattle.isa.specs.Predecoded.{tagFor, tagOfWord}
+use Rattle.isa.specs.Decode.{decode_of}
+use Rattle.isa.specs.Predecoded.{tag_for, tag_of_word}
 use Rattle.machine.specs.declared.Fetched.TheVariants.{Word}
-use Rattle.machine.specs.Fetch.{fetchedAs, Coherent}
+use Rattle.machine.specs.Fetch.{fetched_as, Coherent}
 
 -- what a number stands for, if it has this tag
 abbrev Stands : (image : List ℕ) → (w bank a : ℕ) → Type 0
-Stands image w bank a = fetchedAs (Word w) ≡ decodeOf (space_of image bank) a
+Stands image w bank a = fetched_as (Word w) ≡ decode_of (space_of image bank) a
 
 -- a tag tells its bank byte and its address
-module _ (bank a bank₀ a₀ : ℕ) (h : a < 4096) (h₀ : a₀ < 4096) (e : tagFor bank a ≡ tagFor bank₀ a₀) where
-  same-bank : bank ≡ bank₀
-  same-bank = omega arith
+module _ (bank a bank₀ a₀ : ℕ) (h : a < 4096) (h₀ : a₀ < 4096) (e : tag_for bank a ≡ tag_for bank₀ a₀) where
+  same_bank : bank ≡ bank₀
+  same_bank = omega arith
 
   same_address : a ≡ a₀
   same_address = omega arith
 
 -- a number that stands for what is at one place stands for what is at each that its tag tells
-by-tag :
-    (image : List ℕ) (w bank₀ a₀ bank a : ℕ) → a₀ < 4096 → tagOfWord w ≡ tagFor bank₀ a₀ → Stands image w bank₀ a₀ →
-    a < 4096 → tagOfWord w ≡ tagFor bank a → Stands image w bank a
-by-tag image w bank₀ a₀ bank a h₀ t₀ e h t =
-    let q : tagFor bank a ≡ tagFor bank₀ a₀ = sym t ∙ t₀ in
-    rw (same-bank bank a bank₀ a₀ h h₀ q, same_address bank a bank₀ a₀ h h₀ q) e
+by_tag :
+    (image : List ℕ) (w bank₀ a₀ bank a : ℕ) → a₀ < 4096 → tag_of_word w ≡ tag_for bank₀ a₀ → Stands image w bank₀ a₀ →
+    a < 4096 → tag_of_word w ≡ tag_for bank a → Stands image w bank a
+by_tag image w bank₀ a₀ bank a h₀ t₀ e h t =
+    let q : tag_for bank a ≡ tag_for bank₀ a₀ = sym t ∙ t₀ in
+    rw (same_bank bank a bank₀ a₀ h h₀ q, same_address bank a bank₀ a₀ h h₀ q) e
 
-pub coherent-set :
+pub coherent_set :
     (image store : List ℕ) (at w bank a : ℕ) → at < length store → Coherent image store → a < 4096 →
-    tagOfWord w ≡ tagFor bank a → Stands image w bank a → Coherent image (set store at w)
-coherent-set image store at w bank₀ a₀ inside coherent h₀ t₀ e k bank a h t = go (eqb k at) refl
+    tag_of_word w ≡ tag_for bank a → Stands image w bank a → Coherent image (set store at w)
+coherent_set image store at w bank₀ a₀ inside coherent h₀ t₀ e k bank a h t = go (eqb k at) refl
   where
     go : (b : Bool) → eqb k at ≡ b → Stands image (get_or (set store at w) k 0) bank a
     go true same =
         let found : get_or (set store at w) k 0 ≡ w = rw (eqb-true k at same) (get_or-set_same store at w 0 inside) in
-        rw found (by-tag image w bank₀ a₀ bank a h₀ t₀ e h (rw found at t))
+        rw found (by_tag image w bank₀ a₀ bank a h₀ t₀ e h (rw found at t))
     go false other =
         let kept : get_or (set store at w) k 0 ≡ get_or store k 0 = get_or-set_other store at k w 0 (eqb-false k at other) in
         rw kept (coherent k bank a h (rw kept at t))
@@ -57,8 +57,8 @@ zeros n k = go (ltb k n) refl
         get_or-eq_default (replicate n 0) 0
         (subst (λ m. m ≤ k) (sym (length-replicate {A = ℕ} n 0)) (ltb-false k n e))
 
-no-tag : (bank a : ℕ) → tagOfWord 0 ≡ tagFor bank a → ⊥
-no-tag bank a e = omega arith
+no_tag : (bank a : ℕ) → tag_of_word 0 ≡ tag_for bank a → ⊥
+no_tag bank a e = omega arith
 
-pub coherent-none : (image : List ℕ) (n : ℕ) → Coherent image (replicate n 0)
-coherent-none image n k bank a h t = absurd (no-tag bank a (rw (zeros n k) at t))
+pub coherent_none : (image : List ℕ) (n : ℕ) → Coherent image (replicate n 0)
+coherent_none image n k bank a h t = absurd (no_tag bank a (rw (zeros n k) at t))

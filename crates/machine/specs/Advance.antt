@@ -1,7 +1,7 @@
 -- One step that is not refused (document 01, "Modes, stack, sleep" and "Step").
 use Rattle.std.specs.Prelude.{ℕ, List}
 use Rattle.isa.specs.Refusals.{Numbered, located, numbered, Answer, done, refused}
-use Rattle.isa.specs.Displacement.{forwardOf}
+use Rattle.isa.specs.Displacement.{forward_of}
 use Rattle.isa.specs.declared.Instruction.{Instruction}
 use Rattle.isa.specs.declared.Source.{Source}
 use Rattle.control.specs.declared.Mode.{Mode}
@@ -14,10 +14,10 @@ use Rattle.machine.specs.declared.Machine.{Machine}
 use Rattle.machine.specs.declared.StepAnswer.{StepAnswer}
 use Rattle.machine.specs.declared.StepAnswer.TheVariants as answer
 use Rattle.machine.specs.declared.Advanced.{Advanced}
-use Rattle.machine.specs.Pairs.{withPairOf}
-use Rattle.machine.specs.Execute.{Execution, executeOf}
+use Rattle.machine.specs.Pairs.{with_pair_of}
+use Rattle.machine.specs.Execute.{Execution, execute_of}
 use Rattle.machine.specs.State.{machine_of, view_of}
-use Rattle.machine.specs.Actions.{StepAction, takes, idles, executes, refuses, dueOf}
+use Rattle.machine.specs.Actions.{StepAction, takes, idles, executes, refuses, due_of}
 
 -- a step's answer by document 01's numbers: done in so many cycles, or refused or stopped
 abbrev pub answer_of : StepAnswer → Answer ℕ
@@ -30,9 +30,9 @@ pub record Step : Type 0 where
   pub answer : Answer ℕ
 
 -- the program's answer, with the bytes and the stack that it was lent; its flags are the pair of a mode
-abbrev pub advancedAs : FlagPairs → Mode → (bytes stack : List ℕ) → Advanced → Step
-advancedAs pairs mode bytes stack r = record {
-  machine = machine_of r.control stack (withPairOf pairs mode r.flags) bytes;
+abbrev pub advanced_as : FlagPairs → Mode → (bytes stack : List ℕ) → Advanced → Step
+advanced_as pairs mode bytes stack r = record {
+  machine = machine_of r.control stack (with_pair_of pairs mode r.flags) bytes;
   answer = answer_of r.answer;
 }
 
@@ -40,47 +40,47 @@ abbrev pub done_of : Machine → (cycles : ℕ) → Step
 done_of m cycles = record { machine = m; answer = done cycles }
 
 -- "A refusal is a number, and leaves [..] machine untouched."
-abbrev pub refusedOf : Machine → Numbered → Step
-refusedOf m r = record { machine = m; answer = refused r }
+abbrev pub refused_of : Machine → Numbered → Step
+refused_of m r = record { machine = m; answer = refused r }
 
 -- by whether a stop is met: 6 and 7 give the address at PC
-abbrev pub stoppedOf : Machine → Stop → Step → Step
-stoppedOf m stop.None more = more
-stoppedOf m stop.Full more = refusedOf m (located 6 m.control.pc)
-stoppedOf m stop.Empty more = refusedOf m (located 7 m.control.pc)
+abbrev pub stopped_of : Machine → Stop → Step → Step
+stopped_of m stop.None more = more
+stopped_of m stop.Full more = refused_of m (located 6 m.control.pc)
+stopped_of m stop.Empty more = refused_of m (located 7 m.control.pc)
 
 -- the machine after a request: flags and data as they were
-abbrev pub servedOf : Machine → Transferred → Machine
-servedOf m t = machine_of t.control t.stack m.flags m.bytes
+abbrev pub served_of : Machine → Transferred → Machine
+served_of m t = machine_of t.control t.stack m.flags m.bytes
 
 -- "Taking one [..] costs one cycle, and is a step by itself."
-unfoldable pub takenBy : Machine → Transferred → Step
-takenBy m t = stoppedOf m t.stop (done_of (servedOf m t) 1)
+unfoldable pub taken_by : Machine → Transferred → Step
+taken_by m t = stopped_of m t.stop (done_of (served_of m t) 1)
 
 unfoldable pub taken_of : Machine → Source → Step
-taken_of m source = takenBy m (take_of m.stack m.control source)
+taken_of m source = taken_by m (take_of m.stack m.control source)
 
 -- the machine after an instruction: its flags go to the pair of the mode before it
 abbrev pub after_of : Machine → Execution → Machine
 after_of m x =
-    machine_of x.control x.stack (withPairOf m.flags m.control.mode x.space.flags) x.space.bytes
+    machine_of x.control x.stack (with_pair_of m.flags m.control.mode x.space.flags) x.space.bytes
 
-unfoldable pub completedOf : Machine → (cycles : ℕ) → Execution → Step
-completedOf m cycles x = stoppedOf m x.stop (done_of (after_of m x) cycles)
+unfoldable pub completed_of : Machine → (cycles : ℕ) → Execution → Step
+completed_of m cycles x = stopped_of m x.stop (done_of (after_of m x) cycles)
 
 -- an instruction of so many bytes and cycles
-unfoldable pub executedOf : (image : List ℕ) → Machine → Instruction → (bytes cycles : ℕ) → Step
-executedOf image m i bytes cycles =
-    completedOf m cycles (executeOf image (view_of m) m.stack m.control i (forwardOf m.control.pc bytes))
+unfoldable pub executed_of : (image : List ℕ) → Machine → Instruction → (bytes cycles : ℕ) → Step
+executed_of image m i bytes cycles =
+    completed_of m cycles (execute_of image (view_of m) m.stack m.control i (forward_of m.control.pc bytes))
 
 -- what comes of an action
-unfoldable pub actedOf : (image : List ℕ) → Machine → StepAction → Step
-actedOf image m (takes source) = taken_of m source
+unfoldable pub acted_of : (image : List ℕ) → Machine → StepAction → Step
+acted_of image m (takes source) = taken_of m source
 -- "a sleeping step with nothing to take is idle, 0 cycles"
-actedOf image m idles = done_of m 0
-actedOf image m (executes i bytes cycles) = executedOf image m i bytes cycles
-actedOf image m (refuses r) = refusedOf m r
+acted_of image m idles = done_of m 0
+acted_of image m (executes i bytes cycles) = executed_of image m i bytes cycles
+acted_of image m (refuses r) = refused_of m r
 
 -- a step that is not refused
-unfoldable pub advancedOf : (image : List ℕ) → Machine → (request : ℕ) → Step
-advancedOf image m request = actedOf image m (dueOf image m request)
+unfoldable pub advanced_of : (image : List ℕ) → Machine → (request : ℕ) → Step
+advanced_of image m request = acted_of image m (due_of image m request)

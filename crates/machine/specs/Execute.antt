@@ -13,7 +13,7 @@ use Rattle.isa.specs.declared.Flow.TheVariants as flow
 use Rattle.control.specs.declared.Control.{Control}
 use Rattle.control.specs.declared.Stop.{Stop}
 use Rattle.control.specs.Stack.{Transferred}
-use Rattle.control.specs.Transfers.{advanceOf}
+use Rattle.control.specs.Transfers.{advance_of}
 use Rattle.machine.specs.declared.Executed.{Executed}
 
 -- a flag or a bit is the value at which a branch jumps
@@ -44,17 +44,17 @@ pub record Execution : Type 0 where
   pub stop : Stop
 
 -- the program's answer, with the bytes and the stack that it was lent
-abbrev pub executionOf : (bytes stack : List ℕ) → Executed → Execution
-executionOf bytes stack r =
+abbrev pub execution_of : (bytes stack : List ℕ) → Executed → Execution
+execution_of bytes stack r =
     record { space = data_of bytes r.flags; control = r.control; stack = stack; stop = r.stop }
 
 -- data and flags as an effect leaves them, control and stack as a transfer does
-abbrev pub executionBy : Data → Transferred → Execution
-executionBy d t = record { space = d; control = t.control; stack = t.stack; stop = t.stop }
+abbrev pub execution_by : Data → Transferred → Execution
+execution_by d t = record { space = d; control = t.control; stack = t.stack; stop = t.stop }
 
 -- an instruction at PC, with its next address
-unfoldable pub executeOf :
+unfoldable pub execute_of :
     (image : List ℕ) → Data → (stack : List ℕ) → Control → Instruction → (next : ℕ) → Execution
-executeOf image d stack c i next =
-    executionBy (effect_of image d i)
-    (advanceOf stack c (flow_of i c.pc) (jumps_of image d (flow_of i c.pc)) next)
+execute_of image d stack c i next =
+    execution_by (effect_of image d i)
+    (advance_of stack c (flow_of i c.pc) (jumps_of image d (flow_of i c.pc)) next)

@@ -5,25 +5,25 @@ use Rattle.isa.specs.Refusals.{Answer, done, refused}
 use Rattle.data.specs.declared.OriginRead.{OriginRead}
 use Rattle.data.specs.declared.OriginRead.TheVariants as origin
 use Rattle.data.specs.Space.{program_of}
-use Rattle.data.specs.Reads.{originReadOf}
+use Rattle.data.specs.Reads.{origin_read_of}
 use Rattle.machine.specs.declared.Machine.{Machine}
-use Rattle.machine.specs.Actions.{StepAction, takes, idles, executes, refuses, actionOf}
+use Rattle.machine.specs.Actions.{StepAction, takes, idles, executes, refuses, action_of}
 use Rattle.machine.specs.Step.{step_of}
 
 -- only an instruction reads: "Taking one [..] is a step by itself"
-abbrev pub actionRead : (image bytes : List ℕ) → StepAction → OriginRead
-actionRead image bytes (takes source) = origin.Nothing
-actionRead image bytes idles = origin.Nothing
-actionRead image bytes (executes i length cycles) = originReadOf image bytes i
-actionRead image bytes (refuses r) = origin.Nothing
+abbrev pub action_read : (image bytes : List ℕ) → StepAction → OriginRead
+action_read image bytes (takes source) = origin.Nothing
+action_read image bytes idles = origin.Nothing
+action_read image bytes (executes i length cycles) = origin_read_of image bytes i
+action_read image bytes (refuses r) = origin.Nothing
 
 -- a refused or stopped step reads none
-abbrev pub readIfDone : Answer ℕ → OriginRead → OriginRead
-readIfDone (done cycles) read = read
-readIfDone (refused r) read = origin.Nothing
+abbrev pub read_if_done : Answer ℕ → OriginRead → OriginRead
+read_if_done (done cycles) read = read
+read_if_done (refused r) read = origin.Nothing
 
 -- "Each step tells the origin of the data operand it read, or that it read none"
-unfoldable pub stepReadOf : (image : List ℕ) → Machine → (request : ℕ) → OriginRead
-stepReadOf image m request =
-    readIfDone (step_of image m request).answer
-    (actionRead (program_of image m.bytes) m.bytes (actionOf image m request))
+unfoldable pub step_read_of : (image : List ℕ) → Machine → (request : ℕ) → OriginRead
+step_read_of image m request =
+    read_if_done (step_of image m request).answer
+    (action_read (program_of image m.bytes) m.bytes (action_of image m request))

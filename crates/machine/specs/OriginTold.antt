@@ -2,36 +2,36 @@
 -- the instruction used.
 use Rattle.std.specs.Prelude.{ℕ, ◌≡◌, true, false, List, length, get_or, ℤ}
 use Rattle.isa.specs.Refusals.{done}
-use Rattle.isa.specs.Sources.{namesOnlySources}
-use Rattle.isa.specs.Rom.{isImage}
+use Rattle.isa.specs.Sources.{names_only_sources}
+use Rattle.isa.specs.Rom.{is_image}
 use Rattle.isa.specs.declared.Instruction.{Instruction}
 use Rattle.isa.specs.declared.Instruction.TheVariants as I
 use Rattle.isa.specs.declared.Operand.{Operand}
 use Rattle.isa.specs.declared.Operand.TheVariants.{Direct, Short, ThroughX, ThroughY}
 use Rattle.isa.specs.declared.Encoded.TheVariants.{Unencodable}
-use Rattle.isa.specs.Encode.{encodeOf}
+use Rattle.isa.specs.Encode.{encode_of}
 use Rattle.data.specs.declared.Origin.{Origin}
 use Rattle.data.specs.declared.OperandRead.TheVariants.{Nothing, Is}
 use Rattle.data.specs.declared.OriginRead.TheVariants.{From}
 use Rattle.data.specs.Space.{program_of, read_of, store_of, address_of}
-use Rattle.data.specs.Effect.{accumulatorOf}
-use Rattle.data.specs.Reads.{operandReadOf}
+use Rattle.data.specs.Effect.{accumulator_of}
+use Rattle.data.specs.Reads.{operand_read_of}
 use Rattle.data.specs.Laws.{ComesFrom}
 use Rattle.machine.specs.declared.Machine.{Machine}
-use Rattle.machine.specs.State.{isWellFormed, withByte}
+use Rattle.machine.specs.State.{is_well_formed, with_byte}
 use Rattle.machine.specs.Step.{Step, step_of}
 use Rattle.machine.specs.Refusals.{TakesNone, AtPc}
-use Rattle.machine.specs.Reading.{readingAs, reading_of}
-use Rattle.machine.specs.Operands.{stepReadOf}
+use Rattle.machine.specs.Reading.{reading_as, reading_of}
+use Rattle.machine.specs.Operands.{step_read_of}
 
 -- a step comes to the instruction at PC: it is not refused, takes no request and is awake
 pub record Executes (image : List ℕ) (m : Machine) (request : ℕ) (i : Instruction) (bytes cycles : ℕ) : Type 0 where
-  pub image-length : isImage (length image) ≡ true
-  pub formed : isWellFormed m ≡ true
-  pub sources : namesOnlySources request ≡ true
-  pub none-taken : TakesNone m request
+  pub image_length : is_image (length image) ≡ true
+  pub formed : is_well_formed m ≡ true
+  pub sources : names_only_sources request ≡ true
+  pub none_taken : TakesNone m request
   pub awake : m.control.asleep ≡ false
-  pub at-pc : AtPc (program_of image m.bytes) m i bytes cycles
+  pub at_pc : AtPc (program_of image m.bytes) m i bytes cycles
 
 -- a step is done, and tells the origin that the reading gives at a data address of the machine before it, from which the
 -- byte there comes
@@ -39,9 +39,9 @@ pub record TellsOf (image : List ℕ) (m : Machine) (request cycles a : ℕ) : T
   pub completed : (step_of image m request).answer ≡ done cycles
   pub byte : ℕ
   pub origin : Origin
-  pub reading : reading_of image m a ≡ done (readingAs byte origin)
+  pub reading : reading_of image m a ≡ done (reading_as byte origin)
   pub comes : ComesFrom (program_of image m.bytes) m.bytes a byte origin
-  pub told : stepReadOf image m request ≡ From origin
+  pub told : step_read_of image m request ≡ From origin
 
 -- a step completes an instruction that reads
 pub record Reads (image : List ℕ) (m : Machine) (request : ℕ) : Type 0 where
@@ -50,7 +50,7 @@ pub record Reads (image : List ℕ) (m : Machine) (request : ℕ) : Type 0 where
   pub cycles : ℕ
   pub o : Operand
   pub executes : Executes image m request i bytes cycles
-  pub reads : operandReadOf i ≡ Is o
+  pub reads : operand_read_of i ≡ Is o
   pub completed : (step_of image m request).answer ≡ done cycles
 
 -- of the instructions that read, these use A too
@@ -67,7 +67,7 @@ pub record AgreeOn (image : List ℕ) (m : Machine) (image' : List ℕ) (m' : Ma
   pub control : m.control ≡ m'.control
   pub stack : m.stack ≡ m'.stack
   pub flags : m.flags ≡ m'.flags
-  pub accumulator : UsesA i → accumulatorOf m.bytes ≡ accumulatorOf m'.bytes
+  pub accumulator : UsesA i → accumulator_of m.bytes ≡ accumulator_of m'.bytes
   pub address : address_of m.bytes o ≡ address_of m'.bytes o
   pub byte :
       read_of (program_of image m.bytes) m.bytes (address_of m.bytes o)
@@ -79,7 +79,7 @@ pub record AgreeApart (m m' : Machine) : Type 0 where
   pub control : m.control ≡ m'.control
   pub stack : m.stack ≡ m'.stack
   pub flags : m.flags ≡ m'.flags
-  pub accumulator : accumulatorOf m.bytes ≡ accumulatorOf m'.bytes
+  pub accumulator : accumulator_of m.bytes ≡ accumulator_of m'.bytes
   pub x : get_or m.bytes 0x80 0 ≡ get_or m'.bytes 0x80 0
   pub y : get_or m.bytes 0x81 0 ≡ get_or m'.bytes 0x81 0
 
@@ -88,9 +88,9 @@ pub data Storing : Type 0 where
   nothing : Storing
   byte : (a value : ℕ) → Storing
 
-abbrev pub storedBy : Storing → (bytes : List ℕ) → List ℕ
-storedBy nothing bytes = bytes
-storedBy (byte a value) bytes = store_of bytes a value
+abbrev pub stored_by : Storing → (bytes : List ℕ) → List ℕ
+stored_by nothing bytes = bytes
+stored_by (byte a value) bytes = store_of bytes a value
 
 -- two steps are alike: the same answer, control, stack and flags, and the same byte stored at the same address
 pub record StepsAlike (m m' : Machine) (s s' : Step) : Type 0 where
@@ -99,21 +99,21 @@ pub record StepsAlike (m m' : Machine) (s s' : Step) : Type 0 where
   pub stack : s.machine.stack ≡ s'.machine.stack
   pub flags : s.machine.flags ≡ s'.machine.flags
   pub stores : Storing
-  pub first : s.machine.bytes ≡ storedBy stores m.bytes
-  pub second : s'.machine.bytes ≡ storedBy stores m'.bytes
+  pub first : s.machine.bytes ≡ stored_by stores m.bytes
+  pub second : s'.machine.bytes ≡ stored_by stores m'.bytes
 
 -- two data operands of one kind
 pub data SameKind : Operand → Operand → Type 0 where
   direct : (a b : ℕ) → SameKind (Direct a) (Direct b)
   short : (n k : ℕ) → SameKind (Short n) (Short k)
-  through-x : SameKind ThroughX ThroughX
-  through-y : SameKind ThroughY ThroughY
+  through_x : SameKind ThroughX ThroughX
+  through_y : SameKind ThroughY ThroughY
 
 -- two instructions of one form, of those with a data operand, read or not, and with operands of one kind
 pub data SameForm : Instruction → Instruction → Type 0 where
   loads : (o p : Operand) → SameKind o p → SameForm (I.LoadA o) (I.LoadA p)
   stores : (o p : Operand) → SameKind o p → SameForm (I.StoreA o) (I.StoreA p)
-  stores-immediate : (a b v w : ℕ) → SameForm (I.LoadImmediate a v) (I.LoadImmediate b w)
+  stores_immediate : (a b v w : ℕ) → SameForm (I.LoadImmediate a v) (I.LoadImmediate b w)
   increments : (o p : Operand) → SameKind o p → SameForm (I.Inc o) (I.Inc p)
   decrements : (o p : Operand) → SameKind o p → SameForm (I.Dec o) (I.Dec p)
   adds : (o p : Operand) → SameKind o p → SameForm (I.Add o) (I.Add p)
@@ -122,26 +122,26 @@ pub data SameForm : Instruction → Instruction → Type 0 where
   compares : (o p : Operand) → SameKind o p → SameForm (I.Cp o) (I.Cp p)
   sets : (n k a b : ℕ) → SameForm (I.Set n a) (I.Set k b)
   resets : (n k a b : ℕ) → SameForm (I.Res n a) (I.Res k b)
-  jumps-reset : (n k a b : ℕ) (d e : ℤ) → SameForm (I.Jrr n a d) (I.Jrr k b e)
-  jumps-set : (n k a b : ℕ) (d e : ℤ) → SameForm (I.Jrs n a d) (I.Jrs k b e)
+  jumps_reset : (n k a b : ℕ) (d e : ℤ) → SameForm (I.Jrr n a d) (I.Jrr k b e)
+  jumps_set : (n k a b : ℕ) (d e : ℤ) → SameForm (I.Jrs n a d) (I.Jrs k b e)
 
 -- the byte that an instruction of this form is told to read matters: two machines that differ in it alone come to the
 -- instruction, and do not step alike
 pub record Matters (i : Instruction) : Type 0 where
   pub like : Instruction
-  pub same-form : SameForm i like
+  pub same_form : SameForm i like
   pub o : Operand
-  pub reads : operandReadOf like ≡ Is o
+  pub reads : operand_read_of like ≡ Is o
   pub image : List ℕ
   pub m : Machine
   pub value : ℕ
   pub bytes : ℕ
   pub cycles : ℕ
   pub first : Executes image m 0 like bytes cycles
-  pub second : Executes image (withByte m (address_of m.bytes o) value) 0 like bytes cycles
+  pub second : Executes image (with_byte m (address_of m.bytes o) value) 0 like bytes cycles
   pub differ :
-      StepsAlike m (withByte m (address_of m.bytes o) value) (step_of image m 0)
-      (step_of image (withByte m (address_of m.bytes o) value) 0) →
+      StepsAlike m (with_byte m (address_of m.bytes o) value) (step_of image m 0)
+      (step_of image (with_byte m (address_of m.bytes o) value) 0) →
       ⊥
 
 -- "Each step tells the origin of the data operand it read, or that it read none"
@@ -151,11 +151,11 @@ pub record OriginTold : Type 0 where
   -- operand's address on the machine before the step
   pub told :
       (image : List ℕ) (m : Machine) (request : ℕ) (i : Instruction) (bytes cycles : ℕ) (o : Operand) →
-      Executes image m request i bytes cycles → operandReadOf i ≡ Is o →
+      Executes image m request i bytes cycles → operand_read_of i ≡ Is o →
       TellsOf image m request cycles (address_of m.bytes o)
   -- and no other step tells one: not one that is refused or stops, takes a request, is idle or does not read
   pub only :
-      (image : List ℕ) (m : Machine) (request : ℕ) (origin : Origin) → stepReadOf image m request ≡ From origin →
+      (image : List ℕ) (m : Machine) (request : ℕ) (origin : Origin) → step_read_of image m request ≡ From origin →
       Reads image m request
   -- the byte told of is the one used: machines and images that agree on it, and on all else that the instruction uses,
   -- step alike, whatever the rest of them holds
@@ -163,17 +163,17 @@ pub record OriginTold : Type 0 where
       (image : List ℕ) (m : Machine) (image' : List ℕ) (m' : Machine) (request request' : ℕ) (i : Instruction)
       (bytes cycles : ℕ) (o : Operand) →
       Executes image m request i bytes cycles → Executes image' m' request' i bytes cycles →
-      operandReadOf i ≡ Is o → AgreeOn image m image' m' i o →
+      operand_read_of i ≡ Is o → AgreeOn image m image' m' i o →
       StepsAlike m m' (step_of image m request) (step_of image' m' request')
   -- .. and it is used, not just written or passed by: so for each form of an instruction that can be written, and each
   -- kind of its operand. LDI told as reading would have no such machines
   pub matters :
-      (i : Instruction) (o : Operand) → (encodeOf i ≡ Unencodable → ⊥) → operandReadOf i ≡ Is o → Matters i
+      (i : Instruction) (o : Operand) → (encode_of i ≡ Unencodable → ⊥) → operand_read_of i ≡ Is o → Matters i
   -- and where an instruction reads none, no other byte of data space and nothing that the ROM window shows is used:
   -- machines that agree on A, X and Y, and on control, stack and flags, step alike
   pub unread :
       (image : List ℕ) (m : Machine) (image' : List ℕ) (m' : Machine) (request request' : ℕ) (i : Instruction)
       (bytes cycles : ℕ) →
       Executes image m request i bytes cycles → Executes image' m' request' i bytes cycles →
-      operandReadOf i ≡ Nothing → AgreeApart m m' →
+      operand_read_of i ≡ Nothing → AgreeApart m m' →
       StepsAlike m m' (step_of image m request) (step_of image' m' request')

@@ -1,10 +1,10 @@
 -- Which flag pair a step writes and reads (document 01, "Modes, stack, sleep" and "Mistakes the manual invites").
 use Rattle.std.specs.Prelude.{ℕ, ◌≡◌, ◌⊎◌, ◌≢◌, true, false, List}
-use Rattle.isa.specs.Sources.{namesOnlySources}
+use Rattle.isa.specs.Sources.{names_only_sources}
 use Rattle.isa.specs.declared.Instruction.TheVariants as I
 use Rattle.control.specs.declared.Mode.{Mode}
 use Rattle.control.specs.declared.Mode.TheVariants.{Reset, Normal, Interrupt, NmiOverNormal, NmiOverInterrupt}
-use Rattle.control.specs.Modes.{modeBeneath}
+use Rattle.control.specs.Modes.{mode_beneath}
 use Rattle.machine.specs.declared.FlagPairs.{FlagPairs}
 use Rattle.data.specs.Space.{program_of}
 use Rattle.machine.specs.declared.Machine.{Machine}
@@ -15,18 +15,18 @@ use Rattle.machine.specs.Step.{step_of}
 use Rattle.machine.specs.Refusals.{TakesNone, AtPc}
 
 -- the three pairs, and which one a mode has in use
-abbrev pub pairNumber : Mode → ℕ
-pairNumber Normal = 1
-pairNumber Interrupt = 2
-pairNumber Reset = 3
-pairNumber NmiOverNormal = 3
-pairNumber NmiOverInterrupt = 3
+abbrev pub pair_number : Mode → ℕ
+pair_number Normal = 1
+pair_number Interrupt = 2
+pair_number Reset = 3
+pair_number NmiOverNormal = 3
+pair_number NmiOverInterrupt = 3
 
 -- a step changes only the flag pair of its own mode
 -- proved by other-pairs-kept, proofs/PairUse
 abbrev pub OtherPairsKept : Type 0
 OtherPairsKept =
-    (image : List ℕ) (m : Machine) (request : ℕ) (mode : Mode) → pairNumber m.control.mode ≢ pairNumber mode →
+    (image : List ℕ) (m : Machine) (request : ℕ) (mode : Mode) → pair_number m.control.mode ≢ pair_number mode →
     pair_of (step_of image m request).machine.flags mode ≡ pair_of m.flags mode
 
 -- the machine with other flags
@@ -56,12 +56,12 @@ FlagsAfterReti =
     (image : List ℕ) (m n : Machine) (request bytes cycles used : ℕ) → TakesNone m request →
     m.control.asleep ≡ false →
     AtPc (program_of image m.bytes) m I.Reti bytes cycles → step_of image m request ≡ done_of n used →
-    pair_of n.flags n.control.mode ≡ pair_of m.flags (modeBeneath m.control.mode)
+    pair_of n.flags n.control.mode ≡ pair_of m.flags (mode_beneath m.control.mode)
 
 -- not "Treating a second NMI as nested": in both NMI modes a step with requests is the step without
 -- proved by nmi-not-nested, proofs/PairUse
 abbrev pub NmiNotNested : Type 0
 NmiNotNested =
     (image : List ℕ) (m : Machine) (request : ℕ) →
-    (m.control.mode ≡ NmiOverNormal) ⊎ (m.control.mode ≡ NmiOverInterrupt) → namesOnlySources request ≡ true →
+    (m.control.mode ≡ NmiOverNormal) ⊎ (m.control.mode ≡ NmiOverInterrupt) → names_only_sources request ≡ true →
     step_of image m request ≡ step_of image m 0

@@ -5,19 +5,19 @@ use Rattle.control.specs.declared.Mode.{Mode}
 use Rattle.control.specs.declared.Mode.TheVariants.{Reset, Normal, Interrupt, NmiOverNormal, NmiOverInterrupt}
 use Rattle.machine.specs.declared.FlagPairs.{FlagPairs}
 
-abbrev pub isNormal : Mode → Bool
-isNormal Normal = true
-isNormal Interrupt = false
-isNormal Reset = false
-isNormal NmiOverNormal = false
-isNormal NmiOverInterrupt = false
+abbrev pub is_normal : Mode → Bool
+is_normal Normal = true
+is_normal Interrupt = false
+is_normal Reset = false
+is_normal NmiOverNormal = false
+is_normal NmiOverInterrupt = false
 
-abbrev pub isInterrupt : Mode → Bool
-isInterrupt Normal = false
-isInterrupt Interrupt = true
-isInterrupt Reset = false
-isInterrupt NmiOverNormal = false
-isInterrupt NmiOverInterrupt = false
+abbrev pub is_interrupt : Mode → Bool
+is_interrupt Normal = false
+is_interrupt Interrupt = true
+is_interrupt Reset = false
+is_interrupt NmiOverNormal = false
+is_interrupt NmiOverInterrupt = false
 
 -- "Normal and interrupt each have their own Z and C; the other three share the NMI pair."
 abbrev pub pair_of : FlagPairs → Mode → Flags
@@ -27,13 +27,13 @@ pair_of p Reset = p.nmi
 pair_of p NmiOverNormal = p.nmi
 pair_of p NmiOverInterrupt = p.nmi
 
-abbrev pub withNmi : FlagPairs → Flags → FlagPairs
-withNmi p f = record { normal = p.normal; interrupt = p.interrupt; nmi = f }
+abbrev pub with_nmi : FlagPairs → Flags → FlagPairs
+with_nmi p f = record { normal = p.normal; interrupt = p.interrupt; nmi = f }
 
 -- the pairs with another one in use in a mode
-abbrev pub withPairOf : FlagPairs → Mode → Flags → FlagPairs
-withPairOf p Normal f = record { normal = f; interrupt = p.interrupt; nmi = p.nmi }
-withPairOf p Interrupt f = record { normal = p.normal; interrupt = f; nmi = p.nmi }
-withPairOf p Reset f = withNmi p f
-withPairOf p NmiOverNormal f = withNmi p f
-withPairOf p NmiOverInterrupt f = withNmi p f
+abbrev pub with_pair_of : FlagPairs → Mode → Flags → FlagPairs
+with_pair_of p Normal f = record { normal = f; interrupt = p.interrupt; nmi = p.nmi }
+with_pair_of p Interrupt f = record { normal = p.normal; interrupt = f; nmi = p.nmi }
+with_pair_of p Reset f = with_nmi p f
+with_pair_of p NmiOverNormal f = with_nmi p f
+with_pair_of p NmiOverInterrupt f = with_nmi p f

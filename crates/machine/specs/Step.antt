@@ -5,26 +5,26 @@ use Rattle.machine.specs.declared.Machine.{Machine}
 use Rattle.machine.specs.declared.Stepped.{Stepped}
 use Rattle.machine.specs.declared.StepProgress.{StepProgress}
 use Rattle.machine.specs.State.{machine_of}
-pub use Rattle.machine.specs.Advance.{answer_of, Step, done_of, refusedOf}
-pub use Rattle.machine.specs.Actions.{enabledOf, requestedAction}
-unfoldable pub use Rattle.machine.specs.Actions.{unrequestedAction, dueOf, actionOf}
+pub use Rattle.machine.specs.Advance.{answer_of, Step, done_of, refused_of}
+pub use Rattle.machine.specs.Actions.{enabled_of, requested_action}
+unfoldable pub use Rattle.machine.specs.Actions.{unrequested_action, due_of, action_of}
 unfoldable pub use Rattle.machine.specs.Advance.{
-  takenBy,
+  taken_by,
   taken_of,
-  completedOf,
-  executedOf,
-  actedOf,
-  advancedOf,
+  completed_of,
+  executed_of,
+  acted_of,
+  advanced_of,
 }
 
-abbrev pub steppedOf : Stepped → Step
-steppedOf r = record { machine = r.machine; answer = answer_of r.report.answer }
+abbrev pub stepped_of : Stepped → Step
+stepped_of r = record { machine = r.machine; answer = answer_of r.report.answer }
 
 -- the program's answer on lent parts, with the bytes and the stack that it was lent
-abbrev pub stepProgressAs : (bytes stack : List ℕ) → StepProgress → Step
-stepProgressAs bytes stack r =
+abbrev pub step_progress_as : (bytes stack : List ℕ) → StepProgress → Step
+step_progress_as bytes stack r =
     record { machine = machine_of r.control stack r.flags bytes; answer = answer_of r.report.answer }
 
 -- what comes of the action that is due, or of the refusal
 unfoldable pub step_of : (image : List ℕ) → Machine → (request : ℕ) → Step
-step_of image m request = actedOf (program_of image m.bytes) m (actionOf image m request)
+step_of image m request = acted_of (program_of image m.bytes) m (action_of image m request)

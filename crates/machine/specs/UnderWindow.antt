@@ -3,11 +3,11 @@
 use Rattle.std.specs.Prelude.{ℕ, ◌≡◌, List}
 use Rattle.data.specs.UnderWindow.{SameButUnder, SameUnder}
 use Rattle.machine.specs.declared.Machine.{Machine}
-use Rattle.machine.specs.State.{HostStore, resetOf, hostStoreOf}
+use Rattle.machine.specs.State.{HostStore, reset_of, host_store_of}
 use Rattle.machine.specs.Step.{Step, step_of}
 use Rattle.machine.specs.Run.{Run, run_of}
 use Rattle.machine.specs.Reading.{reading_of}
-use Rattle.machine.specs.Operands.{stepReadOf}
+use Rattle.machine.specs.Operands.{step_read_of}
 
 -- two machines agree but for the bytes under the window
 pub record AlikeButUnder (m m' : Machine) : Type 0 where
@@ -39,27 +39,27 @@ KeptUnder m n = SameUnder m.bytes n.bytes
 -- afterwards
 -- proved by never-looked-at, proofs/UnderWindow
 pub record NeverLookedAt : Type 0 where
-  pub by-step :
+  pub by_step :
       (image : List ℕ) (m m' : Machine) (request : ℕ) → AlikeButUnder m m' →
       SteppedAlike (step_of image m request) (step_of image m' request)
   -- .. and the same origin is told
-  pub by-telling :
+  pub by_telling :
       (image : List ℕ) (m m' : Machine) (request : ℕ) → AlikeButUnder m m' →
-      stepReadOf image m request ≡ stepReadOf image m' request
-  pub by-run :
+      step_read_of image m request ≡ step_read_of image m' request
+  pub by_run :
       (image : List ℕ) (m m' : Machine) (requests : List ℕ) (n : ℕ) → AlikeButUnder m m' →
       RanAlike (run_of image m requests n) (run_of image m' requests n)
-  pub by-store :
-      (m m' : Machine) (a value : ℕ) → AlikeButUnder m m' → StoredAlike (hostStoreOf m a value) (hostStoreOf m' a value)
-  pub by-reading :
+  pub by_store :
+      (m m' : Machine) (a value : ℕ) → AlikeButUnder m m' → StoredAlike (host_store_of m a value) (host_store_of m' a value)
+  pub by_reading :
       (image : List ℕ) (m m' : Machine) (a : ℕ) → AlikeButUnder m m' → reading_of image m a ≡ reading_of image m' a
-  pub by-reset : (m m' : Machine) → AlikeButUnder m m' → AlikeButUnder (resetOf m) (resetOf m')
+  pub by_reset : (m m' : Machine) → AlikeButUnder m m' → AlikeButUnder (reset_of m) (reset_of m')
 
 -- .. and never change; reset keeps them too, as "other data"
 -- proved by never-changed, proofs/UnderWindow
 pub record NeverChanged : Type 0 where
-  pub by-step : (image : List ℕ) (m : Machine) (request : ℕ) → KeptUnder m (step_of image m request).machine
-  pub by-run :
+  pub by_step : (image : List ℕ) (m : Machine) (request : ℕ) → KeptUnder m (step_of image m request).machine
+  pub by_run :
       (image : List ℕ) (m : Machine) (requests : List ℕ) (n : ℕ) → KeptUnder m (run_of image m requests n).machine
-  pub by-store : (m : Machine) (a value : ℕ) → KeptUnder m (hostStoreOf m a value).machine
-  pub by-reset : (m : Machine) → KeptUnder m (resetOf m)
+  pub by_store : (m : Machine) (a value : ℕ) → KeptUnder m (host_store_of m a value).machine
+  pub by_reset : (m : Machine) → KeptUnder m (reset_of m)

@@ -1,11 +1,11 @@
 // What a step is about to do.
 ghost use Rattle.std.specs.Prelude.{◌≡◌, List, ℕ, ◌<◌};
 ghost use Rattle.isa.specs.Rom.{IsImage};
-ghost use Rattle.isa.specs.Decode.{decodeAt};
+ghost use Rattle.isa.specs.Decode.{decode_at};
 ghost use Rattle.data.specs.Space.{program_of};
 ghost use Rattle.machine.specs.declared.FlagPairs.{FlagPairs};
 ghost use Rattle.machine.specs.State.{machine_of};
-ghost use Rattle.machine.specs.Actions.{actionAs, decodedAction, dueOf, requestIn};
+ghost use Rattle.machine.specs.Actions.{action_as, decoded_action, due_of, request_in};
 
 use crate::Action;
 use crate::advance::is_enabled;
@@ -19,8 +19,8 @@ use isa::table::timings;
 // The instruction at PC, or why there is none.
 fn at_pc(image: &[u8], bytes: &[u8; 256], c: Control) -> Action
     requires { IsImage image.now × (c.pc < 4096) }
-    ensures { actionAs result
-        ≡ decodedAction (decodeAt (program_of image.now bytes.now) c.pc) }
+    ensures { action_as result
+        ≡ decoded_action (decode_at (program_of image.now bytes.now) c.pc) }
 {
     let table = timings();
     match decode_in_range(&table, image, bytes[BANK], c.pc) {
@@ -40,8 +40,8 @@ fn at_pc(image: &[u8], bytes: &[u8; 256], c: Control) -> Action
 // Where 1, 2 and 11 do not apply: a request, sleep, or the instruction at PC.
 pub fn due(image: &[u8], bytes: &[u8; 256], c: Control, request: u8) -> Action
     requires { IsImage image.now × (c.pc < 4096) }
-    ensures { (stack : List ℕ) (flags : FlagPairs) → actionAs result
-        ≡ dueOf (program_of image.now bytes.now)
+    ensures { (stack : List ℕ) (flags : FlagPairs) → action_as result
+        ≡ due_of (program_of image.now bytes.now)
         (machine_of c stack flags bytes.now) request }
 {
     let mode = c.mode;
@@ -58,7 +58,7 @@ pub fn due(image: &[u8], bytes: &[u8; 256], c: Control, request: u8) -> Action
 
 // The request that an action takes, if any.
 pub fn request_in(action: Action) -> Requested
-    ensures { result ≡ requestIn (actionAs action) }
+    ensures { result ≡ request_in (action_as action) }
 {
     match action {
         Action::Takes(source) => Requested::Taken(source),

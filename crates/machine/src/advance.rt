@@ -4,10 +4,10 @@ ghost use Rattle.std.specs.Prelude.{◌≡◌, List, ℕ};
 ghost use Rattle.isa.specs.Refusals.{numbered};
 ghost use Rattle.control.specs.declared.Mode.{Mode};
 ghost use Rattle.machine.specs.declared.FlagPairs.{FlagPairs};
-ghost use Rattle.machine.specs.Pairs.{withPairOf};
+ghost use Rattle.machine.specs.Pairs.{with_pair_of};
 ghost use Rattle.machine.specs.State.{machine_of};
-ghost use Rattle.machine.specs.Actions.{enabledOf};
-ghost use Rattle.machine.specs.Advance.{advancedAs, done_of, refusedOf, taken_of};
+ghost use Rattle.machine.specs.Actions.{enabled_of};
+ghost use Rattle.machine.specs.Advance.{advanced_as, done_of, refused_of, taken_of};
 
 use crate::{Advanced, StepAnswer};
 use alu::Flags;
@@ -18,8 +18,8 @@ use isa::{Refusal, Source};
 
 // A completed step.
 pub fn done(control: Control, flags: Flags, cycles: u8) -> Advanced
-    ensures { (bytes stack : List ℕ) (pairs : FlagPairs) (mode : Mode) → advancedAs pairs mode bytes stack result
-        ≡ done_of (machine_of control stack (withPairOf pairs mode flags) bytes) cycles }
+    ensures { (bytes stack : List ℕ) (pairs : FlagPairs) (mode : Mode) → advanced_as pairs mode bytes stack result
+        ≡ done_of (machine_of control stack (with_pair_of pairs mode flags) bytes) cycles }
 {
     Advanced {
         control,
@@ -30,8 +30,8 @@ pub fn done(control: Control, flags: Flags, cycles: u8) -> Advanced
 
 // A stop: control and flags as they were.
 pub fn stopped(control: Control, flags: Flags, reason: Refusal) -> Advanced
-    ensures { (bytes stack : List ℕ) (pairs : FlagPairs) (mode : Mode) → advancedAs pairs mode bytes stack result
-        ≡ refusedOf (machine_of control stack (withPairOf pairs mode flags) bytes) (numbered reason) }
+    ensures { (bytes stack : List ℕ) (pairs : FlagPairs) (mode : Mode) → advanced_as pairs mode bytes stack result
+        ≡ refused_of (machine_of control stack (with_pair_of pairs mode flags) bytes) (numbered reason) }
 {
     Advanced {
         control,
@@ -42,8 +42,8 @@ pub fn stopped(control: Control, flags: Flags, reason: Refusal) -> Advanced
 
 // A request is taken, in one cycle: a stop on six levels gives PC.
 pub fn taken(stack: &mut [u16; 6], c: Control, flags: Flags, source: Source) -> Advanced
-    ensures { (bytes : List ℕ) (pairs : FlagPairs) → advancedAs pairs c.mode bytes stack.new result
-        ≡ taken_of (machine_of c stack.old (withPairOf pairs c.mode flags) bytes) source }
+    ensures { (bytes : List ℕ) (pairs : FlagPairs) → advanced_as pairs c.mode bytes stack.new result
+        ≡ taken_of (machine_of c stack.old (with_pair_of pairs c.mode flags) bytes) source }
 {
     let moved = take(stack, c, source);
     let control = moved.control;
@@ -57,7 +57,7 @@ pub fn taken(stack: &mut [u16; 6], c: Control, flags: Flags, source: Source) -> 
 
 // Bit 4 of 0C8h enables sources 1 to 4: of the byte stored there, which a program cannot read.
 pub fn is_enabled(bytes: &[u8; 256]) -> bool
-    ensures { result ≡ enabledOf bytes.now }
+    ensures { result ≡ enabled_of bytes.now }
 {
     alu::bit(bytes[INTERRUPT_OPTION], 4)
 }

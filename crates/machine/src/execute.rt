@@ -3,9 +3,9 @@ ghost use Rattle.std.specs.Prelude.{◌≡◌, List, ℕ};
 ghost use Rattle.isa.specs.Rom.{IsImage};
 ghost use Rattle.data.specs.Space.{program_of};
 ghost use Rattle.data.specs.Effect.{data_of, effect_of};
-ghost use Rattle.control.specs.Stack.{transferOf, goesOn};
-ghost use Rattle.control.specs.Update.{withPc};
-ghost use Rattle.machine.specs.Execute.{executionOf, executionBy, executeOf};
+ghost use Rattle.control.specs.Stack.{transfer_of, goes_on};
+ghost use Rattle.control.specs.Update.{with_pc};
+ghost use Rattle.machine.specs.Execute.{execution_of, execution_by, execute_of};
 
 use crate::Executed;
 use alu::Flags;
@@ -17,8 +17,8 @@ use isa::displacement::{long_target, short_target};
 
 // Control goes on.
 pub fn goes_on(control: Control, flags: Flags) -> Executed
-    ensures { (bytes stack : List ℕ) → executionOf bytes stack result
-        ≡ executionBy (data_of bytes flags) (goesOn stack control) }
+    ensures { (bytes stack : List ℕ) → execution_of bytes stack result
+        ≡ execution_by (data_of bytes flags) (goes_on stack control) }
 {
     Executed {
         control,
@@ -29,8 +29,8 @@ pub fn goes_on(control: Control, flags: Flags) -> Executed
 
 // Control is transferred by way of the stack.
 pub fn transferred(t: Transfer, flags: Flags) -> Executed
-    ensures { (bytes stack : List ℕ) → executionOf bytes stack result
-        ≡ executionBy (data_of bytes flags) (transferOf stack t) }
+    ensures { (bytes stack : List ℕ) → execution_of bytes stack result
+        ≡ execution_by (data_of bytes flags) (transfer_of stack t) }
 {
     let control = t.control;
     let stop = t.stop;
@@ -51,10 +51,10 @@ fn on_data(
     next: u16,
 ) -> Executed
     requires { IsImage image.now }
-    ensures { (stack : List ℕ) → executionOf bytes.new stack result
-        ≡ executionBy
+    ensures { (stack : List ℕ) → execution_of bytes.new stack result
+        ≡ execution_by
         (effect_of (program_of image.now bytes.old) (data_of bytes.old flags) instruction)
-        (goesOn stack (withPc c next)) }
+        (goes_on stack (with_pc c next)) }
 {
     let after = data::effect::effect(image, bytes, flags, instruction);
     goes_on(c.with_pc(next), after)
@@ -71,8 +71,8 @@ pub fn execute(
     next: u16,
 ) -> Executed
     requires { IsImage image.now }
-    ensures { executionOf bytes.new stack.new result
-        ≡ executeOf (program_of image.now bytes.old) (data_of bytes.old flags)
+    ensures { execution_of bytes.new stack.new result
+        ≡ execute_of (program_of image.now bytes.old) (data_of bytes.old flags)
         stack.old c instruction next }
 {
     match instruction {

@@ -2,16 +2,16 @@
 // the steps of a run. Each match here is on what one match makes of the number, so that both become one jump; and the
 // length is a constant of the arm, so that the next address does not wait for the number.
 ghost use Rattle.std.specs.Prelude.{◌≡◌, List, ℕ, ◌%◌, ◌<◌, ◌≤◌};
-ghost use Rattle.isa.specs.Displacement.{forwardOf, shortTarget, longTarget};
-ghost use Rattle.isa.specs.Lengths.{lengthWith, length_of};
-ghost use Rattle.isa.specs.Predecoded.{instructionOfWord};
+ghost use Rattle.isa.specs.Displacement.{forward_of, short_target, long_target};
+ghost use Rattle.isa.specs.Lengths.{length_with, length_of};
+ghost use Rattle.isa.specs.Predecoded.{instruction_of_word};
 ghost use Rattle.isa.specs.Rom.{IsImage};
 ghost use Rattle.data.specs.Space.{program_of};
 ghost use Rattle.data.specs.Effect.{data_of, effect_of};
-ghost use Rattle.control.specs.Stack.{goesOn};
-ghost use Rattle.control.specs.Transfers.{branchOf};
-ghost use Rattle.control.specs.Update.{withPc};
-ghost use Rattle.machine.specs.Execute.{executionOf, executionBy, executeOf};
+ghost use Rattle.control.specs.Stack.{goes_on};
+ghost use Rattle.control.specs.Transfers.{branch_of};
+ghost use Rattle.control.specs.Update.{with_pc};
+ghost use Rattle.machine.specs.Execute.{execution_of, execution_by, execute_of};
 
 use crate::Executed;
 use crate::execute::{goes_on, transferred};
@@ -31,8 +31,8 @@ use isa::{Instruction, Operand};
 
 // Goes on past an instruction of this length.
 fn past(c: Control, length: u8, flags: Flags) -> Executed
-    ensures { (bytes stack : List ℕ) → executionOf bytes stack result
-        ≡ executionBy (data_of bytes flags) (goesOn stack (withPc c (forwardOf c.pc length))) }
+    ensures { (bytes stack : List ℕ) → execution_of bytes stack result
+        ≡ execution_by (data_of bytes flags) (goes_on stack (with_pc c (forward_of c.pc length))) }
 {
     let next = forward(c.pc, length);
     goes_on(c.with_pc(next), flags)
@@ -40,17 +40,17 @@ fn past(c: Control, length: u8, flags: Flags) -> Executed
 
 // Goes on past an instruction on a data operand.
 fn past_on(c: Control, operand: Operand, flags: Flags) -> Executed
-    ensures { (bytes stack : List ℕ) → executionOf bytes stack result
-        ≡ executionBy (data_of bytes flags) (goesOn stack (withPc c (forwardOf c.pc (lengthWith operand)))) }
+    ensures { (bytes stack : List ℕ) → execution_of bytes stack result
+        ≡ execution_by (data_of bytes flags) (goes_on stack (with_pc c (forward_of c.pc (length_with operand)))) }
 {
     past(c, length_with(operand), flags)
 }
 
 // A jump on a flag.
 fn short(c: Control, jumps: bool, d: i8, flags: Flags) -> Executed
-    ensures { (bytes stack : List ℕ) → executionOf bytes stack result
-        ≡ executionBy (data_of bytes flags)
-        (goesOn stack (branchOf c jumps (shortTarget c.pc d) (forwardOf c.pc 1))) }
+    ensures { (bytes stack : List ℕ) → execution_of bytes stack result
+        ≡ execution_by (data_of bytes flags)
+        (goes_on stack (branch_of c jumps (short_target c.pc d) (forward_of c.pc 1))) }
 {
     goes_on(
         branch(c, jumps, short_target(c.pc, d), forward(c.pc, 1)),
@@ -60,9 +60,9 @@ fn short(c: Control, jumps: bool, d: i8, flags: Flags) -> Executed
 
 // A jump on a bit.
 fn long(c: Control, jumps: bool, d: i8, flags: Flags) -> Executed
-    ensures { (bytes stack : List ℕ) → executionOf bytes stack result
-        ≡ executionBy (data_of bytes flags)
-        (goesOn stack (branchOf c jumps (longTarget c.pc d) (forwardOf c.pc 3))) }
+    ensures { (bytes stack : List ℕ) → execution_of bytes stack result
+        ≡ execution_by (data_of bytes flags)
+        (goes_on stack (branch_of c jumps (long_target c.pc d) (forward_of c.pc 3))) }
 {
     goes_on(
         branch(c, jumps, long_target(c.pc, d), forward(c.pc, 3)),
@@ -80,9 +80,9 @@ fn on_transfer(
     word: u64,
 ) -> Executed
     requires { IsImage image.now × (word % 256 < 12) }
-    ensures { executionOf bytes.now stack.new result
-        ≡ executeOf (program_of image.now bytes.now) (data_of bytes.now flags)
-        stack.old c (instructionOfWord word) (forwardOf c.pc (length_of (instructionOfWord word))) }
+    ensures { execution_of bytes.now stack.new result
+        ≡ execute_of (program_of image.now bytes.now) (data_of bytes.now flags)
+        stack.old c (instruction_of_word word) (forward_of c.pc (length_of (instruction_of_word word))) }
 {
     match transfer_in(word) {
         Instruction::Jrnz(d) => short(c, !flags.zero, d, flags),
@@ -118,11 +118,11 @@ fn on_operation(
     word: u64,
 ) -> Executed
     requires { IsImage image.now × (12 ≤ word % 256) }
-    ensures { (stack : List ℕ) → executionOf bytes.new stack result
-        ≡ executionBy
+    ensures { (stack : List ℕ) → execution_of bytes.new stack result
+        ≡ execution_by
         (effect_of (program_of image.now bytes.old) (data_of bytes.old flags)
-        (instructionOfWord word))
-        (goesOn stack (withPc c (forwardOf c.pc (length_of (instructionOfWord word))))) }
+        (instruction_of_word word))
+        (goes_on stack (with_pc c (forward_of c.pc (length_of (instruction_of_word word))))) }
 {
     let carry = flags.carry;
     let x = bytes[X];
@@ -169,9 +169,9 @@ pub fn execute_word(
     word: u64,
 ) -> Executed
     requires { IsImage image.now }
-    ensures { executionOf bytes.new stack.new result
-        ≡ executeOf (program_of image.now bytes.old) (data_of bytes.old flags)
-        stack.old c (instructionOfWord word) (forwardOf c.pc (length_of (instructionOfWord word))) }
+    ensures { execution_of bytes.new stack.new result
+        ≡ execute_of (program_of image.now bytes.old) (data_of bytes.old flags)
+        stack.old c (instruction_of_word word) (forward_of c.pc (length_of (instruction_of_word word))) }
 {
     if is_transfer(word) {
         return on_transfer(image, bytes, stack, c, flags, word);

@@ -4,8 +4,8 @@
 ghost use Rattle.std.specs.Prelude.{◌≡◌, ◌<◌, ◌≤◌, length};
 ghost use Rattle.isa.specs.Table.{Timings};
 ghost use Rattle.isa.specs.Rom.{IsImage, space_of};
-ghost use Rattle.isa.specs.Decode.{decodeOf};
-ghost use Rattle.machine.specs.Fetch.{fetchedAs, Coherent};
+ghost use Rattle.isa.specs.Decode.{decode_of};
+ghost use Rattle.machine.specs.Fetch.{fetched_as, Coherent};
 
 use crate::Fetched;
 use isa::Decoded;
@@ -32,7 +32,7 @@ fn decoded(
 ) -> Fetched
     requires { Timings table.now × IsImage image.now × (address < 4096)
         × (at < length store.old) × Coherent image.now store.old }
-    ensures { (fetchedAs result ≡ decodeOf (space_of image.now bank) address)
+    ensures { (fetched_as result ≡ decode_of (space_of image.now bank) address)
         × Coherent image.now store.new }
 {
     match decode_in_range(table, image, bank, address) {
@@ -53,7 +53,7 @@ fn decoded(
 pub fn fetch(table: &[u8; 256], image: &[u8], store: &mut [u64], bank: u8, address: u16) -> Fetched
     requires { Timings table.now × IsImage image.now × (address < 4096)
         × (0 < length store.old) × Coherent image.now store.old }
-    ensures { (fetchedAs result ≡ decodeOf (space_of image.now bank) address)
+    ensures { (fetched_as result ≡ decode_of (space_of image.now bank) address)
         × Coherent image.now store.new }
 {
     let at = slot(store, bank, address);

@@ -1,13 +1,13 @@
 // The flag pair of a mode.
 ghost use Rattle.std.specs.Prelude.{◌≡◌};
-ghost use Rattle.machine.specs.Pairs.{isNormal, isInterrupt, pair_of, withPairOf};
+ghost use Rattle.machine.specs.Pairs.{is_normal, is_interrupt, pair_of, with_pair_of};
 
 use crate::FlagPairs;
 use alu::Flags;
 use control::Mode;
 
 fn is_normal(mode: Mode) -> bool
-    ensures { result ≡ isNormal mode }
+    ensures { result ≡ is_normal mode }
 {
     match mode {
         Mode::Reset => false,
@@ -19,7 +19,7 @@ fn is_normal(mode: Mode) -> bool
 }
 
 fn is_interrupt(mode: Mode) -> bool
-    ensures { result ≡ isInterrupt mode }
+    ensures { result ≡ is_interrupt mode }
 {
     match mode {
         Mode::Reset => false,
@@ -45,7 +45,7 @@ pub fn pair(pairs: FlagPairs, mode: Mode) -> Flags
 
 // The pairs with another one in use in a mode.
 pub fn with_pair(pairs: FlagPairs, mode: Mode, flags: Flags) -> FlagPairs
-    ensures { result ≡ withPairOf pairs mode flags }
+    ensures { result ≡ with_pair_of pairs mode flags }
 {
     let normal = pairs.normal;
     let interrupt = pairs.interrupt;

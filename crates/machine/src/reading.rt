@@ -1,6 +1,6 @@
 // Reading a data byte of a machine, with its origin.
 ghost use Rattle.std.specs.Prelude.{◌≡◌};
-ghost use Rattle.machine.specs.Reading.{readAnswerOf, reading_of};
+ghost use Rattle.machine.specs.Reading.{read_answer_of, reading_of};
 
 use crate::{Machine, ReadAnswer};
 use control::well_formed::is_well_formed;
@@ -10,7 +10,7 @@ use isa::rom::is_image_length;
 
 // Refuses with 1, then 2.
 pub fn read(image: &[u8], m: Machine, address: u8) -> ReadAnswer
-    ensures { readAnswerOf result ≡ reading_of image.now m address }
+    ensures { read_answer_of result ≡ reading_of image.now m address }
 {
     if !is_image_length(image.len()) {
         return ReadAnswer::Refused(Refusal::ImageLength);

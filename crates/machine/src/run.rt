@@ -2,8 +2,8 @@
 ghost use Rattle.std.specs.Prelude.{◌≡◌, List, ℕ};
 ghost use Rattle.isa.specs.Refusals.{numbered};
 ghost use Rattle.machine.specs.State.{machine_of};
-ghost use Rattle.machine.specs.Steps.{ranOf, progressAs, requestsFit};
-ghost use Rattle.machine.specs.Run.{refusedRun, run_of};
+ghost use Rattle.machine.specs.Steps.{ran_of, progress_as, requests_fit};
+ghost use Rattle.machine.specs.Run.{refused_run, run_of};
 
 use crate::steps::{by_store, request_at};
 use crate::{Ending, FlagPairs, Machine, Progress, Ran, Report};
@@ -18,7 +18,7 @@ const MOST_STEPS: u32 = 65535;
 
 // Whether the first n request bytes name nothing but sources.
 fn first_fit(requests: &[u8], n: u32) -> bool
-    ensures { result ≡ requestsFit requests.now n }
+    ensures { result ≡ requests_fit requests.now n }
 {
     for i in 0..n {
         if !names_only_sources(request_at(requests, i)) {
@@ -30,7 +30,7 @@ fn first_fit(requests: &[u8], n: u32) -> bool
 
 // The same without a look past the list's end, where there are no requests.
 fn requests_fit(requests: &[u8], n: u32) -> bool
-    ensures { result ≡ requestsFit requests.now n }
+    ensures { result ≡ requests_fit requests.now n }
 {
     let count = requests.len();
     if (n as usize) < count {
@@ -41,7 +41,7 @@ fn requests_fit(requests: &[u8], n: u32) -> bool
 
 fn refused_run(control: Control, flags: FlagPairs, reason: Refusal) -> Progress
     ensures { (bytes stack : List ℕ)
-        → progressAs bytes stack result ≡ refusedRun (machine_of control stack flags bytes) (numbered reason) }
+        → progress_as bytes stack result ≡ refused_run (machine_of control stack flags bytes) (numbered reason) }
 {
     Progress {
         control,
@@ -64,7 +64,7 @@ pub fn run_lent(
     requests: &[u8],
     n: u32,
 ) -> Progress
-    ensures { progressAs bytes.new stack.new result
+    ensures { progress_as bytes.new stack.new result
         ≡ run_of image.now (machine_of c stack.old flags bytes.old)
         requests.now n }
 {
@@ -85,7 +85,7 @@ pub fn run_lent(
 
 // A run of n steps of a machine.
 pub fn run(image: &[u8], m: Machine, requests: &[u8], n: u32) -> Ran
-    ensures { ranOf result ≡ run_of image.now m requests.now n }
+    ensures { ran_of result ≡ run_of image.now m requests.now n }
 {
     let mut bytes = m.bytes;
     let mut stack = m.stack;

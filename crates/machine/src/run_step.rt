@@ -2,15 +2,15 @@
 ghost use Rattle.std.specs.Prelude.{◌≡◌, ◌<◌, length};
 ghost use Rattle.isa.specs.Table.{Timings};
 ghost use Rattle.isa.specs.Lengths.{length_of};
-ghost use Rattle.isa.specs.Predecoded.{instructionOfWord, cyclesOfWord};
+ghost use Rattle.isa.specs.Predecoded.{instruction_of_word, cycles_of_word};
 ghost use Rattle.isa.specs.Rom.{IsImage};
 ghost use Rattle.data.specs.Space.{program_of};
 ghost use Rattle.machine.specs.declared.FlagPairs.{FlagPairs};
-ghost use Rattle.machine.specs.Pairs.{withPairOf};
+ghost use Rattle.machine.specs.Pairs.{with_pair_of};
 ghost use Rattle.machine.specs.Fetch.{Coherent, InPlace};
 ghost use Rattle.machine.specs.State.{machine_of};
-ghost use Rattle.machine.specs.Actions.{unrequestedAction};
-ghost use Rattle.machine.specs.Advance.{advancedAs, executedOf, actedOf, advancedOf};
+ghost use Rattle.machine.specs.Actions.{unrequested_action};
+ghost use Rattle.machine.specs.Advance.{advanced_as, executed_of, acted_of, advanced_of};
 
 use crate::advance::{done, is_enabled, stopped, taken};
 use crate::execute_word::execute_word;
@@ -33,10 +33,10 @@ fn executed(
     word: u64,
 ) -> Advanced
     requires { IsImage image.now }
-    ensures { (pairs : FlagPairs) → advancedAs pairs c.mode bytes.new stack.new result
-        ≡ executedOf (program_of image.now bytes.old)
-        (machine_of c stack.old (withPairOf pairs c.mode flags) bytes.old)
-        (instructionOfWord word) (length_of (instructionOfWord word)) (cyclesOfWord word) }
+    ensures { (pairs : FlagPairs) → advanced_as pairs c.mode bytes.new stack.new result
+        ≡ executed_of (program_of image.now bytes.old)
+        (machine_of c stack.old (with_pair_of pairs c.mode flags) bytes.old)
+        (instruction_of_word word) (length_of (instruction_of_word word)) (cycles_of_word word) }
 {
     let after = execute_word(image, bytes, stack, c, flags, word);
     let stop = after.stop;
@@ -63,10 +63,10 @@ fn uninterrupted(
 ) -> Advanced
     requires { Timings table.now × IsImage image.now × (c.pc < 4096) × (0 < length store.old)
         × Coherent image.now store.old × InPlace image.now bytes.old page }
-    ensures { ((pairs : FlagPairs) → advancedAs pairs c.mode bytes.new stack.new result
-        ≡ actedOf (program_of image.now bytes.old)
-        (machine_of c stack.old (withPairOf pairs c.mode flags) bytes.old)
-        (unrequestedAction (program_of image.now bytes.old) c))
+    ensures { ((pairs : FlagPairs) → advanced_as pairs c.mode bytes.new stack.new result
+        ≡ acted_of (program_of image.now bytes.old)
+        (machine_of c stack.old (with_pair_of pairs c.mode flags) bytes.old)
+        (unrequested_action (program_of image.now bytes.old) c))
         × Coherent image.now store.new }
 {
     if c.asleep {
@@ -92,9 +92,9 @@ pub fn advance(
 ) -> Advanced
     requires { Timings table.now × IsImage image.now × (c.pc < 4096) × (0 < length store.old)
         × Coherent image.now store.old × InPlace image.now bytes.old page }
-    ensures { ((pairs : FlagPairs) → advancedAs pairs c.mode bytes.new stack.new result
-        ≡ advancedOf (program_of image.now bytes.old)
-        (machine_of c stack.old (withPairOf pairs c.mode flags) bytes.old) request)
+    ensures { ((pairs : FlagPairs) → advanced_as pairs c.mode bytes.new stack.new result
+        ≡ advanced_of (program_of image.now bytes.old)
+        (machine_of c stack.old (with_pair_of pairs c.mode flags) bytes.old) request)
         × Coherent image.now store.new }
 {
     let mode = c.mode;

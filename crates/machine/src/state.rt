@@ -2,14 +2,14 @@
 ghost use Rattle.std.specs.Prelude.{◌≡◌};
 ghost use Rattle.isa.specs.Refusals.{numbered, done, refused};
 ghost use Rattle.machine.specs.State.{
-  withByte,
-  storedOf,
-  resetControl,
-  clearedPairs,
-  resetOf,
+  with_byte,
+  stored_of,
+  reset_control,
+  cleared_pairs,
+  reset_of,
   fresh_of,
-  hostStored,
-  hostStoreOf,
+  host_stored,
+  host_store_of,
 };
 
 use crate::{Ending, FlagPairs, Machine, Stored};
@@ -22,7 +22,7 @@ use isa::sources::RESET_VECTOR;
 
 // Control after reset.
 fn reset_control() -> Control
-    ensures { result ≡ resetControl }
+    ensures { result ≡ reset_control }
 {
     Control {
         pc: RESET_VECTOR,
@@ -34,7 +34,7 @@ fn reset_control() -> Control
 
 // Six flags cleared.
 fn cleared_pairs() -> FlagPairs
-    ensures { result ≡ clearedPairs }
+    ensures { result ≡ cleared_pairs }
 {
     let cleared = Flags {
         zero: false,
@@ -50,7 +50,7 @@ fn cleared_pairs() -> FlagPairs
 // Reset keeps all data but 0C8h, 0C9h and 0CAh. The slots of the stack are cleared too, so that a fresh machine is one
 // value.
 pub fn reset(m: Machine) -> Machine
-    ensures { result ≡ resetOf m }
+    ensures { result ≡ reset_of m }
 {
     let mut bytes = m.bytes;
     bytes[INTERRUPT_OPTION] = 0;
@@ -77,7 +77,7 @@ pub fn fresh() -> Machine
 }
 
 fn stored(m: Machine, address: u8, value: u8) -> Stored
-    ensures { storedOf result ≡ hostStored (withByte m address value) (done tt) }
+    ensures { stored_of result ≡ host_stored (with_byte m address value) (done tt) }
 {
     let control = m.control;
     let flags = m.flags;
@@ -96,7 +96,7 @@ fn stored(m: Machine, address: u8, value: u8) -> Stored
 }
 
 fn refused_store(m: Machine, refusal: Refusal) -> Stored
-    ensures { storedOf result ≡ hostStored m (refused (numbered refusal)) }
+    ensures { stored_of result ≡ host_stored m (refused (numbered refusal)) }
 {
     Stored {
         machine: m,
@@ -106,7 +106,7 @@ fn refused_store(m: Machine, refusal: Refusal) -> Stored
 
 // Refuses an ill-formed machine, then an address in the ROM window.
 pub fn host_store(m: Machine, address: u8, value: u8) -> Stored
-    ensures { storedOf result ≡ hostStoreOf m address value }
+    ensures { stored_of result ≡ host_store_of m address value }
 {
     let control = m.control;
     let stack = m.stack;

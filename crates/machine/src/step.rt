@@ -5,12 +5,12 @@ ghost use Rattle.isa.specs.Refusals.{numbered};
 ghost use Rattle.isa.specs.Rom.{IsImage};
 ghost use Rattle.data.specs.declared.OriginRead.TheVariants.{Nothing};
 ghost use Rattle.data.specs.Space.{program_of};
-ghost use Rattle.machine.specs.Pairs.{withPairOf};
+ghost use Rattle.machine.specs.Pairs.{with_pair_of};
 ghost use Rattle.machine.specs.State.{machine_of};
-ghost use Rattle.machine.specs.Actions.{refuses, actionAs, actionOf};
-ghost use Rattle.machine.specs.Advance.{answer_of, advancedAs, refusedOf, executedOf, actedOf};
-ghost use Rattle.machine.specs.Step.{steppedOf, stepProgressAs, step_of};
-ghost use Rattle.machine.specs.Operands.{actionRead, readIfDone, stepReadOf};
+ghost use Rattle.machine.specs.Actions.{refuses, action_as, action_of};
+ghost use Rattle.machine.specs.Advance.{answer_of, advanced_as, refused_of, executed_of, acted_of};
+ghost use Rattle.machine.specs.Step.{stepped_of, step_progress_as, step_of};
+ghost use Rattle.machine.specs.Operands.{action_read, read_if_done, step_read_of};
 
 use crate::actions::due;
 use crate::advance::{done, stopped, taken};
@@ -29,7 +29,7 @@ use isa::{Instruction, Refusal};
 
 // A step that is refused or stops reads no operand.
 fn read_if_done(answer: StepAnswer, read: OriginRead) -> OriginRead
-    ensures { result ≡ readIfDone (answer_of answer) read }
+    ensures { result ≡ read_if_done (answer_of answer) read }
 {
     match answer {
         StepAnswer::Done(_) => read,
@@ -47,8 +47,8 @@ fn ended(
     action: Action,
 ) -> StepProgress
     ensures { ((bytes stack : List ℕ)
-        → stepProgressAs bytes stack result ≡ advancedAs pairs c.mode bytes stack after)
-        × (result.report.read ≡ readIfDone (answer_of result.report.answer) read) × (result.report.action ≡ action) }
+        → step_progress_as bytes stack result ≡ advanced_as pairs c.mode bytes stack after)
+        × (result.report.read ≡ read_if_done (answer_of result.report.answer) read) × (result.report.action ≡ action) }
 {
     let mode = c.mode;
     let control = after.control;
@@ -76,9 +76,9 @@ fn executed(
     cycles: u8,
 ) -> Advanced
     requires { IsImage image.now }
-    ensures { (pairs : FlagPairs) → advancedAs pairs c.mode bytes.new stack.new result
-        ≡ executedOf (program_of image.now bytes.old)
-        (machine_of c stack.old (withPairOf pairs c.mode flags) bytes.old)
+    ensures { (pairs : FlagPairs) → advanced_as pairs c.mode bytes.new stack.new result
+        ≡ executed_of (program_of image.now bytes.old)
+        (machine_of c stack.old (with_pair_of pairs c.mode flags) bytes.old)
         instruction length cycles }
 {
     let next = forward(c.pc, length);
@@ -103,11 +103,11 @@ fn act(
     action: Action,
 ) -> StepProgress
     requires { IsImage image.now }
-    ensures { (stepProgressAs bytes.new stack.new result
-        ≡ actedOf (program_of image.now bytes.old)
-        (machine_of c stack.old pairs bytes.old) (actionAs action))
-        × (result.report.read ≡ readIfDone (answer_of result.report.answer)
-        (actionRead (program_of image.now bytes.old) bytes.old (actionAs action)))
+    ensures { (step_progress_as bytes.new stack.new result
+        ≡ acted_of (program_of image.now bytes.old)
+        (machine_of c stack.old pairs bytes.old) (action_as action))
+        × (result.report.read ≡ read_if_done (answer_of result.report.answer)
+        (action_read (program_of image.now bytes.old) bytes.old (action_as action)))
         × (result.report.action ≡ action) }
 {
     let mode = c.mode;
@@ -139,8 +139,8 @@ fn act(
 
 fn refused_step(control: Control, flags: FlagPairs, reason: Refusal) -> StepProgress
     ensures { ((bytes stack : List ℕ)
-        → stepProgressAs bytes stack result ≡ refusedOf (machine_of control stack flags bytes) (numbered reason))
-        × (result.report.read ≡ Nothing) × (actionAs result.report.action ≡ refuses (numbered reason)) }
+        → step_progress_as bytes stack result ≡ refused_of (machine_of control stack flags bytes) (numbered reason))
+        × (result.report.read ≡ Nothing) × (action_as result.report.action ≡ refuses (numbered reason)) }
 {
     StepProgress {
         control,
@@ -162,12 +162,12 @@ pub fn step_lent(
     flags: FlagPairs,
     request: u8,
 ) -> StepProgress
-    ensures { (stepProgressAs bytes.new stack.new result
+    ensures { (step_progress_as bytes.new stack.new result
         ≡ step_of image.now (machine_of c stack.old flags bytes.old) request)
         × (result.report.read
-        ≡ stepReadOf image.now (machine_of c stack.old flags bytes.old) request)
-        × (actionAs result.report.action
-        ≡ actionOf image.now (machine_of c stack.old flags bytes.old) request) }
+        ≡ step_read_of image.now (machine_of c stack.old flags bytes.old) request)
+        × (action_as result.report.action
+        ≡ action_of image.now (machine_of c stack.old flags bytes.old) request) }
 {
     if !is_image_length(image.len()) {
         return refused_step(c, flags, Refusal::ImageLength);
@@ -184,9 +184,9 @@ pub fn step_lent(
 
 // One step of a machine, what it read, and what it was about to do.
 pub fn step(image: &[u8], m: Machine, request: u8) -> Stepped
-    ensures { (steppedOf result ≡ step_of image.now m request)
-        × (result.report.read ≡ stepReadOf image.now m request)
-        × (actionAs result.report.action ≡ actionOf image.now m request) }
+    ensures { (stepped_of result ≡ step_of image.now m request)
+        × (result.report.read ≡ step_read_of image.now m request)
+        × (action_as result.report.action ≡ action_of image.now m request) }
 {
     let mut bytes = m.bytes;
     let mut stack = m.stack;

@@ -3,13 +3,13 @@ ghost use Rattle.std.specs.Prelude.{◌≡◌, List, true, ℕ, ◌*◌, ◌≤�
 ghost use Rattle.isa.specs.Table.{Timings};
 ghost use Rattle.isa.specs.Rom.{IsImage};
 ghost use Rattle.isa.specs.Refusals.{done};
-ghost use Rattle.control.specs.Modes.{modeNumber};
-ghost use Rattle.control.specs.WellFormed.{wellFormed};
+ghost use Rattle.control.specs.Modes.{mode_number};
+ghost use Rattle.control.specs.WellFormed.{well_formed};
 ghost use Rattle.machine.specs.Fetch.{Coherent};
-ghost use Rattle.machine.specs.Pairs.{withPairOf};
+ghost use Rattle.machine.specs.Pairs.{with_pair_of};
 ghost use Rattle.machine.specs.State.{machine_of, ended_of};
 ghost use Rattle.machine.specs.declared.Machine.{Machine};
-ghost use Rattle.machine.specs.Steps.{progressAs, partAs, run_at, settled, requestsFit, steps_of};
+ghost use Rattle.machine.specs.Steps.{progress_as, part_as, run_at, settled, requests_fit, steps_of};
 
 use crate::pairs::{pair, with_pair};
 use crate::run_step::advance;
@@ -33,7 +33,7 @@ pub fn request_at(requests: &[u8], i: u32) -> u8
 }
 
 fn progress(control: Control, flags: FlagPairs, steps: u32, cycles: u32, ending: Ending) -> Progress
-    ensures { (bytes stack : List ℕ) → progressAs bytes stack result
+    ensures { (bytes stack : List ℕ) → progress_as bytes stack result
         ≡ run_at (machine_of control stack flags bytes) steps cycles (ended_of ending) }
 {
     Progress {
@@ -48,8 +48,8 @@ fn progress(control: Control, flags: FlagPairs, steps: u32, cycles: u32, ending:
 }
 
 fn part(control: Control, flags: Flags, steps: u32, cycles: u32, ending: Ending) -> Part
-    ensures { ((bytes stack : List ℕ) (pairs : FlagPairs) (mode : Mode) → partAs pairs mode bytes stack result
-        ≡ run_at (machine_of control stack (withPairOf pairs mode flags) bytes) steps cycles (ended_of ending))
+    ensures { ((bytes stack : List ℕ) (pairs : FlagPairs) (mode : Mode) → part_as pairs mode bytes stack result
+        ≡ run_at (machine_of control stack (with_pair_of pairs mode flags) bytes) steps cycles (ended_of ending))
         × (result.report.steps ≡ steps) × (result.report.cycles ≡ cycles) × (result.report.ending ≡ ending) }
 {
     Part {
@@ -65,7 +65,7 @@ fn part(control: Control, flags: Flags, steps: u32, cycles: u32, ending: Ending)
 
 // Whether the steps from the i-th on have the same bank byte and mode as those before.
 fn stays(bytes: &[u8; 256], bank: u8, mode: Mode, before: u8, i: u32, n: u32) -> bool
-    ensures { result ≡ true → (i < n) × (modeNumber mode ≡ before) × (get_or bytes.now 0xCA 0 ≡ bank) }
+    ensures { result ≡ true → (i < n) × (mode_number mode ≡ before) × (get_or bytes.now 0xCA 0 ≡ bank) }
 {
     if n <= i {
         return false;
@@ -92,12 +92,12 @@ fn steps_in_mode(
     n: u32,
 ) -> Part
     requires { (n ≤ 65535) × (first < n) × (spent ≤ 255 * first) × Timings table.now × IsImage image.now
-        × (wellFormed stack.old start ≡ true) × (requestsFit requests.now n ≡ true) × (0 < length store.old)
+        × (well_formed stack.old start ≡ true) × (requests_fit requests.now n ≡ true) × (0 < length store.old)
         × Coherent image.now store.old }
     ensures { ((pairs : FlagPairs) (m : Machine)
-        → run_at (machine_of start stack.old (withPairOf pairs start.mode pair) bytes.old)
+        → run_at (machine_of start stack.old (with_pair_of pairs start.mode pair) bytes.old)
         first spent (done tt) ≡ steps_of image.now requests.now m first
-        → partAs pairs start.mode bytes.new stack.new result
+        → part_as pairs start.mode bytes.new stack.new result
         ≡ steps_of image.now requests.now m (settled result.report n))
         × (first < settled result.report n) × (settled result.report n ≤ n)
         × (result.report.cycles ≤ 255 * settled result.report n) × Coherent image.now store.new }
@@ -152,9 +152,9 @@ fn all_steps(
     n: u32,
 ) -> Progress
     requires { (n ≤ 65535) × Timings table.now × IsImage image.now
-        × (wellFormed stack.old start ≡ true) × (requestsFit requests.now n ≡ true) × (0 < length store.old)
+        × (well_formed stack.old start ≡ true) × (requests_fit requests.now n ≡ true) × (0 < length store.old)
         × Coherent image.now store.old }
-    ensures { progressAs bytes.new stack.new result
+    ensures { progress_as bytes.new stack.new result
         ≡ steps_of image.now requests.now
         (machine_of start stack.old pairs bytes.old) n }
 {
@@ -203,9 +203,9 @@ pub fn by_store(
     requests: &[u8],
     n: u32,
 ) -> Progress
-    requires { (n ≤ 65535) × IsImage image.now × (wellFormed stack.old c ≡ true)
-        × (requestsFit requests.now n ≡ true) }
-    ensures { progressAs bytes.new stack.new result
+    requires { (n ≤ 65535) × IsImage image.now × (well_formed stack.old c ≡ true)
+        × (requests_fit requests.now n ≡ true) }
+    ensures { progress_as bytes.new stack.new result
         ≡ steps_of image.now requests.now
         (machine_of c stack.old flags bytes.old) n }
 {

@@ -8,43 +8,43 @@ use mathlib.Core.List.{List, [], ◌∷◌, ◌++◌, append-nil}
 use lib.ListN.{length, get_or, take, drop, replicate, length-replicate, length-append}
 use lib.Seq.{length-take-le, take_at, take_all, drop-length}
 use Rattle.isa.specs.Refusals.{Numbered, plain, done, refused}
-use Rattle.isa.specs.Rom.{isImage}
-use Rattle.isa.specs.Sources.{namesOnlySources}
+use Rattle.isa.specs.Rom.{is_image}
+use Rattle.isa.specs.Sources.{names_only_sources}
 use Rattle.certificate.proofs.Agreement.{agreement}
-use Rattle.certificate.proofs.Facts.{at-most-4096}
-use Rattle.certificate.specs.Check.{marksIn}
+use Rattle.certificate.proofs.Facts.{at_most_4096}
+use Rattle.certificate.specs.Check.{marks_in}
 use Rattle.maker.specs.Least.{NoneAccepted, Least}
 use Rattle.maker.specs.Making.{Sound}
 use Rattle.maker.specs.Make.{Makes}
-use Rattle.maker.proofs.Final.{unmarked-sound}
+use Rattle.maker.proofs.Final.{unmarked_sound}
 
 module _ (image : List ℕ) (wired : ℕ) (before : List ℕ) where
-  pub answers-1 : isImage (length image) ≡ false → Makes image wired before before (refused (plain 1))
-  answers-1 e = (inl (e, refl), refl)
+  pub answers_1 : is_image (length image) ≡ false → Makes image wired before before (refused (plain 1))
+  answers_1 e = (inl (e, refl), refl)
 
-  module _ (i : isImage (length image) ≡ true) where
-    not-1 : isImage (length image) ≡ false → ⊥
-    not-1 e = false≢true (sym e ∙ i)
+  module _ (i : is_image (length image) ≡ true) where
+    not_1 : is_image (length image) ≡ false → ⊥
+    not_1 e = false≢true (sym e ∙ i)
 
-    pub answers-11 : namesOnlySources wired ≡ false → Makes image wired before before (refused (plain 11))
-    answers-11 e = (inr (not-1, inl (e, refl)), refl)
+    pub answers_11 : names_only_sources wired ≡ false → Makes image wired before before (refused (plain 11))
+    answers_11 e = (inr (not_1, inl (e, refl)), refl)
 
-    module _ (w : namesOnlySources wired ≡ true) where
-      not-11 : namesOnlySources wired ≡ false → ⊥
-      not-11 e = false≢true (sym e ∙ w)
+    module _ (w : names_only_sources wired ≡ true) where
+      not_11 : names_only_sources wired ≡ false → ⊥
+      not_11 e = false≢true (sym e ∙ w)
 
-      pub answers-25 : length before ≢ marksIn (length image) → Makes image wired before before (refused (plain 25))
-      answers-25 n = (inr (not-1, inr (not-11, inl (n, refl))), refl)
+      pub answers_25 : length before ≢ marks_in (length image) → Makes image wired before before (refused (plain 25))
+      answers_25 n = (inr (not_1, inr (not_11, inl (n, refl))), refl)
 
-      module _ (l : length before ≡ marksIn (length image)) where
-        pub answers-26 : {r : Numbered} → NoneAccepted image wired × (r ≡ plain 26)
+      module _ (l : length before ≡ marks_in (length image)) where
+        pub answers_26 : {r : Numbered} → NoneAccepted image wired × (r ≡ plain 26)
             → Makes image wired before before (refused r)
-        answers-26 none = (inr (not-1, inr (not-11, inr ((λ n. n l), inl none))), refl)
+        answers_26 none = (inr (not_1, inr (not_11, inr ((λ n. n l), inl none))), refl)
 
-        pub answers-done : {after : List ℕ} {levels : ℕ} → Least image wired after levels
+        pub answers_done : {after : List ℕ} {levels : ℕ} → Least image wired after levels
             → Makes image wired before after (done levels)
-        answers-done {after} {levels} least =
-            ((not-1, (not-11, ((λ n. n l), ((λ none. none after levels least.is-accepted), tt)))), least)
+        answers_done {after} {levels} least =
+            ((not_1, (not_11, ((λ n. n l), ((λ none. none after levels least.is-accepted), tt)))), least)
 
 -- a certificate's part of a new array
 pub zeros : (n i : ℕ) → ◌≡◌ {A = ℕ} (get_or (replicate n 0) i 0) 0
@@ -52,21 +52,21 @@ zeros zero i = refl
 zeros (suc n) zero = refl
 zeros (suc n) (suc i) = zeros n i
 
-part-zeros : (k : ℕ) (l : List ℕ) → ((i : ℕ) → get_or l i 0 ≡ 0) → (i : ℕ) → get_or (take k l) i 0 ≡ 0
-part-zeros zero l h i = refl
-part-zeros (suc k) [] h i = refl
-part-zeros (suc k) (m ∷ l) h zero = h 0
-part-zeros (suc k) (m ∷ l) h (suc i) = part-zeros k l (λ j. h (suc j)) i
+part_zeros : (k : ℕ) (l : List ℕ) → ((i : ℕ) → get_or l i 0 ≡ 0) → (i : ℕ) → get_or (take k l) i 0 ≡ 0
+part_zeros zero l h i = refl
+part_zeros (suc k) [] h i = refl
+part_zeros (suc k) (m ∷ l) h zero = h 0
+part_zeros (suc k) (m ∷ l) h (suc i) = part_zeros k l (λ j. h (suc j)) i
 
 pub part_length : (image : List ℕ)
-    → length {A = ℕ} (take (marksIn (length image)) (replicate 4096 0)) ≡ marksIn (length image)
+    → length {A = ℕ} (take (marks_in (length image)) (replicate 4096 0)) ≡ marks_in (length image)
 part_length image =
-    length-take-le (marksIn (length image)) (replicate 4096 0) (rw length-replicate (at-most-4096 (length image)))
+    length-take-le (marks_in (length image)) (replicate 4096 0) (rw length-replicate (at_most_4096 (length image)))
 
-pub new-sound : (image : List ℕ) (wired : ℕ) → isImage (length image) ≡ true
-    → Sound image wired (take (marksIn (length image)) (replicate 4096 0))
-new-sound image wired i =
-    unmarked-sound i (part_length image) (part-zeros (marksIn (length image)) (replicate 4096 0) (zeros 4096))
+pub new_sound : (image : List ℕ) (wired : ℕ) → is_image (length image) ≡ true
+    → Sound image wired (take (marks_in (length image)) (replicate 4096 0))
+new_sound image wired i =
+    unmarked_sound i (part_length image) (part_zeros (marks_in (length image)) (replicate 4096 0) (zeros 4096))
 
 -- all of a list is copied over another one of its length
 copied : (source target : List ℕ) → length source ≡ length target
@@ -76,30 +76,30 @@ copied source target e = rw (take_all (length source) source (omega arith), e, d
 -- the certificate is the array's first part, and what is copied from it
 module _ {image certificate : List ℕ} {wired levels : ℕ} (rest : List ℕ)
     (least : Least image wired certificate levels) where
-  least-length : length certificate ≡ marksIn (length image)
-  least-length = ((agreement image certificate wired levels).sound least.is-accepted).certificate-length
+  least_length : length certificate ≡ marks_in (length image)
+  least_length = ((agreement image certificate wired levels).sound least.is-accepted).certificate-length
 
-  pub made-part : take (marksIn (length image)) (certificate ++ rest) ≡ certificate
-  made-part = take_at certificate rest (marksIn (length image)) least-length
+  pub made_part : take (marks_in (length image)) (certificate ++ rest) ≡ certificate
+  made_part = take_at certificate rest (marks_in (length image)) least_length
 
-  pub made-length : length (take (marksIn (length image)) (certificate ++ rest)) ≡ marksIn (length image)
-  made-length = ap length made-part ∙ least-length
+  pub made_length : length (take (marks_in (length image)) (certificate ++ rest)) ≡ marks_in (length image)
+  made_length = ap length made_part ∙ least_length
 
-  pub made-fits : marksIn (length image) ≤ length (certificate ++ rest)
-  made-fits = simp length-append (omega (arith, least-length))
+  pub made_fits : marks_in (length image) ≤ length (certificate ++ rest)
+  made_fits = simp length-append (omega (arith, least_length))
 
   -- a buffer of the image's length takes it, and then holds it
-  pub part-most : (target : List ℕ) → length target ≡ marksIn (length image)
-      → length (take (marksIn (length image)) (certificate ++ rest)) ≤ length target
-  part-most target l = omega (arith, l, made-length)
+  pub part_most : (target : List ℕ) → length target ≡ marks_in (length image)
+      → length (take (marks_in (length image)) (certificate ++ rest)) ≤ length target
+  part_most target l = omega (arith, l, made_length)
 
-  pub copied-least : (target : List ℕ) {after : List ℕ} → length target ≡ marksIn (length image)
+  pub copied_least : (target : List ℕ) {after : List ℕ} → length target ≡ marks_in (length image)
       → after
-      ≡ take (length (take (marksIn (length image)) (certificate ++ rest))) (take (marksIn (length image))
+      ≡ take (length (take (marks_in (length image)) (certificate ++ rest))) (take (marks_in (length image))
       (certificate ++ rest))
-      ++ drop (length (take (marksIn (length image)) (certificate ++ rest))) target
+      ++ drop (length (take (marks_in (length image)) (certificate ++ rest))) target
       → Least image wired after levels
-  copied-least target l e =
-      let source = take (marksIn (length image)) (certificate ++ rest) in
+  copied_least target l e =
+      let source = take (marks_in (length image)) (certificate ++ rest) in
       subst (λ m. Least image wired m levels)
-      (sym (e ∙ copied source target (made-length ∙ sym l) ∙ made-part)) least
+      (sym (e ∙ copied source target (made_length ∙ sym l) ∙ made_part)) least

@@ -5,16 +5,16 @@ use mathlib.Core.Path.{◌≡◌, refl, sym, ◌∙◌}
 use mathlib.Core.Logic.{◌⊎◌, inl, inr, ◌≢◌}
 use mathlib.Core.List.{List}
 use lib.ListN.{length, get_or, set}
-use Rattle.certificate.specs.Check.{marksIn}
-use Rattle.certificate.specs.Marks.{markAt, WellFormed, kind_at, needAt, lowest}
-use Rattle.certificate.proofs.Facts.{mark-is, kind-of}
+use Rattle.certificate.specs.Check.{marks_in}
+use Rattle.certificate.specs.Marks.{mark_at, WellFormed, kind_at, need_at, lowest}
+use Rattle.certificate.proofs.Facts.{mark_is, kind_of_lem}
 use Rattle.maker.specs.declared.Change.TheVariants.{Same, Changed, Impossible}
 use Rattle.maker.specs.Least.{NoneAccepted}
 use Rattle.maker.specs.Making.{Forced, Sound, Worked, Meets, Demanded}
-use Rattle.maker.proofs.Rising.{room-set, set_same, kind-set, sound-set, fits}
-use Rattle.maker.proofs.Reached.{reached-kind}
+use Rattle.maker.proofs.Rising.{room_set, set_same, kind_set, sound_set, fits}
+use Rattle.maker.proofs.Reached.{reached_kind}
 use Rattle.maker.specs.Reach.{Reachable}
-use Rattle.maker.proofs.Refuted.{outside, too-deep, two-kinds}
+use Rattle.maker.proofs.Refuted.{outside, too_deep, two_kinds}
 
 -- nothing changed, since no certificate is accepted
 pub refuted : {image certificate : List ℕ} {wired : ℕ} {P : List ℕ → Type 0} → Sound image wired certificate
@@ -22,48 +22,48 @@ pub refuted : {image certificate : List ℕ} {wired : ℕ} {P : List ℕ → Typ
 refuted s n = record { sound = s; told = n; kept = λ b h. refl }
 
 -- a mark of a kind and a need
-meets : {certificate : List ℕ} {a mark kind need : ℕ} → WellFormed mark → markAt certificate a ≡ mark → mark / 16 ≡ kind
+meets : {certificate : List ℕ} {a mark kind need : ℕ} → WellFormed mark → mark_at certificate a ≡ mark → mark / 16 ≡ kind
     → need ≤ mark % 16 → Meets a kind need certificate
-unfolding kind_at needAt
-meets {certificate} {a} {mark} w e k n = record { kind-is = rw e (kind-of mark w ∙ k); need-least = rw e n }
+unfolding kind_at need_at
+meets {certificate} {a} {mark} w e k n = record { kind-is = rw e (kind_of_lem mark w ∙ k); need-least = rw e n }
 
 module _ (certificate : List ℕ) (a kind need : ℕ) where
-  pub is-outside : (4096 ≤ a) ⊎ (a + length certificate < 4096) →
+  pub is_outside : (4096 ≤ a) ⊎ (a + length certificate < 4096) →
       Demanded certificate certificate a kind need Impossible
-  is-outside o image wired s r t = (refuted s (outside image wired a kind r (go o s.size)), λ n. absurd (n refl))
+  is_outside o image wired s r t = (refuted s (outside image wired a kind r (go o s.size)), λ n. absurd (n refl))
     where
-      go : (4096 ≤ a) ⊎ (a + length certificate < 4096) → length certificate ≡ marksIn (length image)
-          → (4096 ≤ a) ⊎ (a + marksIn (length image) < 4096)
+      go : (4096 ≤ a) ⊎ (a + length certificate < 4096) → length certificate ≡ marks_in (length image)
+          → (4096 ≤ a) ⊎ (a + marks_in (length image) < 4096)
       go (inl h) e = inl h
       go (inr h) e = inr (omega arith)
 
-  pub is-too-deep : 6 < need → Demanded certificate certificate a kind need Impossible
-  is-too-deep h image wired s r t = (refuted s (too-deep image wired a kind r need t h), λ n. absurd (n refl))
+  pub is_too_deep : 6 < need → Demanded certificate certificate a kind need Impossible
+  is_too_deep h image wired s r t = (refuted s (too_deep image wired a kind r need t h), λ n. absurd (n refl))
 
   module _ (at mark : ℕ) (low : a < 4096) (high : 4096 ≤ a + length certificate)
       (at-is : at ≡ a + length certificate - 4096)
       (mark-here : mark ≡ get_or certificate at 0) where
-    here : {image : List ℕ} {wired : ℕ} → Sound image wired certificate → markAt certificate a ≡ mark
+    here : {image : List ℕ} {wired : ℕ} → Sound image wired certificate → mark_at certificate a ≡ mark
     here s =
         let f = fits s in
-        let e = mark-is certificate at f (omega arith) in
+        let e = mark_is certificate at f (omega arith) in
         let back : lowest certificate + at ≡ a = omega arith in
         (rw back at e) ∙ sym mark-here
 
-    forced-here : {image : List ℕ} {wired : ℕ} → Sound image wired certificate → mark ≢ 0 → Forced image wired a mark
-    forced-here s n =
+    forced_here : {image : List ℕ} {wired : ℕ} → Sound image wired certificate → mark ≢ 0 → Forced image wired a mark
+    forced_here s n =
         let e = here s in
         rw e at (s.forced a (λ z. n (sym e ∙ z)))
 
-    pub is-clash : mark ≢ 0 → mark / 16 ≢ kind → Demanded certificate certificate a kind need Impossible
-    is-clash n m image wired s r t =
-        (refuted s (two-kinds image wired a kind r (mark / 16) (forced-here s n).reached m), λ p. absurd (p refl))
+    pub is_clash : mark ≢ 0 → mark / 16 ≢ kind → Demanded certificate certificate a kind need Impossible
+    is_clash n m image wired s r t =
+        (refuted s (two_kinds image wired a kind r (mark / 16) (forced_here s n).reached m), λ p. absurd (p refl))
 
     raised : (mark ≡ 0) ⊎ (mark / 16 ≡ kind) → mark < kind * 16 + need → need ≤ 6
         → Demanded certificate (set certificate at (kind * 16 + need)) a kind need Changed
     raised o h n image wired s r t =
         let f = fits s in
-        let k = reached-kind a kind r in
+        let k = reached_kind a kind r in
         let inside : at < length certificate = omega arith in
         let back : a ≡ lowest certificate + at = omega arith in
         let high_digit : (kind * 16 + need) / 16 ≡ kind = omega arith in
@@ -73,54 +73,54 @@ module _ (certificate : List ℕ) (a kind need : ℕ) where
         let forced : Forced image wired a (kind * 16 + need) =
         record { formed = formed; reached = rw high_digit r; takes = rw (high_digit, low_digit) t } in (
           record {
-            sound = sound-set image certificate wired at (kind * 16 + need) s inside (rw back at forced);
-            told = room-set certificate at (kind * 16 + need) inside (omega arith) (omega arith);
-            kept = kind-set certificate at (kind * 16 + need) f inside formed (rw (high_digit, ← mark-here) o);
+            sound = sound_set image certificate wired at (kind * 16 + need) s inside (rw back at forced);
+            told = room_set certificate at (kind * 16 + need) inside (omega arith) (omega arith);
+            kept = kind_set certificate at (kind * 16 + need) f inside formed (rw (high_digit, ← mark-here) o);
           },
           λ p. meets formed (rw back (set_same certificate at (kind * 16 + need) f inside)) high_digit (omega arith),
         )
 
-    pub is-raised : (mark ≡ 0) ⊎ ((mark / 16 ≡ kind) × (mark < kind * 16 + need)) → need ≤ 6
+    pub is_raised : (mark ≡ 0) ⊎ ((mark / 16 ≡ kind) × (mark < kind * 16 + need)) → need ≤ 6
         → Demanded certificate (set certificate at (kind * 16 + need)) a kind need Changed
-    is-raised (inl z) n image wired s r t = raised (inl z) (omega (arith, reached-kind a kind r)) n image wired s r t
-    is-raised (inr h) n image wired s r t = raised (inr h.0) h.1 n image wired s r t
+    is_raised (inl z) n image wired s r t = raised (inl z) (omega (arith, reached_kind a kind r)) n image wired s r t
+    is_raised (inr h) n image wired s r t = raised (inr h.0) h.1 n image wired s r t
 
-    pub is-met : mark ≢ 0 → mark / 16 ≡ kind → kind * 16 + need ≤ mark →
+    pub is_met : mark ≢ 0 → mark / 16 ≡ kind → kind * 16 + need ≤ mark →
         Demanded certificate certificate a kind need Same
-    is-met n k h image wired s r t =
-        let m : Meets a kind need certificate = meets (forced-here s n).formed (here s) k (omega arith) in
+    is_met n k h image wired s r t =
+        let m : Meets a kind need certificate = meets (forced_here s n).formed (here s) k (omega arith) in
         (record { sound = s; told = (refl, m); kept = λ b h. refl }, λ p. m)
 
-none-least : 1 ≤ 0 → ⊥
-none-least h = omega arith
+none_least : 1 ≤ 0 → ⊥
+none_least h = omega arith
 
 -- the need alone, at an address that has a kind
 module _ (certificate : List ℕ) (a need at mark : ℕ) (low : a < 4096) (high : 4096 ≤ a + length certificate)
     (at-is : at ≡ a + length certificate - 4096) (mark-here : mark ≡ get_or certificate at 0) where
-  kind-here : {image : List ℕ} {wired : ℕ} → Sound image wired certificate →
+  kind_here : {image : List ℕ} {wired : ℕ} → Sound image wired certificate →
       Reachable image wired a (kind_at certificate a)
       → (mark ≢ 0) × (kind_at certificate a ≡ mark / 16)
   unfolding kind_at
-  kind-here s r =
+  kind_here s r =
       let e = here certificate a (kind_at certificate a) need at mark low high at-is mark-here s in
-      let least = (reached-kind a (kind_at certificate a) r).0 in
-      let n : mark ≢ 0 = λ z. none-least (rw (e, z) at least) in (
+      let least = (reached_kind a (kind_at certificate a) r).0 in
+      let n : mark ≢ 0 = λ z. none_least (rw (e, z) at least) in (
         n,
-        rw e (kind-of mark (forced-here certificate a (kind_at certificate a) need at mark low high at-is mark-here
+        rw e (kind_of_lem mark (forced_here certificate a (kind_at certificate a) need at mark low high at-is mark-here
             s n).formed),
       )
 
-  pub is-enough : need ≤ mark % 16 → Demanded certificate certificate a (kind_at certificate a) need Same
-  is-enough h image wired s r t =
-      let k = kind-here s r in
-      is-met certificate a (kind_at certificate a) need at mark low high at-is mark-here k.0 (sym k.1) (omega
+  pub is_enough : need ≤ mark % 16 → Demanded certificate certificate a (kind_at certificate a) need Same
+  is_enough h image wired s r t =
+      let k = kind_here s r in
+      is_met certificate a (kind_at certificate a) need at mark low high at-is mark-here k.0 (sym k.1) (omega
       (arith, k.1))
       image wired s r t
 
-  pub is-lifted : mark % 16 < need → need ≤ 6
+  pub is_lifted : mark % 16 < need → need ≤ 6
       → Demanded certificate (set certificate at (mark / 16 * 16 + need)) a (kind_at certificate a) need Changed
-  is-lifted h n image wired s r t =
-      let k = kind-here s r in
+  is_lifted h n image wired s r t =
+      let k = kind_here s r in
       rw (← k.1)
-      (is-raised certificate a (kind_at certificate a) need at mark low high at-is mark-here
+      (is_raised certificate a (kind_at certificate a) need at mark low high at-is mark-here
       (inr (sym k.1, omega (arith, k.1))) n image wired s r t)

@@ -10,27 +10,27 @@ use lib.Dec.{eqb}
 use lib.ListN.{length, get_or, set}
 use lib.Seq.{get_or-set_other}
 use borrow.Author.Tests.{eqb-true, eqb-false, lt-ltb, le-ltb}
-use Rattle.certificate.specs.Marks.{markAt, kind_at, needAt}
+use Rattle.certificate.specs.Marks.{mark_at, kind_at, need_at}
 use Rattle.maker.specs.declared.Change.{Change}
 use Rattle.maker.specs.declared.Change.TheVariants.{Same}
 use Rattle.maker.specs.Reach.{along}
 use Rattle.maker.specs.Making.{Sound, Kept, Worked, joined, Demanded, Edge, leaves, FirstEdge}
 use Rattle.maker.specs.Making.{link_at, NoEdges, Known, Explored, Raised, Spread}
 use Rattle.maker.proofs.Rising.{then, by}
-use Rattle.maker.proofs.Reached.{goes-bounded, has-mark}
-use Rattle.maker.proofs.Following.{takes-need, kind-most}
-use Rattle.maker.proofs.Final.{only-reachable}
+use Rattle.maker.proofs.Reached.{goes_bounded, has_mark}
+use Rattle.maker.proofs.Following.{takes_need, kind_most}
+use Rattle.maker.proofs.Final.{only_reachable}
 
-pub kind-at-most : (certificate : List ℕ) (a : ℕ) → kind_at certificate a ≤ 4
+pub kind_at_most : (certificate : List ℕ) (a : ℕ) → kind_at certificate a ≤ 4
 unfolding kind_at
-kind-at-most certificate a = kind-most (markAt certificate a)
+kind_at_most certificate a = kind_most (mark_at certificate a)
 
 -- an edge leads to an address that has a kind, and takes at most one level
-edge-bounded : {image certificate : List ℕ} {from to levels : ℕ} → Edge image certificate from to levels
+edge_bounded : {image certificate : List ℕ} {from to levels : ℕ} → Edge image certificate from to levels
     → (1 ≤ kind_at certificate to) × (levels ≤ 1)
-edge-bounded {certificate = certificate} {from} {to} {levels} e =
+edge_bounded {certificate = certificate} {from} {to} {levels} e =
     let b =
-    goes-bounded (kind_at certificate from) _ _ to (kind_at certificate to) levels e.kind-least (kind-at-most
+    goes_bounded (kind_at certificate from) _ _ to (kind_at certificate to) levels e.kind-least (kind_at_most
     certificate from)
     e.leads.goes_on in
     (b.0, b.2)
@@ -40,7 +40,7 @@ edge_kept : {image before after : List ℕ} {from to levels : ℕ} → Kept befo
     → Edge image before from to levels → Edge image after from to levels
 edge_kept {from = from} {to} kept e =
     let f = kept from e.kind-least in
-    let t = kept to (edge-bounded e).0 in
+    let t = kept to (edge_bounded e).0 in
     record { kind-least = rw f e.kind-least; leads = rw (f, t) e.leads }
 
 known_kept : {image before after edges : List ℕ} → Kept before after → Known image before edges
@@ -60,38 +60,38 @@ past_end (m ∷ l) zero h = absurd (omega arith)
 past_end (m ∷ l) (suc i) h = past_end l i (omega arith)
 
 -- the address that an edge leaves, by its number, with the first page ..
-pub leaves-below : (e : ℕ) → e < 8192 → e / 2 ≡ leaves e
+pub leaves_below : (e : ℕ) → e < 8192 → e / 2 ≡ leaves e
 unfolding leaves
-leaves-below e h = rw (lt-ltb e 8192 h)
+leaves_below e h = rw (lt-ltb e 8192 h)
 
-pub first-page : (from : ℕ) → from < 4096 → FirstEdge from (from * 2)
-first-page from h =
+pub first_page : (from : ℕ) → from < 4096 → FirstEdge from (from * 2)
+first_page from h =
     record {
-      first = sym (leaves-below (from * 2) (omega arith)) ∙ omega arith;
-      second = sym (leaves-below (from * 2 + 1) (omega arith)) ∙ omega arith;
+      first = sym (leaves_below (from * 2) (omega arith)) ∙ omega arith;
+      second = sym (leaves_below (from * 2 + 1) (omega arith)) ∙ omega arith;
       numbered = omega arith;
     }
 
 -- .. and with another
-pub leaves-above : (e : ℕ) → 8192 ≤ e → ((e - 8192) / 16 + 4096 - 2) % 4096 ≡ leaves e
+pub leaves_above : (e : ℕ) → 8192 ≤ e → ((e - 8192) / 16 + 4096 - 2) % 4096 ≡ leaves e
 unfolding leaves
-leaves-above e h = rw (le-ltb e 8192 h) (omega arith)
+leaves_above e h = rw (le-ltb e 8192 h) (omega arith)
 
-pub other-page : (from page : ℕ) → from < 4096 → (from + 2) % 4096 < 2050
+pub other_page : (from page : ℕ) → from < 4096 → (from + 2) % 4096 < 2050
     → FirstEdge from (8192 + (from + 2) % 4096 * 16 + page % 8 * 2)
-other-page from page h k =
+other_page from page h k =
     let e = 8192 + (from + 2) % 4096 * 16 + page % 8 * 2 in
     record {
-      first = sym (leaves-above e (omega arith)) ∙ omega arith;
-      second = sym (leaves-above (e + 1) (omega arith)) ∙ omega arith;
+      first = sym (leaves_above e (omega arith)) ∙ omega arith;
+      second = sym (leaves_above (e + 1) (omega arith)) ∙ omega arith;
       numbered = omega arith;
     }
 
 -- an edge is noted
-pub recorded-one : (edges : List ℕ) (edge to levels earlier v : ℕ) → to < 4096
+pub recorded_one : (edges : List ℕ) (edge to levels earlier v : ℕ) → to < 4096
     → v ≡ earlier * 0x10000 + (to * 2 + levels % 2 + 1) → (image certificate : List ℕ) → Known image certificate edges
     → Edge image certificate (leaves edge) to levels × Unit {0} → Known image certificate (set edges edge v)
-recorded-one edges edge to levels earlier v low v-is image certificate known each =
+recorded_one edges edge to levels earlier v low v-is image certificate known each =
     record { edge = λ e n. go e n (eqb e edge) refl }
   where
     go : (e : ℕ) → link_at (set edges edge v) e ≢ 0 → (t : Bool) → eqb e edge ≡ t
@@ -99,7 +99,7 @@ recorded-one edges edge to levels earlier v low v-is image certificate known eac
         1) % 2)
     go e n true p =
         let same = eqb-true e edge p in
-        let most = (edge-bounded each.0).1 in
+        let most = (edge_bounded each.0).1 in
         let here = set_here edges edge v (λ z. n (rw (same, z))) in
         let link : v % 0x10000 ≡ to * 2 + levels % 2 + 1 =
         rw v-is (mul-add-mod_self_right earlier 0x10000 (to * 2 + levels % 2 + 1) ∙ mod-eq_of_lt (omega arith)) in
@@ -111,7 +111,7 @@ recorded-one edges edge to levels earlier v low v-is image certificate known eac
         rw other (known.edge e (λ z. n (rw other z)))
 
 -- then another
-pub recorded-two : {before middle after : List ℕ} {P Q : List ℕ → List ℕ → Type 0}
+pub recorded_two : {before middle after : List ℕ} {P Q : List ℕ → List ℕ → Type 0}
     → ((image certificate : List ℕ) → Known image certificate before → P image certificate × Unit {0} →
     Known image certificate middle)
     → ((image certificate : List ℕ) → Known image certificate middle → Q image certificate × Unit {0} →
@@ -119,51 +119,51 @@ pub recorded-two : {before middle after : List ℕ} {P Q : List ℕ → List ℕ
     → (image certificate : List ℕ) → Known image certificate before → P image certificate × (Q image certificate
     × Unit {0})
     → Known image certificate after
-recorded-two f g image certificate known each = g image certificate (f image certificate known (each.0, tt)) each.1
+recorded_two f g image certificate known each = g image certificate (f image certificate known (each.0, tt)) each.1
 
 -- addresses are explored
-pub explored-none : {image certificate edges : List ℕ} → Explored image certificate certificate edges edges Same
-explored-none wired s known = (record { sound = s; told = (refl, tt); kept = λ b h. refl }, known)
+pub explored_none : {image certificate edges : List ℕ} → Explored image certificate certificate edges edges Same
+explored_none wired s known = (record { sound = s; told = (refl, tt); kept = λ b h. refl }, known)
 
 -- an address is visited, and the edges that leave it are noted
-pub explored-one : {image before after edges edges' : List ℕ} {p : Change} {Q : List ℕ → Type 0}
+pub explored_one : {image before after edges edges' : List ℕ} {p : Change} {Q : List ℕ → Type 0}
     {P : List ℕ → List ℕ → Type 0}
     → ((image certificate : List ℕ) → Known image certificate edges → P image certificate →
     Known image certificate edges')
     → ((wired : ℕ) → Sound image wired before → Worked image wired Q before after p × P image after)
     → Explored image before after edges edges' p
-explored-one {image} {after = after} r v wired s known =
+explored_one {image} {after = after} r v wired s known =
     let t = v wired s in
     (by (λ z. tt) t.0, r image after (known_kept t.0.kept known) t.1)
 
-pub explored-more : {image before middle after edges edges' edges'' : List ℕ} {p q : Change}
+pub explored_more : {image before middle after edges edges' edges'' : List ℕ} {p q : Change}
     → Explored image before middle edges edges' p → Explored image middle after edges' edges'' q
     → Explored image before after edges edges'' (joined p q)
-explored-more f g wired s known =
+explored_more f g wired s known =
     let t = f wired s known in
     let u = g wired t.0.sound t.1 in
     (by (λ z. tt) (then t.0 u.0), u.1)
 
 -- needs are raised
-pub raised-none : {edges certificate : List ℕ} → Raised edges certificate certificate Same
-raised-none image wired s known = record { sound = s; told = (refl, tt); kept = λ b h. refl }
+pub raised_none : {edges certificate : List ℕ} → Raised edges certificate certificate Same
+raised_none image wired s known = record { sound = s; told = (refl, tt); kept = λ b h. refl }
 
-pub raised-one : {edges before after : List ℕ} {p : Change} (number link : ℕ)
+pub raised_one : {edges before after : List ℕ} {p : Change} (number link : ℕ)
     → link ≡ link_at edges number → link ≢ 0
     → Demanded before after (leaves number) (kind_at before (leaves number))
-    (needAt before ((link - 1) / 2) + (link - 1) % 2) p
+    (need_at before ((link - 1) / 2) + (link - 1) % 2) p
     → Raised edges before after p
-raised-one {before = before} number link e n d image wired s known =
+raised_one {before = before} number link e n d image wired s known =
     let edge = rw (← e) at (known.edge number (λ z. n (e ∙ z))) in
     let from = leaves number in
     let to = (link - 1) / 2 in
-    let r = only-reachable s from (has-mark before from (kind_at before from) refl edge.kind-least) in
-    let t = takes-need to (kind_at before to) s refl (edge-bounded edge).0 in
+    let r = only_reachable s from (has_mark before from (kind_at before from) refl edge.kind-least) in
+    let t = takes_need to (kind_at before to) s refl (edge_bounded edge).0 in
     by (λ z. tt) (d image wired s r (along edge.leads t)).0
 
-pub raised-more : {edges before middle after : List ℕ} {p q : Change} → Raised edges before middle p
+pub raised_more : {edges before middle after : List ℕ} {p q : Change} → Raised edges before middle p
     → Raised edges middle after q → Raised edges before after (joined p q)
-raised-more f g image wired s known =
+raised_more f g image wired s known =
     let t = f image wired s known in
     by (λ z. tt) (then t (g image wired t.sound (known_kept t.kept known)))
 

@@ -12,62 +12,62 @@ use lib.ListN.{length, get_or}
 use lib.Seq.{ext_get_or}
 use borrow.Author.Tests.{eqb-true, eqb-false}
 use Rattle.isa.specs.Refusals.{Numbered, plain, located, Answer, done, refused}
-use Rattle.certificate.specs.Marks.{markAt, Marked, kind_at, needAt, lowest}
-use Rattle.certificate.specs.Check.{accepted, checkOf}
+use Rattle.certificate.specs.Marks.{mark_at, Marked, kind_at, need_at, lowest}
+use Rattle.certificate.specs.Check.{accepted, check_of}
 use Rattle.certificate.specs.Rules.{Rules}
 use Rattle.certificate.specs.Refusals.{Question, None, FirstApplies}
-use Rattle.certificate.proofs.Facts.{kind-of, mark-is, at-most-4096}
+use Rattle.certificate.proofs.Facts.{kind_of_lem, mark_is, at_most_4096}
 use Rattle.certificate.proofs.Agreement.{agreement}
 use Rattle.maker.specs.Reach.{Reachable}
 use Rattle.maker.specs.Least.{Least}
 use Rattle.maker.specs.Make.{questions, Makes}
 use Rattle.maker.specs.Outcomes.{Covers, MadeLeast, MadeIsLeast, GivenExactly, EachExactly, IsAsked}
 use Rattle.maker.specs.Outcomes.{RefusalsExactly, OneAnswer}
-use Rattle.maker.proofs.Reached.{reached-kind, reached, has-mark}
+use Rattle.maker.proofs.Reached.{reached_kind, reached, has_mark}
 
 -- an unmarked address or a marked one
-pub marked-or-not : (certificate : List ℕ) (a : ℕ) → (markAt certificate a ≡ 0) ⊎ Marked certificate a
-marked-or-not certificate a = go (eqb (markAt certificate a) 0) refl
+pub marked_or_not : (certificate : List ℕ) (a : ℕ) → (mark_at certificate a ≡ 0) ⊎ Marked certificate a
+marked_or_not certificate a = go (eqb (mark_at certificate a) 0) refl
   where
-    go : (t : Bool) → eqb (markAt certificate a) 0 ≡ t → (markAt certificate a ≡ 0) ⊎ Marked certificate a
-    go true p = inl (eqb-true (markAt certificate a) 0 p)
-    go false p = inr (eqb-false (markAt certificate a) 0 p)
+    go : (t : Bool) → eqb (mark_at certificate a) 0 ≡ t → (mark_at certificate a ≡ 0) ⊎ Marked certificate a
+    go true p = inl (eqb-true (mark_at certificate a) 0 p)
+    go false p = inr (eqb-false (mark_at certificate a) 0 p)
 
 -- the rules of an accepted certificate
-pub rules-of : {image certificate : List ℕ} {wired levels : ℕ} → checkOf image certificate wired ≡ accepted levels
+pub rules_of : {image certificate : List ℕ} {wired levels : ℕ} → check_of image certificate wired ≡ accepted levels
     → Rules image certificate wired levels
-rules-of {image} {certificate} {wired} {levels} = (agreement image certificate wired levels).sound
+rules_of {image} {certificate} {wired} {levels} = (agreement image certificate wired levels).sound
 
 -- what is reached is marked in every accepted certificate, with its kind
-reached-marked : {image certificate : List ℕ} {wired levels : ℕ} → Rules image certificate wired levels
+reached_marked : {image certificate : List ℕ} {wired levels : ℕ} → Rules image certificate wired levels
     → (a kind : ℕ) → Reachable image wired a kind → Marked certificate a × (kind_at certificate a ≡ kind)
-reached-marked {certificate = certificate} rules a kind r =
+reached_marked {certificate = certificate} rules a kind r =
     let k = reached rules a kind r in
-    (has-mark certificate a kind k (reached-kind a kind r).0, k)
+    (has_mark certificate a kind k (reached_kind a kind r).0, k)
 
 module _ {image certificate : List ℕ} {wired levels : ℕ} (least : Least image wired certificate levels) where
   rules : Rules image certificate wired levels
-  rules = rules-of least.is-accepted
+  rules = rules_of least.is-accepted
 
-  covers : (other : List ℕ) (number : ℕ) → checkOf image other wired ≡ accepted number → (a : ℕ)
+  covers : (other : List ℕ) (number : ℕ) → check_of image other wired ≡ accepted number → (a : ℕ)
       → Marked certificate a → Covers other certificate a
   covers other number e a n =
-      let m = reached-marked (rules-of e) a (kind_at certificate a) (least.only-reachable a n) in
+      let m = reached_marked (rules_of e) a (kind_at certificate a) (least.only-reachable a n) in
       record { is-marked = m.0; same_kind = m.1; need-least = least.no-smaller other number e a }
 
-  unreachable : (a : ℕ) → ((kind : ℕ) → Reachable image wired a kind → ⊥) → markAt certificate a ≡ 0
-  unreachable a none = go (marked-or-not certificate a)
+  unreachable : (a : ℕ) → ((kind : ℕ) → Reachable image wired a kind → ⊥) → mark_at certificate a ≡ 0
+  unreachable a none = go (marked_or_not certificate a)
     where
-      go : (markAt certificate a ≡ 0) ⊎ Marked certificate a → markAt certificate a ≡ 0
+      go : (mark_at certificate a ≡ 0) ⊎ Marked certificate a → mark_at certificate a ≡ 0
       go (inl e) = e
       go (inr n) = absurd (none (kind_at certificate a) (least.only-reachable a n))
 
-  made-least : MadeLeast image wired certificate levels
-  made-least =
+  made_least : MadeLeast image wired certificate levels
+  made_least =
       record {
         is-accepted = least.is-accepted;
         marked-reachable = least.only-reachable;
-        reachable-marked = reached-marked rules;
+        reachable-marked = reached_marked rules;
         least-need = covers;
         no-smaller = least.no-smaller;
         whole = rules.certificate-length;
@@ -75,46 +75,46 @@ module _ {image certificate : List ℕ} {wired levels : ℕ} (least : Least imag
       }
 
 -- W-202: what is written
-pub made-is-least : MadeIsLeast
-made-is-least image wired before after levels makes = made-least makes.1
+pub made_is_least : MadeIsLeast
+made_is_least image wired before after levels makes = made_least makes.1
 
 -- two least certificates have the same marks
 module _ {image : List ℕ} {wired : ℕ} where
-  same-mark : {c d : List ℕ} {m n : ℕ} → Least image wired c m → Least image wired d n → (a : ℕ) → Marked c a
-      → markAt d a ≡ markAt c a
-  unfolding kind_at needAt
-  same-mark {c} {d} {m} {n} p q a k =
+  same_mark : {c d : List ℕ} {m n : ℕ} → Least image wired c m → Least image wired d n → (a : ℕ) → Marked c a
+      → mark_at d a ≡ mark_at c a
+  unfolding kind_at need_at
+  same_mark {c} {d} {m} {n} p q a k =
       let x = covers p d n q.is-accepted a k in
-      let e = kind-of (markAt c a) ((rules-of p.is-accepted).marked a k).mark in
-      let f = kind-of (markAt d a) ((rules-of q.is-accepted).marked a x.is-marked).mark in
-      let high : markAt d a / 16 ≡ markAt c a / 16 = sym f ∙ x.same_kind ∙ e in
-      let low : needAt c a ≡ needAt d a = le_antisymm x.need-least (q.no-smaller c m p.is-accepted a) in
+      let e = kind_of_lem (mark_at c a) ((rules_of p.is-accepted).marked a k).mark in
+      let f = kind_of_lem (mark_at d a) ((rules_of q.is-accepted).marked a x.is-marked).mark in
+      let high : mark_at d a / 16 ≡ mark_at c a / 16 = sym f ∙ x.same_kind ∙ e in
+      let low : need_at c a ≡ need_at d a = le_antisymm x.need-least (q.no-smaller c m p.is-accepted a) in
       omega arith
 
-  same-marks : {c d : List ℕ} {m n : ℕ} → Least image wired c m → Least image wired d n → (a : ℕ)
-      → markAt c a ≡ markAt d a
-  same-marks {c} {d} p q a = go (marked-or-not c a) (marked-or-not d a)
+  same_marks : {c d : List ℕ} {m n : ℕ} → Least image wired c m → Least image wired d n → (a : ℕ)
+      → mark_at c a ≡ mark_at d a
+  same_marks {c} {d} p q a = go (marked_or_not c a) (marked_or_not d a)
     where
-      go : (markAt c a ≡ 0) ⊎ Marked c a → (markAt d a ≡ 0) ⊎ Marked d a → markAt c a ≡ markAt d a
-      go (inr k) t = sym (same-mark p q a k)
-      go (inl e) (inr k) = same-mark q p a k
+      go : (mark_at c a ≡ 0) ⊎ Marked c a → (mark_at d a ≡ 0) ⊎ Marked d a → mark_at c a ≡ mark_at d a
+      go (inr k) t = sym (same_mark p q a k)
+      go (inl e) (inr k) = same_mark q p a k
       go (inl e) (inl f) = e ∙ sym f
 
-  one-least : {c d : List ℕ} {m n : ℕ} → Least image wired c m → Least image wired d n → c ≡ d
-  one-least {c} {d} p q = ext_get_or 0 c d size same
+  one_least : {c d : List ℕ} {m n : ℕ} → Least image wired c m → Least image wired d n → c ≡ d
+  one_least {c} {d} p q = ext_get_or 0 c d size same
     where
       size : length c ≡ length d
-      size = (rules-of p.is-accepted).certificate-length ∙ sym (rules-of q.is-accepted).certificate-length
+      size = (rules_of p.is-accepted).certificate-length ∙ sym (rules_of q.is-accepted).certificate-length
 
       same : (i : ℕ) → i < length c → get_or c i 0 ≡ get_or d i 0
       same i h =
-          let rules = rules-of p.is-accepted in
-          let most = at-most-4096 (length image) in
+          let rules = rules_of p.is-accepted in
+          let most = at_most_4096 (length image) in
           let l = rules.certificate-length in
           let e = size in
-          let x = mark-is c i (omega arith) h in
-          let y = mark-is d i (omega arith) (omega arith) in
-          sym x ∙ same-marks p q (lowest c + i) ∙ (rw (← e) at y)
+          let x = mark_is c i (omega arith) h in
+          let y = mark_is d i (omega arith) (omega arith) in
+          sym x ∙ same_marks p q (lowest c + i) ∙ (rw (← e) at y)
 
 -- an answer to questions: done where none applies, refused with the first that does
 abbrev Answers : List Question → Answer ℕ → Type 0
@@ -127,23 +127,23 @@ answers image wired before after (done levels) makes = makes.0
 answers image wired before after (refused r) makes = makes.0
 
 -- not both
-none-or-first : (qs : List Question) (r : Numbered) → None qs → FirstApplies qs r → ⊥
-none-or-first [] r none first = first
-none-or-first (q ∷ qs) r none (inl p) = none.0 p.0
-none-or-first (q ∷ qs) r none (inr p) = none-or-first qs r none.1 p.1
+none_or_first : (qs : List Question) (r : Numbered) → None qs → FirstApplies qs r → ⊥
+none_or_first [] r none first = first
+none_or_first (q ∷ qs) r none (inl p) = none.0 p.0
+none_or_first (q ∷ qs) r none (inr p) = none_or_first qs r none.1 p.1
 
 -- done where none applies
 written : (qs : List Question) (answer : Answer ℕ) → Answers qs answer → None qs → (levels : ℕ) × (answer ≡ done levels)
 written qs (done levels) says none = (levels, refl)
-written qs (refused r) says none = absurd (none-or-first qs r none says)
+written qs (refused r) says none = absurd (none_or_first qs r none says)
 
 -- there is one first
-one-first : (qs : List Question) {r s : Numbered} → FirstApplies qs r → FirstApplies qs s → r ≡ s
-one-first [] first other = absurd first
-one-first (q ∷ qs) (inl p) (inl o) = p.1 ∙ sym o.1
-one-first (q ∷ qs) (inl p) (inr o) = absurd (o.0 p.0)
-one-first (q ∷ qs) (inr p) (inl o) = absurd (p.0 o.0)
-one-first (q ∷ qs) (inr p) (inr o) = one-first qs p.1 o.1
+one_first : (qs : List Question) {r s : Numbered} → FirstApplies qs r → FirstApplies qs s → r ≡ s
+one_first [] first other = absurd first
+one_first (q ∷ qs) (inl p) (inl o) = p.1 ∙ sym o.1
+one_first (q ∷ qs) (inl p) (inr o) = absurd (o.0 p.0)
+one_first (q ∷ qs) (inr p) (inl o) = absurd (p.0 o.0)
+one_first (q ∷ qs) (inr p) (inr o) = one_first qs p.1 o.1
 
 abbrev number : Numbered → ℕ
 number (plain n) = n
@@ -161,28 +161,28 @@ never_first (q ∷ qs) r n (inr p) = never_first qs r n.1 p.1
 
 -- the question q among others
 module _ (q : Question) (later : List Question) where
-  first-only : (earlier : List Question) → NoneHas q.refusal earlier → NoneHas q.refusal later
+  first_only : (earlier : List Question) → NoneHas q.refusal earlier → NoneHas q.refusal later
       → FirstApplies (earlier ++ (q ∷ later)) q.refusal → None earlier × q.Applies
-  first-only [] n m (inl p) = (tt, p.0)
-  first-only [] n m (inr p) = absurd (never_first later q.refusal m p.1)
-  first-only (e ∷ earlier) n m (inl p) = absurd (n.0 (ap number p.1))
-  first-only (e ∷ earlier) n m (inr p) =
-      let x = first-only earlier n.1 m p.1 in
+  first_only [] n m (inl p) = (tt, p.0)
+  first_only [] n m (inr p) = absurd (never_first later q.refusal m p.1)
+  first_only (e ∷ earlier) n m (inl p) = absurd (n.0 (ap number p.1))
+  first_only (e ∷ earlier) n m (inr p) =
+      let x = first_only earlier n.1 m p.1 in
       ((p.0, x.0), x.1)
 
-  first-always : (earlier : List Question) (answer : Answer ℕ) → Answers (earlier ++ (q ∷ later)) answer → None earlier
+  first_always : (earlier : List Question) (answer : Answer ℕ) → Answers (earlier ++ (q ∷ later)) answer → None earlier
       → q.Applies → answer ≡ refused q.refusal
-  first-always [] (done levels) none x a = absurd (none.0 a)
-  first-always [] (refused r) (inl p) x a = ap refused p.1
-  first-always [] (refused r) (inr p) x a = absurd (p.0 a)
-  first-always (e ∷ earlier) (done levels) none x a = first-always earlier (done levels) none.1 x.1 a
-  first-always (e ∷ earlier) (refused r) (inl p) x a = absurd (x.0 p.0)
-  first-always (e ∷ earlier) (refused r) (inr p) x a = first-always earlier (refused r) p.1 x.1 a
+  first_always [] (done levels) none x a = absurd (none.0 a)
+  first_always [] (refused r) (inl p) x a = ap refused p.1
+  first_always [] (refused r) (inr p) x a = absurd (p.0 a)
+  first_always (e ∷ earlier) (done levels) none x a = first_always earlier (done levels) none.1 x.1 a
+  first_always (e ∷ earlier) (refused r) (inl p) x a = absurd (x.0 p.0)
+  first_always (e ∷ earlier) (refused r) (inr p) x a = first_always earlier (refused r) p.1 x.1 a
 
-  given-exactly : (earlier : List Question) (answer : Answer ℕ) → Answers (earlier ++ (q ∷ later)) answer
+  given_exactly : (earlier : List Question) (answer : Answer ℕ) → Answers (earlier ++ (q ∷ later)) answer
       → NoneHas q.refusal earlier → NoneHas q.refusal later → GivenExactly earlier q answer
-  given-exactly earlier answer says n m =
-      record { only = λ e. first-only earlier n m (rw e at says); always = first-always earlier answer says }
+  given_exactly earlier answer says n m =
+      record { only = λ e. first_only earlier n m (rw e at says); always = first_always earlier answer says }
 
 -- the questions of a list, and those before it, have numbers of their own
 abbrev Apart : (earlier qs : List Question) → Type 0
@@ -190,27 +190,27 @@ Apart earlier [] = Unit
 Apart earlier (q ∷ later) =
     NoneHas q.refusal earlier × (NoneHas q.refusal later × Apart (earlier ++ (q ∷ [])) later)
 
-each-exactly : (earlier qs : List Question) (answer : Answer ℕ) → Apart earlier qs → Answers (earlier ++ qs) answer
+each_exactly : (earlier qs : List Question) (answer : Answer ℕ) → Apart earlier qs → Answers (earlier ++ qs) answer
     → EachExactly earlier qs answer
-each-exactly earlier [] answer apart says = tt
-each-exactly earlier (q ∷ later) answer apart says = (
-  given-exactly q later earlier answer says apart.0 apart.1.0,
-  each-exactly (earlier ++ (q ∷ [])) later answer apart.1.1 (rw (append_assoc earlier (q ∷ []) later) says),
+each_exactly earlier [] answer apart says = tt
+each_exactly earlier (q ∷ later) answer apart says = (
+  given_exactly q later earlier answer says apart.0 apart.1.0,
+  each_exactly (earlier ++ (q ∷ [])) later answer apart.1.1 (rw (append_assoc earlier (q ∷ []) later) says),
 )
 
 -- the first that applies is one of them
-is-asked : (qs : List Question) (r : Numbered) → FirstApplies qs r → IsAsked qs r
-is-asked [] r first = first
-is-asked (q ∷ qs) r (inl p) = inl p.1
-is-asked (q ∷ qs) r (inr p) = inr (is-asked qs r p.1)
+is_asked : (qs : List Question) (r : Numbered) → FirstApplies qs r → IsAsked qs r
+is_asked [] r first = first
+is_asked (q ∷ qs) r (inl p) = inl p.1
+is_asked (q ∷ qs) r (inr p) = inr (is_asked qs r p.1)
 
 -- W-202: the refusals
-pub refusals-exactly : RefusalsExactly
-refusals-exactly image wired before after answer makes =
+pub refusals_exactly : RefusalsExactly
+refusals_exactly image wired before after answer makes =
     let says = answers image wired before after answer makes in
     record {
-      each = each-exactly [] (questions image wired before) answer (omega arith) says;
-      no_other = λ r e. is-asked (questions image wired before) r (rw e at says);
+      each = each_exactly [] (questions image wired before) answer (omega arith) says;
+      no_other = λ r e. is_asked (questions image wired before) r (rw e at says);
       untouched = λ r e. (rw e at makes).1;
       written-only = λ levels e. rw e at says;
       written-always = written (questions image wired before) answer says;
@@ -219,11 +219,11 @@ refusals-exactly image wired before after answer makes =
 -- W-202: no choice
 pub one_answer : OneAnswer
 one_answer image wired before after after' (done levels) (done levels') makes makes' =
-    let same = one-least makes.1 makes'.1 in
+    let same = one_least makes.1 makes'.1 in
     (sym makes.1.is-accepted ∙ (rw (← same) at makes'.1.is-accepted), same)
 one_answer image wired before after after' (done levels) (refused r) makes makes' =
-    absurd (none-or-first (questions image wired before) r makes.0 makes'.0)
+    absurd (none_or_first (questions image wired before) r makes.0 makes'.0)
 one_answer image wired before after after' (refused r) (done levels) makes makes' =
-    absurd (none-or-first (questions image wired before) r makes'.0 makes.0)
+    absurd (none_or_first (questions image wired before) r makes'.0 makes.0)
 one_answer image wired before after after' (refused r) (refused r') makes makes' =
-    (ap refused (one-first (questions image wired before) makes.0 makes'.0), makes.1 ∙ sym makes'.1)
+    (ap refused (one_first (questions image wired before) makes.0 makes'.0), makes.1 ∙ sym makes'.1)

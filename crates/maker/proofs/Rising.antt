@@ -9,25 +9,25 @@ use lib.Dec.{ltb, leb, eqb}
 use lib.ListN.{length, get_or, set, length-set}
 use lib.Seq.{get_or-set_same, get_or-set_other}
 use borrow.Author.Tests.{ltb-true, leb-true, eqb-true, eqb-false}
-use Rattle.certificate.specs.Marks.{markAt, Marked, WellFormed, kind_of, kind_at, lowest}
-use Rattle.certificate.proofs.Facts.{mark-is, at-most-4096, well-formed, kind-of}
+use Rattle.certificate.specs.Marks.{mark_at, Marked, WellFormed, kind_of, kind_at, lowest}
+use Rattle.certificate.proofs.Facts.{mark_is, at_most_4096, well_formed_lem, kind_of_lem}
 use Rattle.maker.specs.declared.Change.{Change}
 use Rattle.maker.specs.declared.Change.TheVariants.{Same, Changed, Impossible}
 use Rattle.maker.specs.Making.{Forced, Sound, room, Told, Kept, Worked, joined}
 
-pub room-set : (certificate : List ℕ) (i v : ℕ) → i < length certificate → get_or certificate i 0 < v → v ≤ 255
+pub room_set : (certificate : List ℕ) (i v : ℕ) → i < length certificate → get_or certificate i 0 < v → v ≤ 255
     → room (set certificate i v) < room certificate
 unfolding room
-room-set [] i v h r k = absurd (omega arith)
-room-set (m ∷ certificate) zero v h r k = omega arith
-room-set (m ∷ certificate) (suc i) v h r k =
-    let e = room-set certificate i v (omega arith) r k in
+room_set [] i v h r k = absurd (omega arith)
+room_set (m ∷ certificate) zero v h r k = omega arith
+room_set (m ∷ certificate) (suc i) v h r k =
+    let e = room_set certificate i v (omega arith) r k in
     omega arith
 
 -- the mark of another address stays
 set_other : (certificate : List ℕ) (j v a : ℕ) → length certificate ≤ 4096 → a ≢ lowest certificate + j
-    → markAt (set certificate j v) a ≡ markAt certificate a
-unfolding markAt
+    → mark_at (set certificate j v) a ≡ mark_at certificate a
+unfolding mark_at
 set_other certificate j v a fits n = rw length-set (go (ltb a 4096) (leb 4096 (a + length certificate)) refl refl)
   where
     go : (s t : Bool) → ltb a 4096 ≡ s → leb 4096 (a + length certificate) ≡ t
@@ -42,40 +42,40 @@ set_other certificate j v a fits n = rw length-set (go (ltb a 4096) (leb 4096 (a
 
 -- the mark of the address is set
 pub set_same : (certificate : List ℕ) (j v : ℕ) → length certificate ≤ 4096 → j < length certificate
-    → markAt (set certificate j v) (lowest certificate + j) ≡ v
+    → mark_at (set certificate j v) (lowest certificate + j) ≡ v
 set_same certificate j v fits h =
     let l = length-set certificate j v in
-    let e = mark-is (set certificate j v) j (omega arith) (omega arith) in
+    let e = mark_is (set certificate j v) j (omega arith) (omega arith) in
     (rw length-set at e) ∙ get_or-set_same certificate j v 0 h
 
 -- and the kinds stay, where there was no mark, or one of the same kind
-pub kind-set : (certificate : List ℕ) (j v : ℕ) → length certificate ≤ 4096 → j < length certificate → WellFormed v
+pub kind_set : (certificate : List ℕ) (j v : ℕ) → length certificate ≤ 4096 → j < length certificate → WellFormed v
     → (get_or certificate j 0 ≡ 0) ⊎ (get_or certificate j 0 / 16 ≡ v / 16) → Kept certificate (set certificate j v)
 unfolding kind_at
-kind-set certificate j v fits h w same b k = go (eqb b (lowest certificate + j)) refl
+kind_set certificate j v fits h w same b k = go (eqb b (lowest certificate + j)) refl
   where
     old : (m : ℕ) → (m ≡ 0) ⊎ (m / 16 ≡ v / 16) → 1 ≤ kind_of m → kind_of v ≡ kind_of m
     old m (inl z) k = absurd (bad (rw z at k))
       where
         bad : 1 ≤ 0 → ⊥
         bad h = omega arith
-    old m (inr e) k = kind-of v w ∙ sym e ∙ sym (kind-of m (well-formed m k))
+    old m (inr e) k = kind_of_lem v w ∙ sym e ∙ sym (kind_of_lem m (well_formed_lem m k))
 
-    go : (t : Bool) → eqb b (lowest certificate + j) ≡ t → kind_of (markAt (set certificate j v) b)
-        ≡ kind_of (markAt certificate b)
+    go : (t : Bool) → eqb b (lowest certificate + j) ≡ t → kind_of (mark_at (set certificate j v) b)
+        ≡ kind_of (mark_at certificate b)
     go true p =
         let e = eqb-true b (lowest certificate + j) p in
-        let here = mark-is certificate j fits h in
+        let here = mark_is certificate j fits h in
         rw (e, set_same certificate j v fits h, here) (old (get_or certificate j 0) same (rw (e, here) at k))
     go false p = rw (set_other certificate j v b fits (eqb-false b (lowest certificate + j) p))
 
 pub fits : {image certificate : List ℕ} {wired : ℕ} → Sound image wired certificate → length certificate ≤ 4096
-fits {image} s = omega (arith, at-most-4096 (length image), s.size)
+fits {image} s = omega (arith, at_most_4096 (length image), s.size)
 
 -- a forced mark keeps the marks forced
-pub sound-set : (image certificate : List ℕ) (wired j v : ℕ) → Sound image wired certificate → j < length certificate
+pub sound_set : (image certificate : List ℕ) (wired j v : ℕ) → Sound image wired certificate → j < length certificate
     → Forced image wired (lowest certificate + j) v → Sound image wired (set certificate j v)
-sound-set image certificate wired j v s h f =
+sound_set image certificate wired j v s h f =
     record {
       image-length = s.image-length;
       size = simp length-set s.size;
@@ -83,7 +83,7 @@ sound-set image certificate wired j v s h f =
     }
   where
     go : (a : ℕ) → Marked (set certificate j v) a → (t : Bool) → eqb a (lowest certificate + j) ≡ t
-        → Forced image wired a (markAt (set certificate j v) a)
+        → Forced image wired a (mark_at (set certificate j v) a)
     go a n true p =
         let e = eqb-true a (lowest certificate + j) p in
         rw (e, set_same certificate j v (fits s) h) f

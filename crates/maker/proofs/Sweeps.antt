@@ -9,16 +9,16 @@ use lib.Dec.{ltb}
 use lib.ListN.{length}
 use borrow.Author.Tests.{ltb-true, ltb-false}
 use borrow.Author.Count.{below_more}
-use Rattle.isa.specs.Sources.{isNamed, vectorOf, resetVector}
+use Rattle.isa.specs.Sources.{is_named, vector_of, reset_vector}
 use Rattle.isa.specs.declared.Source.{Source}
 use Rattle.isa.specs.declared.Source.TheVariants.{Nmi, First, Second, Third, Fourth}
-use Rattle.certificate.proofs.Sound.{marked-in-rom}
+use Rattle.certificate.proofs.Sound.{marked_in_rom}
 use Rattle.maker.specs.declared.Change.{Change}
 use Rattle.maker.specs.declared.Change.TheVariants.{Same}
-use Rattle.maker.specs.Reach.{at-reset, at-vector, here}
+use Rattle.maker.specs.Reach.{at_reset, at_vector, here}
 use Rattle.maker.specs.Making.{Sound, Worked, joined, Demanded, LawfulAt, RunsAt, VisitedEach, Swept}
-use Rattle.isa.specs.Rom.{isImage, spacesIn}
-use Rattle.isa.proofs.Halves.{with-any-bank}
+use Rattle.isa.specs.Rom.{is_image, spaces_in}
+use Rattle.isa.proofs.Halves.{with_any_bank}
 use Rattle.certificate.specs.Rules.{Runs}
 use Rattle.maker.specs.Making.{SourceKind, Seeded, Seeds, Finished}
 use Rattle.maker.proofs.Rising.{then, by}
@@ -35,15 +35,15 @@ pub passed_none : {image certificate : List ℕ} {start : ℕ} → start ≡ 409
 passed_none {image} {certificate} {start} e wired s =
     record {
       sound = s;
-      told = (refl, λ a h m. absurd (omega (arith, e, h, (marked-in-rom certificate a m).least)));
+      told = (refl, λ a h m. absurd (omega (arith, e, h, (marked_in_rom certificate a m).least)));
       kept = λ b h. refl;
     }
 
-pub passed-more : {image before middle after : List ℕ} {i : ℕ} {p q : Change}
+pub passed_more : {image before middle after : List ℕ} {i : ℕ} {p q : Change}
     → Passed image before middle i p
     → ((wired : ℕ) → Sound image wired middle → Worked image wired (LawfulAt image i) middle after q)
     → Passed image before after (i + 1) (joined p q)
-passed-more {image} {before} {i = i} f g wired s =
+passed_more {image} {before} {i = i} f g wired s =
     let t = f wired s in
     by (λ z. λ a h. pick a (split a h) z.0 z.1) (then t (g wired t.sound))
   where
@@ -65,52 +65,52 @@ PassedPages image before after a end p =
     (wired : ℕ) → Sound image wired before
     → Worked image wired (λ m. (k : ℕ) → k < end → RunsAt image k a m) before after p
 
-pub pages-none : {image certificate : List ℕ} {a : ℕ} → PassedPages image certificate certificate a 0 Same
-pages-none wired s = record { sound = s; told = (refl, λ k h. absurd (omega arith)); kept = λ b h. refl }
+pub pages_none : {image certificate : List ℕ} {a : ℕ} → PassedPages image certificate certificate a 0 Same
+pages_none wired s = record { sound = s; told = (refl, λ k h. absurd (omega arith)); kept = λ b h. refl }
 
-pub pages-more : {image before middle after : List ℕ} {a i : ℕ} {p q : Change}
+pub pages_more : {image before middle after : List ℕ} {a i : ℕ} {p q : Change}
     → PassedPages image before middle a i p
     → ((wired : ℕ) → Sound image wired middle → Worked image wired (RunsAt image i a) middle after q)
     → PassedPages image before after a (i + 1) (joined p q)
-pages-more {image} {before} {a = a} {i = i} f g wired s =
+pages_more {image} {before} {a = a} {i = i} f g wired s =
     let t = f wired s in
     by (λ z. λ k h. below_more (λ j. RunsAt image j a before) i z.0 z.1 k h) (then t (g wired t.sound))
 
-pub pages-all : {image before after : List ℕ} {a : ℕ} {p : Change} → isImage (length image) ≡ true
-    → PassedPages image before after a (spacesIn (length image)) p → VisitedEach image before after a p
-pages-all {image} {before} {a = a} is f wired s =
+pub pages_all : {image before after : List ℕ} {a : ℕ} {p : Change} → is_image (length image) ≡ true
+    → PassedPages image before after a (spaces_in (length image)) p → VisitedEach image before after a p
+pages_all {image} {before} {a = a} is f wired s =
     by
     (λ z. λ m.
     record {
       mark = (z 0 (omega arith) m).0;
-      runs = with-any-bank image (λ program. Runs program before a) (λ k h. (z k h m).1);
+      runs = with_any_bank image (λ program. Runs program before a) (λ k h. (z k h m).1);
     })
     (f wired s)
 
 -- above ROM neither
-pub passed-all : {image before after : List ℕ} {i : ℕ} {p : Change} → 4096 ≤ i → Passed image before after i p
+pub passed_all : {image before after : List ℕ} {i : ℕ} {p : Change} → 4096 ≤ i → Passed image before after i p
     → Swept image before after p
-passed-all {before = before} h f wired s =
-    by (λ z. λ a m. z a (omega (arith, h, (marked-in-rom before a m).most)) m) (f wired s)
+passed_all {before = before} h f wired s =
+    by (λ z. λ a m. z a (omega (arith, h, (marked_in_rom before a m).most)) m) (f wired s)
 
 -- the vector of a source
-pub seeds : {before after : List ℕ} {p : Change} (wired : ℕ) (k : Source) → isNamed wired k ≡ true
-    → Demanded before after (vectorOf k) 3 0 p → Seeds wired (SourceKind wired k) before after p
-seeds wired k w d image s = by (λ m. λ w. m.kind-is) (d image wired s (at-vector k w) here).0
+pub seeds : {before after : List ℕ} {p : Change} (wired : ℕ) (k : Source) → is_named wired k ≡ true
+    → Demanded before after (vector_of k) 3 0 p → Seeds wired (SourceKind wired k) before after p
+seeds wired k w d image s = by (λ m. λ w. m.kind-is) (d image wired s (at_vector k w) here).0
 
-pub seeds-none : {certificate : List ℕ} (wired : ℕ) (k : Source) → isNamed wired k ≡ false
+pub seeds_none : {certificate : List ℕ} (wired : ℕ) (k : Source) → is_named wired k ≡ false
     → Seeds wired (SourceKind wired k) certificate certificate Same
-seeds-none wired k f image s =
+seeds_none wired k f image s =
     record { sound = s; told = (refl, λ t. absurd (false≢true (sym f ∙ t))); kept = λ b h. refl }
 
 -- all vectors, one after the other
-pub seeds-all : {a b c d e f g : List ℕ} {p p₀ p₁ p₂ p₃ p₄ : Change} (wired : ℕ) → Demanded a b resetVector 1 0 p
+pub seeds_all : {a b c d e f g : List ℕ} {p p₀ p₁ p₂ p₃ p₄ : Change} (wired : ℕ) → Demanded a b reset_vector 1 0 p
     → Seeds wired (SourceKind wired Nmi) b c p₀ → Seeds wired (SourceKind wired First) c d p₁
     → Seeds wired (SourceKind wired Second) d e p₂ → Seeds wired (SourceKind wired Third) e f p₃
     → Seeds wired (SourceKind wired Fourth) f g p₄
     → Seeds wired (Seeded wired) a g (joined p (joined p₀ (joined p₁ (joined p₂ (joined p₃ p₄)))))
-seeds-all {a} wired reset s₀ s₁ s₂ s₃ s₄ image s =
-    let t = (reset image wired s at-reset here).0 in
+seeds_all {a} wired reset s₀ s₁ s₂ s₃ s₄ image s =
+    let t = (reset image wired s at_reset here).0 in
     let t₀ = s₀ image t.sound in
     let t₁ = s₁ image t₀.sound in
     let t₂ = s₂ image t₁.sound in

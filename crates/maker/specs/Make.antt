@@ -1,8 +1,8 @@
 -- What the maker answers (document 02, W-202).
 use Rattle.std.specs.Prelude.{ℕ, ◌≡◌, ◌≢◌, List, [], ◌∷◌, length}
-use Rattle.certificate.specs.Check.{marksIn}
+use Rattle.certificate.specs.Check.{marks_in}
 use Rattle.isa.specs.Refusals.{Numbered, plain, numbered, Answer, done, refused}
-use Rattle.certificate.specs.Refusals.{Question, asks, FirstApplies, None, imageLength, unknownSource}
+use Rattle.certificate.specs.Refusals.{Question, asks, FirstApplies, None, image_length, unknown_source}
 use Rattle.maker.specs.declared.Made.{Made}
 use Rattle.maker.specs.declared.Made.TheVariants.{Written, Refused}
 use Rattle.maker.specs.Least.{NoneAccepted, Least}
@@ -13,17 +13,17 @@ made_of (Written levels) = done levels
 made_of (Refused refusal) = refused (numbered refusal)
 
 -- "25 when the buffer isn't the image's length"
-abbrev pub bufferLength : (image buffer : List ℕ) → Question
-bufferLength image buffer = asks (plain 25) (length buffer ≢ marksIn (length image))
+abbrev pub buffer_length : (image buffer : List ℕ) → Question
+buffer_length image buffer = asks (plain 25) (length buffer ≢ marks_in (length image))
 
 -- "26 exactly when no certificate would be accepted"
-abbrev pub noCertificate : (image : List ℕ) → (wired : ℕ) → Question
-noCertificate image wired = asks (plain 26) (NoneAccepted image wired)
+abbrev pub no_certificate : (image : List ℕ) → (wired : ℕ) → Question
+no_certificate image wired = asks (plain 26) (NoneAccepted image wired)
 
 -- "It refuses with 1, then 11, then 25 .., then 26 .."
 abbrev pub questions : (image : List ℕ) → (wired : ℕ) → (buffer : List ℕ) → List Question
 questions image wired buffer =
-    imageLength image ∷ unknownSource wired ∷ bufferLength image buffer ∷ noCertificate image wired ∷ []
+    image_length image ∷ unknown_source wired ∷ buffer_length image buffer ∷ no_certificate image wired ∷ []
 
 -- done where none of them applies, and the buffer then holds the least certificate; else the first that applies, and
 -- the buffer holds what it held. No choice is left to the program: there is one such answer, with one such buffer

@@ -1,14 +1,14 @@
 -- What holds while a certificate is made, for the contracts of the functions inside: every mark is forced, and each
 -- part of the work tells whether it changed the marks.
 use Rattle.std.specs.Prelude.{ℕ, ◌+◌, ◌-◌, ◌/◌, ◌%◌, ◌≤◌, ◌<◌, ◌≡◌, ◌≢◌, true, cond, List, [], ◌∷◌, ltb, length, get_or}
-use Rattle.isa.specs.Sources.{isNamed, vectorOf, resetVector}
+use Rattle.isa.specs.Sources.{is_named, vector_of, reset_vector}
 use Rattle.isa.specs.declared.Source.{Source}
 use Rattle.certificate.specs.declared.successors.Successor.{Successor}
-use Rattle.certificate.specs.Marks.{markAt, Marked, WellFormed, kind_at, needAt}
+use Rattle.certificate.specs.Marks.{mark_at, Marked, WellFormed, kind_at, need_at}
 use Rattle.certificate.specs.Links.{Link, Every}
 use Rattle.certificate.specs.Rules.{Runs, Lawful}
-use Rattle.certificate.specs.Check.{marksIn}
-use Rattle.isa.specs.Rom.{isImage, space_of}
+use Rattle.certificate.specs.Check.{marks_in}
+use Rattle.isa.specs.Rom.{is_image, space_of}
 use Rattle.maker.specs.declared.Change.{Change}
 use Rattle.maker.specs.declared.Change.TheVariants.{Same, Changed, Impossible}
 use Rattle.maker.specs.Reach.{Leads, Reachable, UsesLevels}
@@ -23,9 +23,9 @@ pub record Forced (image : List ℕ) (wired a mark : ℕ) : Type 0 where
 
 -- every mark is forced
 pub record Sound (image : List ℕ) (wired : ℕ) (certificate : List ℕ) : Type 0 where
-  pub image-length : isImage (length image) ≡ true
-  pub size : length certificate ≡ marksIn (length image)
-  pub forced : (a : ℕ) → Marked certificate a → Forced image wired a (markAt certificate a)
+  pub image_length : is_image (length image) ≡ true
+  pub size : length certificate ≡ marks_in (length image)
+  pub forced : (a : ℕ) → Marked certificate a → Forced image wired a (mark_at certificate a)
 
 -- how far the marks can still rise: it falls with each change
 unfoldable pub room : List ℕ → ℕ
@@ -61,8 +61,8 @@ joined Impossible second = Impossible
 
 -- an address has a kind, and at least a need
 pub record Meets (a kind need : ℕ) (certificate : List ℕ) : Type 0 where
-  pub kind-is : kind_at certificate a ≡ kind
-  pub need-least : need ≤ needAt certificate a
+  pub kind_is : kind_at certificate a ≡ kind
+  pub need_least : need ≤ need_at certificate a
 
 -- a kind and a need are demanded at a reachable address from which some path takes that need; what can be met is met
 abbrev pub Demanded : (before after : List ℕ) → (a kind need : ℕ) → Change → Type 0
@@ -73,9 +73,9 @@ Demanded before after a kind need p =
 
 -- a successor of code: its kind is one of the four, and it takes at most one level
 pub record Small (s : Successor) : Type 0 where
-  pub kind-least : 1 ≤ s.kind
-  pub kind-most : s.kind ≤ 4
-  pub levels-most : s.levels ≤ 1
+  pub kind_least : 1 ≤ s.kind
+  pub kind_most : s.kind ≤ 4
+  pub levels_most : s.levels ≤ 1
 
 -- the instruction at a leads to a successor
 abbrev pub LeadsTo : (image : List ℕ) → (a kind : ℕ) → Successor → Type 0
@@ -95,7 +95,7 @@ Followed before after a kind successors p =
 
 -- an edge of the program, between addresses that have kinds
 pub record Edge (image certificate : List ℕ) (from to levels : ℕ) : Type 0 where
-  pub kind-least : 1 ≤ kind_at certificate from
+  pub kind_least : 1 ≤ kind_at certificate from
   pub leads : Leads image from (kind_at certificate from) to (kind_at certificate to) levels
 
 -- .. to a successor
@@ -139,7 +139,7 @@ LawfulAt image a certificate = Marked certificate a → Lawful image certificate
 
 -- .. with a page in place
 abbrev pub RunsAt : (image : List ℕ) → (page a : ℕ) → (certificate : List ℕ) → Type 0
-RunsAt image page a certificate = Marked certificate a → WellFormed (markAt certificate a)
+RunsAt image page a certificate = Marked certificate a → WellFormed (mark_at certificate a)
     × Runs (space_of image page) certificate a
 
 -- an address is visited with a page in place, and edges lead from it to the successors
@@ -178,11 +178,11 @@ Swept image before after p =
 
 -- a source's vector is a service where the source is wired
 abbrev pub SourceKind : (wired : ℕ) → Source → (certificate : List ℕ) → Type 0
-SourceKind wired s certificate = isNamed wired s ≡ true → kind_at certificate (vectorOf s) ≡ 3
+SourceKind wired s certificate = is_named wired s ≡ true → kind_at certificate (vector_of s) ≡ 3
 
 -- FFEh is start_up code, and the vectors of the wired sources are services
 pub record Seeded (wired : ℕ) (certificate : List ℕ) : Type 0 where
-  pub start_up : kind_at certificate resetVector ≡ 1
+  pub start_up : kind_at certificate reset_vector ≡ 1
   pub vectors : (s : Source) → SourceKind wired s certificate
 
 -- vectors are demanded, whatever the image

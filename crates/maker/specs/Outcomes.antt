@@ -2,10 +2,10 @@
 -- `Makes` (specs/Make) of its answer; the three claims are what follows from it: `MadeIsLeast`, `RefusalsExactly` and
 -- `OneAnswer`.
 use Rattle.std.specs.Prelude.{ℕ, ◌≤◌, ◌≡◌, ◌⊎◌, List, [], ◌∷◌, ◌++◌, length}
-use Rattle.certificate.specs.Check.{marksIn}
+use Rattle.certificate.specs.Check.{marks_in}
 use Rattle.isa.specs.Refusals.{Numbered, Answer, done, refused}
-use Rattle.certificate.specs.Marks.{markAt, Marked, kind_at, needAt}
-use Rattle.certificate.specs.Check.{accepted, checkOf}
+use Rattle.certificate.specs.Marks.{mark_at, Marked, kind_at, need_at}
+use Rattle.certificate.specs.Check.{accepted, check_of}
 use Rattle.certificate.specs.Refusals.{Question, None}
 use Rattle.maker.specs.Reach.{Reachable}
 use Rattle.maker.specs.Least.{NoSmaller}
@@ -13,30 +13,30 @@ use Rattle.maker.specs.Make.{questions, Makes}
 
 -- another certificate has a mark at an address too, of the same kind and with at least the same need
 pub record Covers (other certificate : List ℕ) (a : ℕ) : Type 0 where
-  pub is-marked : Marked other a
+  pub is_marked : Marked other a
   pub same_kind : kind_at other a ≡ kind_at certificate a
-  pub need-least : needAt certificate a ≤ needAt other a
+  pub need_least : need_at certificate a ≤ need_at other a
 
 -- what the buffer holds where the maker answers a number of levels
 pub record MadeLeast (image : List ℕ) (wired : ℕ) (certificate : List ℕ) (levels : ℕ) : Type 0 where
   -- "write .. the accepted certificate": the check accepts it, with the number that the maker answers
-  pub is-accepted : checkOf image certificate wired ≡ accepted levels
+  pub is_accepted : check_of image certificate wired ≡ accepted levels
   -- ".. that marks only addresses reachable from FFEh or a wired vector", each with the kind that it is reached with
-  pub marked-reachable : (a : ℕ) → Marked certificate a → Reachable image wired a (kind_at certificate a)
+  pub marked_reachable : (a : ℕ) → Marked certificate a → Reachable image wired a (kind_at certificate a)
   -- it marks all of these too, so an address is reached with one kind only
-  pub reachable-marked :
+  pub reachable_marked :
       (a kind : ℕ) → Reachable image wired a kind → Marked certificate a × (kind_at certificate a ≡ kind)
   -- ".. with the least need at each": an accepted certificate has a mark at each of these addresses, of the same kind,
   -- with at least this need
-  pub least-need :
-      (other : List ℕ) (number : ℕ) → checkOf image other wired ≡ accepted number
+  pub least_need :
+      (other : List ℕ) (number : ℕ) → check_of image other wired ≡ accepted number
       → (a : ℕ) → Marked certificate a → Covers other certificate a
   -- ".. so no accepted one has a smaller need anywhere": at every address, marked or not
-  pub no-smaller : NoSmaller image wired certificate
+  pub no_smaller : NoSmaller image wired certificate
   -- "into a lent buffer": all of the buffer is written, a mark for each byte of the image ..
-  pub whole : length certificate ≡ marksIn (length image)
+  pub whole : length certificate ≡ marks_in (length image)
   -- .. which is 00h where the address is reached with no kind
-  pub unreachable : (a : ℕ) → ((kind : ℕ) → Reachable image wired a kind → ⊥) → markAt certificate a ≡ 0x00
+  pub unreachable : (a : ℕ) → ((kind : ℕ) → Reachable image wired a kind → ⊥) → mark_at certificate a ≡ 0x00
 
 -- "Given image and wired byte, write into a lent buffer the accepted certificate that marks only addresses reachable
 -- from FFEh or a wired vector, with the least need at each, so no accepted one has a smaller need anywhere."
@@ -72,9 +72,9 @@ pub record Refuses (image : List ℕ) (wired : ℕ) (before after : List ℕ) (a
   -- a refusal leaves the buffer as it was
   pub untouched : (r : Numbered) → answer ≡ refused r → after ≡ before
   -- a certificate is written exactly when none of 1, 11, 25 and 26 applies: only then ..
-  pub written-only : (levels : ℕ) → answer ≡ done levels → None (questions image wired before)
+  pub written_only : (levels : ℕ) → answer ≡ done levels → None (questions image wired before)
   -- .. and always then
-  pub written-always : None (questions image wired before) → (levels : ℕ) × (answer ≡ done levels)
+  pub written_always : None (questions image wired before) → (levels : ℕ) × (answer ≡ done levels)
 
 -- "It refuses with 1, then 11, then 25 when the buffer isn't the image's length, then 26 exactly when no certificate
 -- would be accepted."

@@ -3,10 +3,10 @@ use Rattle.std.specs.Prelude.{ℕ, ◌+◌, ◌≡◌, true, List}
 use Rattle.isa.specs.Rom.{space_of}
 use Rattle.isa.specs.Refusals.{done}
 use Rattle.isa.specs.Decode as decode
-use Rattle.isa.specs.Decode.{decodeAt}
-use Rattle.isa.specs.Displacement.{forwardOf}
+use Rattle.isa.specs.Decode.{decode_at}
+use Rattle.isa.specs.Displacement.{forward_of}
 use Rattle.isa.specs.ControlFlow.{flow_of}
-use Rattle.isa.specs.Sources.{isNamed, vectorOf, resetVector}
+use Rattle.isa.specs.Sources.{is_named, vector_of, reset_vector}
 use Rattle.isa.specs.declared.Condition.{Condition}
 use Rattle.isa.specs.declared.Flow.{Flow}
 use Rattle.isa.specs.declared.Flow.TheVariants as flow
@@ -18,14 +18,14 @@ use Rattle.isa.specs.declared.Source.{Source}
 -- the same kind. For CALL that is the address plus 2, and the target has kind 4.", "RETI in kind 1 has the next address,
 -- of kind 2"; RET, and RETI of a service, go on nowhere
 pub data Continues : (kind : ℕ) → Flow → (next : ℕ) → (address kind' levels : ℕ) → Type 0 where
-  goes-next : {k n : ℕ} → Continues k flow.Next n n k 0
+  goes_next : {k n : ℕ} → Continues k flow.Next n n k 0
   wakes : {k n : ℕ} → Continues k flow.Sleep n n k 0
   jumps : {k t n : ℕ} → Continues k (flow.Jump t) n t k 0
   branches : {c : Condition} {k t n : ℕ} → Continues k (flow.Branch c t) n t k 0
-  passes-by : {c : Condition} {k t n : ℕ} → Continues k (flow.Branch c t) n n k 0
+  passes_by : {c : Condition} {k t n : ℕ} → Continues k (flow.Branch c t) n n k 0
   calls : {k t n : ℕ} → Continues k (flow.Call t) n t 4 1
   comes_back : {k t n : ℕ} → Continues k (flow.Call t) n n k 0
-  ends-start-up : {n : ℕ} → Continues 1 flow.ReturnFromInterrupt n n 2 0
+  ends_start_up : {n : ℕ} → Continues 1 flow.ReturnFromInterrupt n n 2 0
 
 -- the instruction that stands at a, with some page in place, leads, in code of a kind, to b: reach is the union over
 -- the pages (document 02, W-210)
@@ -34,14 +34,14 @@ pub record Leads (image : List ℕ) (a kind b kind' levels : ℕ) : Type 0 where
   pub instruction : Instruction
   pub bytes : ℕ
   pub cycles : ℕ
-  pub decodes : decodeAt (space_of image bank) a ≡ done (decode.instruction instruction bytes cycles)
-  pub goes_on : Continues kind (flow_of instruction a) (forwardOf a bytes) b kind' levels
+  pub decodes : decode_at (space_of image bank) a ≡ done (decode.instruction instruction bytes cycles)
+  pub goes_on : Continues kind (flow_of instruction a) (forward_of a bytes) b kind' levels
 
 -- "addresses reachable from FFEh or a wired vector", each with the kind that the rules force on it: "FFEh has kind 1.
 -- Each wired source's vector has kind 3."
 pub data Reachable (image : List ℕ) (wired : ℕ) : (address kind : ℕ) → Type 0 where
-  at-reset : Reachable image wired resetVector 1
-  at-vector : (s : Source) → isNamed wired s ≡ true → Reachable image wired (vectorOf s) 3
+  at_reset : Reachable image wired reset_vector 1
+  at_vector : (s : Source) → is_named wired s ≡ true → Reachable image wired (vector_of s) 3
   onward :
       {a kind b kind' levels : ℕ} → Reachable image wired a kind → Leads image a kind b kind' levels
       → Reachable image wired b kind'

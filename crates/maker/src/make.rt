@@ -1,6 +1,6 @@
 // Makes the least certificate.
 ghost use Rattle.std.specs.Prelude.{◌≡◌, true};
-ghost use Rattle.isa.specs.Sources.{namesOnlySources};
+ghost use Rattle.isa.specs.Sources.{names_only_sources};
 ghost use Rattle.maker.specs.Making.{Sound};
 ghost use Rattle.maker.specs.Make.{made_of, Completed, Makes};
 
@@ -18,7 +18,7 @@ use isa::table::timings;
 // Raises the marks to the least certificate, where there is one: from the vectors along the program's paths, until the
 // check accepts them.
 fn complete(image: &[u8], certificate: &mut [u8], wired: u8) -> Made
-    requires { Sound image.now wired certificate.old × (namesOnlySources wired ≡ true) }
+    requires { Sound image.now wired certificate.old × (names_only_sources wired ≡ true) }
     ensures { Completed image.now wired certificate.new (made_of result) }
 {
     let table = timings();

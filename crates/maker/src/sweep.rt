@@ -2,7 +2,7 @@
 ghost use Rattle.std.specs.Prelude.{◌≡◌, true, ◌≤◌, length};
 ghost use Rattle.isa.specs.Table.{Timings};
 ghost use Rattle.isa.specs.Rom.{IsImage};
-ghost use Rattle.isa.specs.Sources.{namesOnlySources};
+ghost use Rattle.isa.specs.Sources.{names_only_sources};
 ghost use Rattle.maker.specs.Making.{Sound, VisitedEach, Swept, Worked, Finished};
 ghost use Rattle.maker.specs.Make.{made_of, Completed};
 
@@ -60,7 +60,7 @@ fn pass(table: &[u8; 256], image: &[u8], certificate: &mut [u8], wired: u8) -> C
 // Raises the marks until the check accepts them, or no certificate can be accepted. Where nothing was left out before,
 // the first check decides, or a single pass after it: the levels can still be too many.
 pub fn settle(table: &[u8; 256], image: &[u8], certificate: &mut [u8], wired: u8) -> Made
-    requires { Timings table.now × Sound image.now wired certificate.old × (namesOnlySources wired ≡ true) }
+    requires { Timings table.now × Sound image.now wired certificate.old × (names_only_sources wired ≡ true) }
     ensures { Completed image.now wired certificate.new (made_of result) }
 {
     loop {

@@ -7,7 +7,7 @@ use mathlib.Core.List.{List, [], ◌∷◌}
 use Rattle.isa.specs.Refusals.{unless}
 use Rattle.options.specs.declared.command_line.Usage.{Usage}
 use Rattle.options.specs.declared.command_line.Usage.TheVariants as usage
-use Rattle.options.specs.CommandLine.{argumentOf, isOpen, lackOf, missingOf, WiredIsNeverAssumed}
+use Rattle.options.specs.CommandLine.{argument_of, is_open, lack_of, missing_of, WiredIsNeverAssumed}
 
 -- of what is tried in order only the last can be fine
 tried :
@@ -22,14 +22,14 @@ tried true false image true place more e h = absurd (let z : ◌≡◌ {A = ℕ}
 tried true true true true place more e h = absurd (let z : ◌≡◌ {A = ℕ} 0 1 = cc in omega arith)
 tried true true false true place more e h = absurd (let z : ◌≡◌ {A = ℕ} 0 1 = cc in omega arith)
 
-pub wired-is-never-assumed : WiredIsNeverAssumed
-unfolding lackOf
-wired-is-never-assumed =
+pub wired_is_never_assumed : WiredIsNeverAssumed
+unfolding lack_of
+wired_is_never_assumed =
     record {
       check = λ places e h.
-          tried (isOpen places 13) (isOpen places 0) (isOpen places 1) (isOpen places 3) (argumentOf places 0)
+          tried (is_open places 13) (is_open places 0) (is_open places 1) (is_open places 3) (argument_of places 0)
           usage.Fine e h;
       certify = λ places e h.
-          tried (isOpen places 13) (isOpen places 0) (isOpen places 1) (isOpen places 3) (argumentOf places 0)
-          (missingOf places (5 ∷ [])) e h;
+          tried (is_open places 13) (is_open places 0) (is_open places 1) (is_open places 3) (argument_of places 0)
+          (missing_of places (5 ∷ [])) e h;
     }

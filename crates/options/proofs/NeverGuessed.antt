@@ -8,10 +8,10 @@ use lib.Dec.{eqb, leb}
 use lib.ListN.{length, take}
 use borrow.Author.Tests.{leb-true, leb-false}
 use Rattle.isa.specs.Refusals.{unless}
-use Rattle.isa.specs.Rom.{isImage}
+use Rattle.isa.specs.Rom.{is_image}
 use Rattle.hex.specs.declared.HexAnswer.{HexAnswer}
 use Rattle.hex.specs.declared.HexAnswer.TheVariants as hex
-use Rattle.hex.specs.Read.{answer_of, outcomeOf}
+use Rattle.hex.specs.Read.{answer_of, outcome_of}
 use Rattle.options.specs.declared.image.Rom.{Rom}
 use Rattle.options.specs.declared.image.Rom.TheVariants as rom
 use Rattle.options.specs.declared.image.Asked.{Asked}
@@ -19,9 +19,9 @@ use Rattle.options.specs.declared.image.Asked.TheVariants as asked
 use Rattle.options.specs.declared.image.ChosenBy.{ChosenBy}
 use Rattle.options.specs.declared.image.ChosenBy.TheVariants as by
 use Rattle.options.specs.declared.image.ImageRead.TheVariants as read
-use Rattle.options.specs.Image.{bytes_of, ByLowest, Got, got, hexGot, hexPut, imageGot, isHex, mayBe, rawGot}
-use Rattle.options.specs.Image.{SizeIsNeverGuessed, sizedBy, sizedByLowest, sizedFor, size_of}
-use Rattle.options.proofs.ImageLaws.{size-bytes}
+use Rattle.options.specs.Image.{bytes_of, ByLowest, Got, got, hex_got, hex_put, image_got, is_hex, may_be, raw_got}
+use Rattle.options.specs.Image.{SizeIsNeverGuessed, sized_by, sized_by_lowest, sized_for, size_of}
+use Rattle.options.proofs.ImageLaws.{size_bytes}
 
 module _ (size : Rom) (b : ChosenBy) (after : List ℕ) where
   abbrev Whole : Got
@@ -33,7 +33,7 @@ module _ (size : Rom) (b : ChosenBy) (after : List ℕ) where
   inside false space g e = absurd (let z : ◌≡◌ {A = ℕ} 0 1 = cc in omega arith)
 
   -- a size that is asked for
-  sized : (s : Rom) (x : HexAnswer) (space : List ℕ) → got (sizedBy s x) space ≡ Whole → size ≡ s
+  sized : (s : Rom) (x : HexAnswer) (space : List ℕ) → got (sized_by s x) space ≡ Whole → size ≡ s
   sized s (hex.Read lowest) space e = cc
   sized s (hex.Refused line fault) space e = absurd (let z : ◌≡◌ {A = ℕ} 0 1 = cc in omega arith)
   sized s hex.ImageLength space e = absurd (let z : ◌≡◌ {A = ℕ} 0 1 = cc in omega arith)
@@ -41,7 +41,7 @@ module _ (size : Rom) (b : ChosenBy) (after : List ℕ) where
   -- none that is asked for
   module _ (file : List ℕ) where
     by_address :
-        (lowest : ℕ) (space : List ℕ) (u v : Bool) → answer_of (outcomeOf file 4096) ≡ hex.Read lowest
+        (lowest : ℕ) (space : List ℕ) (u v : Bool) → answer_of (outcome_of file 4096) ≡ hex.Read lowest
         → leb 2048 lowest ≡ v
         → got (cond u read.Unnamed (read.Whole (cond v rom.Small rom.Large) (by.Lowest lowest))) space ≡ Whole
         → ByLowest file size b
@@ -49,7 +49,7 @@ module _ (size : Rom) (b : ChosenBy) (after : List ℕ) where
     by_address lowest space false true is l e =
         record {
           lowest = lowest;
-          isNamed = is;
+          is_named = is;
           chosen = cc;
           small = λ h. cc;
           large = λ h. absurd (omega (arith, leb-true 2048 lowest l));
@@ -57,60 +57,60 @@ module _ (size : Rom) (b : ChosenBy) (after : List ℕ) where
     by_address lowest space false false is l e =
         record {
           lowest = lowest;
-          isNamed = is;
+          is_named = is;
           chosen = cc;
           small = λ h. absurd (omega (arith, leb-false 2048 lowest l));
           large = λ h. cc;
         }
 
-    by-lowest :
-        (x : HexAnswer) (space : List ℕ) → answer_of (outcomeOf file 4096) ≡ x
-        → got (sizedByLowest x) space ≡ Whole → ByLowest file size b
-    unfolding sizedFor
-    by-lowest (hex.Read lowest) space is e = by_address lowest space (leb 4096 lowest) (leb 2048 lowest) is refl e
-    by-lowest (hex.Refused line fault) space is e = absurd (let z : ◌≡◌ {A = ℕ} 0 1 = cc in omega arith)
-    by-lowest hex.ImageLength space is e = absurd (let z : ◌≡◌ {A = ℕ} 0 1 = cc in omega arith)
+    by_lowest :
+        (x : HexAnswer) (space : List ℕ) → answer_of (outcome_of file 4096) ≡ x
+        → got (sized_by_lowest x) space ≡ Whole → ByLowest file size b
+    unfolding sized_for
+    by_lowest (hex.Read lowest) space is e = by_address lowest space (leb 4096 lowest) (leb 2048 lowest) is refl e
+    by_lowest (hex.Refused line fault) space is e = absurd (let z : ◌≡◌ {A = ℕ} 0 1 = cc in omega arith)
+    by_lowest hex.ImageLength space is e = absurd (let z : ◌≡◌ {A = ℕ} 0 1 = cc in omega arith)
 
     -- a raw file
-    of-raw :
-        (t u : Bool) (space with-file : List ℕ) → isImage (length file) ≡ t
+    of_raw :
+        (t u : Bool) (space with-file : List ℕ) → is_image (length file) ≡ t
         → unless t (got read.NoSize space)
         (unless u (got read.OtherSize space) (got (read.Whole (size_of (length file)) by.Size) with-file)) ≡ Whole
         → length file ≡ bytes_of size
-    of-raw true true space with-file is e =
+    of_raw true true space with-file is e =
         let same : size ≡ size_of (length file) = cc in
-        rw same (size-bytes (length file) is)
-    of-raw true false space with-file is e = absurd (let z : ◌≡◌ {A = ℕ} 0 1 = cc in omega arith)
-    of-raw false u space with-file is e = absurd (let z : ◌≡◌ {A = ℕ} 0 1 = cc in omega arith)
+        rw same (size_bytes (length file) is)
+    of_raw true false space with-file is e = absurd (let z : ◌≡◌ {A = ℕ} 0 1 = cc in omega arith)
+    of_raw false u space with-file is e = absurd (let z : ◌≡◌ {A = ℕ} 0 1 = cc in omega arith)
 
 module _ (file : List ℕ) (fill : ℕ) (raw : Bool) (space after : List ℕ) (size : Rom) (b : ChosenBy) where
   -- a HEX file, and a raw one
-  as-hex :
-      (a : Asked) → isHex file raw ≡ true → imageGot file a fill raw space ≡ got (read.Whole size b) after
-      → hexGot file a fill space ≡ got (read.Whole size b) after
-  unfolding imageGot
-  as-hex a h e = inside size b after (eqb (length space) 20480) space (hexGot file a fill space) (rw h at e)
+  as_hex :
+      (a : Asked) → is_hex file raw ≡ true → image_got file a fill raw space ≡ got (read.Whole size b) after
+      → hex_got file a fill space ≡ got (read.Whole size b) after
+  unfolding image_got
+  as_hex a h e = inside size b after (eqb (length space) 20480) space (hex_got file a fill space) (rw h at e)
 
-  as-raw :
-      (a : Asked) → isHex file raw ≡ false → imageGot file a fill raw space ≡ got (read.Whole size b) after
-      → rawGot file a space ≡ got (read.Whole size b) after
-  unfolding imageGot
-  as-raw a h e = inside size b after (eqb (length space) 20480) space (rawGot file a space) (rw h at e)
+  as_raw :
+      (a : Asked) → is_hex file raw ≡ false → image_got file a fill raw space ≡ got (read.Whole size b) after
+      → raw_got file a space ≡ got (read.Whole size b) after
+  unfolding image_got
+  as_raw a h e = inside size b after (eqb (length space) 20480) space (raw_got file a space) (rw h at e)
 
-  pub size-is-never-guessed : SizeIsNeverGuessed file fill raw space after size b
-  unfolding hexGot rawGot
-  size-is-never-guessed =
+  pub size_is_never_guessed : SizeIsNeverGuessed file fill raw space after size b
+  unfolding hex_got raw_got
+  size_is_never_guessed =
       record {
-        asks2K = λ h e.
-            sized size b after rom.Small (answer_of (outcomeOf file 2048)) (hexPut file rom.Small fill space)
-            (as-hex asked.Small h e);
-        asks4K = λ h e.
-            sized size b after rom.Large (answer_of (outcomeOf file 4096)) (hexPut file rom.Large fill space)
-            (as-hex asked.Large h e);
-        asksNothing = λ h e.
-            by-lowest size b after file (answer_of (outcomeOf file 4096)) (hexPut file rom.Large fill space)
-            refl (as-hex asked.Nothing h e);
-        isRaw = λ h a e.
-            of-raw size b after file (isImage (length file)) (mayBe a (size_of (length file))) space
-            (take (20480 - length file) space ++ file) refl (as-raw a h e);
+        asks_2k = λ h e.
+            sized size b after rom.Small (answer_of (outcome_of file 2048)) (hex_put file rom.Small fill space)
+            (as_hex asked.Small h e);
+        asks_4k = λ h e.
+            sized size b after rom.Large (answer_of (outcome_of file 4096)) (hex_put file rom.Large fill space)
+            (as_hex asked.Large h e);
+        asks_nothing = λ h e.
+            by_lowest size b after file (answer_of (outcome_of file 4096)) (hex_put file rom.Large fill space)
+            refl (as_hex asked.Nothing h e);
+        is_raw = λ h a e.
+            of_raw size b after file (is_image (length file)) (may_be a (size_of (length file))) space
+            (take (20480 - length file) space ++ file) refl (as_raw a h e);
       }

@@ -17,8 +17,8 @@ use Rattle.options.specs.declared.numbers.Parsed.{Parsed}
 use Rattle.options.specs.declared.numbers.Parsed.TheVariants as parsed
 use Rattle.options.specs.declared.wired.Wired.TheVariants as wired
 use Rattle.options.specs.declared.wired.Request.TheVariants as request
-use Rattle.options.specs.Numbers.{decimalNamed}
-use Rattle.options.specs.Wired.{bitNamed, parts_of, requestNamed, requestOf, wiredAfter}
+use Rattle.options.specs.Numbers.{decimal_named}
+use Rattle.options.specs.Wired.{bit_named, parts_of, request_named, request_of, wired_after}
 
 -- the index in all of a text
 pub index_in : (letter : ℕ) (text : List ℕ) → 0 + index_of letter (slice 0 (length text) text) ≡ index_of letter text
@@ -76,39 +76,39 @@ first_of letter (c ∷ rest) = go (eqb c letter) (first_of letter rest)
 
 module _ (byte : ℕ) (rest : List ℕ) (end : ℕ) (is : end ≡ index_of 44 rest) where
   -- the first part names no source
-  pub no_source : bitNamed (take end rest) ≡ 0 → wiredAfter byte (parts_of 44 rest) ≡ wired.Wrong
-  unfolding wiredAfter
+  pub no_source : bit_named (take end rest) ≡ 0 → wired_after byte (parts_of 44 rest) ≡ wired.Wrong
+  unfolding wired_after
   no_source e =
-      let none : bitNamed (take (index_of 44 rest) rest) ≡ 0 = rw is at e in
+      let none : bit_named (take (index_of 44 rest) rest) ≡ 0 = rw is at e in
       rw (first_of 44 rest, none)
 
-  module _ (bit : ℕ) (names : bit ≡ bitNamed (take end rest)) (some : bit ≡ 0 → ⊥) where
+  module _ (bit : ℕ) (names : bit ≡ bit_named (take end rest)) (some : bit ≡ 0 → ⊥) where
     -- it is the only one
-    pub last-source : end ≡ length rest → wiredAfter byte (parts_of 44 rest) ≡ wired.Byte (bit_or byte bit)
-    unfolding wiredAfter
-    last-source e =
+    pub last_source : end ≡ length rest → wired_after byte (parts_of 44 rest) ≡ wired.Byte (bit_or byte bit)
+    unfolding wired_after
+    last_source e =
         let all : take end rest ≡ rest = take_all end rest (omega arith) in
-        let here : bitNamed rest ≡ bit = sym (names ∙ ap bitNamed all) in
+        let here : bit_named rest ≡ bit = sym (names ∙ ap bit_named all) in
         rw (only_part 44 rest (sym is ∙ e), here, ne_eqb bit 0 some)
 
     -- parts follow it
-    pub one-source :
+    pub one_source :
         end < length rest
-        → wiredAfter (bit_or byte bit) (parts_of 44 (take (length rest - (end + 1)) (drop (end + 1) rest)))
-        ≡ wiredAfter byte (parts_of 44 rest)
-    unfolding wiredAfter
-    one-source l =
+        → wired_after (bit_or byte bit) (parts_of 44 (take (length rest - (end + 1)) (drop (end + 1) rest)))
+        ≡ wired_after byte (parts_of 44 rest)
+    unfolding wired_after
+    one_source l =
         let parts : parts_of 44 rest ≡ take end rest ∷ parts_of 44 (drop (suc end) rest) =
         rw is (first_part 44 rest (rw is at l)) in
         rw (to_end rest (end + 1) (omega arith), parts, ← names, ne_eqb bit 0 some, add-one end)
 
 -- a request by its parts
-pub request-of :
+pub request_of_lem :
     (text : List ℕ) (middle bit : ℕ) (p : Parsed) → middle ≡ index_of 0x3D text → middle < length text
-    → bit ≡ bitNamed (take (length text - (middle + 1)) (drop (middle + 1) text)) → p ≡ decimalNamed (take middle text)
-    → requestNamed text ≡ requestOf p bit
-unfolding requestNamed
-request-of text middle bit p is l b d =
+    → bit ≡ bit_named (take (length text - (middle + 1)) (drop (middle + 1) text)) → p ≡ decimal_named (take middle text)
+    → request_named text ≡ request_of p bit
+unfolding request_named
+request_of_lem text middle bit p is l b d =
     rw (
       ← is,
       lt-ltb middle (length text) l,
@@ -119,10 +119,10 @@ request-of text middle bit p is l b d =
     )
 
 pub no_middle :
-    (text : List ℕ) (middle : ℕ) → middle ≡ index_of 0x3D text → middle ≡ length text → requestNamed text ≡ request.Wrong
-unfolding requestNamed
+    (text : List ℕ) (middle : ℕ) → middle ≡ index_of 0x3D text → middle ≡ length text → request_named text ≡ request.Wrong
+unfolding request_named
 no_middle text middle is e = rw (← is, le-ltb middle (length text) (omega arith))
 
-pub no-request : (p : Parsed) → requestOf p 0 ≡ request.Wrong
-no-request (parsed.Number step) = refl
-no-request parsed.Wrong = refl
+pub no_request : (p : Parsed) → request_of p 0 ≡ request.Wrong
+no_request (parsed.Number step) = refl
+no_request parsed.Wrong = refl

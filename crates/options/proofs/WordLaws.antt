@@ -10,7 +10,7 @@ use lib.ListN.{length, drop, get_or, drop_of_length-le}
 use lib.Seq.{drop-cons}
 use borrow.Author.Tests.{eqb-true, eq-eqb, ne_eqb}
 use Rattle.options.specs.declared.words.Word.TheVariants as word
-use Rattle.options.specs.Words.{otherWord, same, SameIsEqual}
+use Rattle.options.specs.Words.{other_word, same, SameIsEqual}
 
 equal : (a b : List ℕ) → same a b ≡ true → a ≡ b
 unfolding same
@@ -26,8 +26,8 @@ unfolding same
 itself [] = refl
 itself (x ∷ a) = rw (eq-eqb x x refl) (itself a)
 
-pub same-is-equal : SameIsEqual
-same-is-equal = record { equal = equal; itself = itself }
+pub same_is_equal : SameIsEqual
+same_is_equal = record { equal = equal; itself = itself }
 
 -- words of different lengths
 pub other_length : (a b : List ℕ) → (length a ≡ length b → ⊥) → same a b ≡ false
@@ -39,32 +39,32 @@ other_length (x ∷ a) (y ∷ b) n = rw (other_length a b (λ e. n (ap suc e))) 
 
 module _ (a b : List ℕ) (i : ℕ) (p : i < length a) (q : i < length b) where
   -- from a letter on: it differs, or the letters after it decide
-  pub other-letter : (get_or a i 0 ≡ get_or b i 0 → ⊥) → same (drop i a) (drop i b) ≡ false
+  pub other_letter : (get_or a i 0 ≡ get_or b i 0 → ⊥) → same (drop i a) (drop i b) ≡ false
   unfolding same
-  other-letter n = rw (drop-cons a i 0 p, drop-cons b i 0 q, ne_eqb _ _ n)
+  other_letter n = rw (drop-cons a i 0 p, drop-cons b i 0 q, ne_eqb _ _ n)
 
-  pub same-letter : get_or a i 0 ≡ get_or b i 0 → same (drop (i + 1) a) (drop (i + 1) b) ≡ same (drop i a) (drop i b)
+  pub same_letter : get_or a i 0 ≡ get_or b i 0 → same (drop (i + 1) a) (drop (i + 1) b) ≡ same (drop i a) (drop i b)
   unfolding same
-  same-letter e = rw (add-one i, drop-cons a i 0 p, drop-cons b i 0 q, eq-eqb _ _ e)
+  same_letter e = rw (add-one i, drop-cons a i 0 p, drop-cons b i 0 q, eq-eqb _ _ e)
 
 -- no letters are left
-pub no-letters : (a b : List ℕ) (i : ℕ) → length a ≤ i → length b ≤ i → same (drop i a) (drop i b) ≡ true
+pub no_letters : (a b : List ℕ) (i : ℕ) → length a ≤ i → length b ≤ i → same (drop i a) (drop i b) ≡ true
 unfolding same
-no-letters a b i p q = rw (drop_of_length-le a {i = i} p, drop_of_length-le b {i = i} q)
+no_letters a b i p q = rw (drop_of_length-le a {i = i} p, drop_of_length-le b {i = i} q)
 
 -- a word that is no option, by its first letter
-pub empty-word : (w : List ℕ) → length w ≡ 0 → otherWord w ≡ word.Unknown
-empty-word [] e = refl
-empty-word (x ∷ w) e = absurd (omega arith)
+pub empty_word : (w : List ℕ) → length w ≡ 0 → other_word w ≡ word.Unknown
+empty_word [] e = refl
+empty_word (x ∷ w) e = absurd (omega arith)
 
-pub hyphen : (w : List ℕ) → (length w ≡ 0 → ⊥) → get_or w 0 0 ≡ 0x2D → otherWord w ≡ word.Unknown
+pub hyphen : (w : List ℕ) → (length w ≡ 0 → ⊥) → get_or w 0 0 ≡ 0x2D → other_word w ≡ word.Unknown
 hyphen [] n e = absurd (n refl)
 hyphen (x ∷ w) n e = rw (eq-eqb x 0x2D e)
 
-pub no-hyphen : (w : List ℕ) → (length w ≡ 0 → ⊥) → (get_or w 0 0 ≡ 0x2D → ⊥) → otherWord w ≡ word.File
-no-hyphen [] n e = absurd (n refl)
-no-hyphen (x ∷ w) n e = rw (ne_eqb x 0x2D e)
+pub no_hyphen : (w : List ℕ) → (length w ≡ 0 → ⊥) → (get_or w 0 0 ≡ 0x2D → ⊥) → other_word w ≡ word.File
+no_hyphen [] n e = absurd (n refl)
+no_hyphen (x ∷ w) n e = rw (ne_eqb x 0x2D e)
 
-pub or-false : (b : Bool) → b || false ≡ b
-or-false true = refl
-or-false false = refl
+pub or_false : (b : Bool) → b || false ≡ b
+or_false true = refl
+or_false false = refl

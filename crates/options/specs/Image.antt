@@ -1,10 +1,10 @@
 -- The image that a file holds: Intel HEX, which begins with a colon, or raw bytes.
 use Rattle.std.specs.Prelude.{ℕ, ◌+◌, ◌*◌, ◌-◌, ◌≤◌, ◌<◌, ◌≡◌, Bool, true, false, cond, List, [], ◌∷◌, ◌++◌, eqb, leb, length, take, drop, get_or}
 use Rattle.isa.specs.Refusals.{unless}
-use Rattle.isa.specs.Rom.{isImage, spacesIn}
+use Rattle.isa.specs.Rom.{is_image, spaces_in}
 use Rattle.hex.specs.declared.HexAnswer.{HexAnswer}
 use Rattle.hex.specs.declared.HexAnswer.TheVariants as hex
-use Rattle.hex.specs.Read.{answer_of, imageAfter, outcomeOf}
+use Rattle.hex.specs.Read.{answer_of, image_after, outcome_of}
 use Rattle.listing.specs.Words.{ascii}
 use Rattle.options.specs.declared.image.Rom.{Rom}
 use Rattle.options.specs.declared.image.Rom.TheVariants as rom
@@ -14,15 +14,15 @@ use Rattle.options.specs.declared.image.ChosenBy.{ChosenBy}
 use Rattle.options.specs.declared.image.ChosenBy.TheVariants as by
 use Rattle.options.specs.declared.image.ImageRead.{ImageRead}
 use Rattle.options.specs.declared.image.ImageRead.TheVariants as read
-use Rattle.options.specs.Words.{lookUp, named}
+use Rattle.options.specs.Words.{look_up, named}
 
 -- a file is Intel HEX where it begins with a colon, unless it is said to be raw
-unfoldable pub isHex : (file : List ℕ) → (raw : Bool) → Bool
-isHex file raw = cond raw false (eqb (get_or file 0 0) 0x3A)
+unfoldable pub is_hex : (file : List ℕ) → (raw : Bool) → Bool
+is_hex file raw = cond raw false (eqb (get_or file 0 0) 0x3A)
 
 -- the sizes by name
-unfoldable pub sizeNamed : (word : List ℕ) → Asked
-sizeNamed = lookUp asked.Wrong (named (ascii "2K") asked.Small ∷ named (ascii "4K") asked.Large ∷ [])
+unfoldable pub size_named : (word : List ℕ) → Asked
+size_named = look_up asked.Wrong (named (ascii "2K") asked.Small ∷ named (ascii "4K") asked.Large ∷ [])
 
 -- how many bytes an image has: a paged one its pages and the fixed half
 abbrev pub bytes_of : Rom → ℕ
@@ -32,76 +32,76 @@ bytes_of (rom.Paged pages) = (pages + 1) * 2048
 
 -- the size of an image of so many bytes
 unfoldable pub size_of : (bytes : ℕ) → Rom
-size_of n = cond (eqb n 2048) rom.Small (cond (eqb n 4096) rom.Large (rom.Paged (spacesIn n)))
+size_of n = cond (eqb n 2048) rom.Small (cond (eqb n 4096) rom.Large (rom.Paged (spaces_in n)))
 
 -- a size may be that which is asked for; no word asks for pages
-abbrev pub mayBe : Asked → Rom → Bool
-mayBe asked.Small rom.Small = true
-mayBe asked.Small rom.Large = false
-mayBe asked.Small (rom.Paged pages) = false
-mayBe asked.Large rom.Small = false
-mayBe asked.Large rom.Large = true
-mayBe asked.Large (rom.Paged pages) = false
-mayBe asked.Nothing size = true
-mayBe asked.Wrong size = true
+abbrev pub may_be : Asked → Rom → Bool
+may_be asked.Small rom.Small = true
+may_be asked.Small rom.Large = false
+may_be asked.Small (rom.Paged pages) = false
+may_be asked.Large rom.Small = false
+may_be asked.Large rom.Large = true
+may_be asked.Large (rom.Paged pages) = false
+may_be asked.Nothing size = true
+may_be asked.Wrong size = true
 
 -- what came of a file, and the space after it
 pub data Got : Type 0 where
   got : (r : ImageRead) (space : List ℕ) → Got
 
 -- a HEX file's image, of a size that was asked for
-abbrev pub sizedBy : Rom → HexAnswer → ImageRead
-sizedBy size (hex.Read lowest) = read.Whole size by.Option
-sizedBy size (hex.Refused line fault) = read.Fault line fault
-sizedBy size hex.ImageLength = read.NoSize
+abbrev pub sized_by : Rom → HexAnswer → ImageRead
+sized_by size (hex.Read lowest) = read.Whole size by.Option
+sized_by size (hex.Refused line fault) = read.Fault line fault
+sized_by size hex.ImageLength = read.NoSize
 
 -- .. and of the size for the lowest address that it names: 2K from 800h on, else 4K; at 4096 it names none
-unfoldable pub sizedFor : (lowest : ℕ) → ImageRead
-sizedFor lowest =
+unfoldable pub sized_for : (lowest : ℕ) → ImageRead
+sized_for lowest =
     cond (leb 4096 lowest) read.Unnamed
     (read.Whole (cond (leb 2048 lowest) rom.Small rom.Large) (by.Lowest lowest))
 
-abbrev pub sizedByLowest : HexAnswer → ImageRead
-sizedByLowest (hex.Read lowest) = sizedFor lowest
-sizedByLowest (hex.Refused line fault) = read.Fault line fault
-sizedByLowest hex.ImageLength = read.NoSize
+abbrev pub sized_by_lowest : HexAnswer → ImageRead
+sized_by_lowest (hex.Read lowest) = sized_for lowest
+sized_by_lowest (hex.Refused line fault) = read.Fault line fault
+sized_by_lowest hex.ImageLength = read.NoSize
 
 -- a HEX file read into the last bytes of a space, as many as an image of that size has; where a line is at fault, the
 -- space stays as it was
-abbrev pub hexPut : (file : List ℕ) → (size : Rom) → (fill : ℕ) → (space : List ℕ) → List ℕ
-hexPut file size fill space =
+abbrev pub hex_put : (file : List ℕ) → (size : Rom) → (fill : ℕ) → (space : List ℕ) → List ℕ
+hex_put file size fill space =
     let start = 20480 - bytes_of size in
-    take start space ++ imageAfter fill (drop start space) (outcomeOf file (bytes_of size))
+    take start space ++ image_after fill (drop start space) (outcome_of file (bytes_of size))
 
 -- .. as 2K where that is asked for, else as 4K, also where the file names no address
-unfoldable pub hexGot : (file : List ℕ) → Asked → (fill : ℕ) → (space : List ℕ) → Got
-hexGot file asked.Small fill space =
-    got (sizedBy rom.Small (answer_of (outcomeOf file 2048))) (hexPut file rom.Small fill space)
-hexGot file asked.Large fill space =
-    got (sizedBy rom.Large (answer_of (outcomeOf file 4096))) (hexPut file rom.Large fill space)
-hexGot file asked.Nothing fill space =
-    got (sizedByLowest (answer_of (outcomeOf file 4096))) (hexPut file rom.Large fill space)
-hexGot file asked.Wrong fill space =
-    got (sizedByLowest (answer_of (outcomeOf file 4096))) (hexPut file rom.Large fill space)
+unfoldable pub hex_got : (file : List ℕ) → Asked → (fill : ℕ) → (space : List ℕ) → Got
+hex_got file asked.Small fill space =
+    got (sized_by rom.Small (answer_of (outcome_of file 2048))) (hex_put file rom.Small fill space)
+hex_got file asked.Large fill space =
+    got (sized_by rom.Large (answer_of (outcome_of file 4096))) (hex_put file rom.Large fill space)
+hex_got file asked.Nothing fill space =
+    got (sized_by_lowest (answer_of (outcome_of file 4096))) (hex_put file rom.Large fill space)
+hex_got file asked.Wrong fill space =
+    got (sized_by_lowest (answer_of (outcome_of file 4096))) (hex_put file rom.Large fill space)
 
 -- a raw file has 1 to 10 halves, and is put into the last bytes of a space where it may be of that size
-unfoldable pub rawGot : (file : List ℕ) → Asked → (space : List ℕ) → Got
-rawGot file a space =
+unfoldable pub raw_got : (file : List ℕ) → Asked → (space : List ℕ) → Got
+raw_got file a space =
     let size = size_of (length file) in
-    unless (isImage (length file)) (got read.NoSize space)
-    (unless (mayBe a size) (got read.OtherSize space)
+    unless (is_image (length file)) (got read.NoSize space)
+    (unless (may_be a size) (got read.OtherSize space)
     (got (read.Whole size by.Size) (take (20480 - length file) space ++ file)))
 
 -- a file read into a space, which has as many bytes as the longest image
-unfoldable pub imageGot : (file : List ℕ) → Asked → (fill : ℕ) → (raw : Bool) → (space : List ℕ) → Got
-imageGot file a fill raw space =
+unfoldable pub image_got : (file : List ℕ) → Asked → (fill : ℕ) → (raw : Bool) → (space : List ℕ) → Got
+image_got file a fill raw space =
     unless (eqb (length space) 20480) (got read.NoSize space)
-    (cond (isHex file raw) (hexGot file a fill space) (rawGot file a space))
+    (cond (is_hex file raw) (hex_got file a fill space) (raw_got file a space))
 
 -- where no size is asked for, that of a HEX file's image is chosen by the lowest address that the file names
 pub record ByLowest (file : List ℕ) (size : Rom) (b : ChosenBy) : Type 0 where
   pub lowest : ℕ
-  pub isNamed : answer_of (outcomeOf file 4096) ≡ hex.Read lowest
+  pub is_named : answer_of (outcome_of file 4096) ≡ hex.Read lowest
   pub chosen : b ≡ by.Lowest lowest
   pub small : 2048 ≤ lowest → size ≡ rom.Small
   pub large : lowest < 2048 → size ≡ rom.Large
@@ -111,15 +111,15 @@ pub record ByLowest (file : List ℕ) (size : Rom) (b : ChosenBy) : Type 0 where
 -- proved by size-is-never-guessed, proofs/NeverGuessed
 pub record SizeIsNeverGuessed
     (file : List ℕ) (fill : ℕ) (raw : Bool) (space after : List ℕ) (size : Rom) (b : ChosenBy) : Type 0 where
-  pub asks2K :
-      isHex file raw ≡ true → imageGot file asked.Small fill raw space ≡ got (read.Whole size b) after
+  pub asks_2k :
+      is_hex file raw ≡ true → image_got file asked.Small fill raw space ≡ got (read.Whole size b) after
       → size ≡ rom.Small
-  pub asks4K :
-      isHex file raw ≡ true → imageGot file asked.Large fill raw space ≡ got (read.Whole size b) after
+  pub asks_4k :
+      is_hex file raw ≡ true → image_got file asked.Large fill raw space ≡ got (read.Whole size b) after
       → size ≡ rom.Large
-  pub asksNothing :
-      isHex file raw ≡ true → imageGot file asked.Nothing fill raw space ≡ got (read.Whole size b) after
+  pub asks_nothing :
+      is_hex file raw ≡ true → image_got file asked.Nothing fill raw space ≡ got (read.Whole size b) after
       → ByLowest file size b
-  pub isRaw :
-      isHex file raw ≡ false → (a : Asked) → imageGot file a fill raw space ≡ got (read.Whole size b) after
+  pub is_raw :
+      is_hex file raw ≡ false → (a : Asked) → image_got file a fill raw space ≡ got (read.Whole size b) after
       → length file ≡ bytes_of size

@@ -1,30 +1,30 @@
 -- Numbers on the command line.
 use Rattle.std.specs.Prelude.{ℕ, ◌+◌, ◌-◌, ◌*◌, Bool, true, ◌&&◌, cond, List, [], ◌∷◌, eqb, leb, length, get_or}
 use Rattle.isa.specs.Refusals.{unless}
-use Rattle.hex.specs.Digits.{digitOf}
+use Rattle.hex.specs.Digits.{digit_of}
 use Rattle.options.specs.declared.numbers.Parsed.{Parsed}
 use Rattle.options.specs.declared.numbers.Parsed.TheVariants as parsed
 
 -- every letter is one of `0` to `9`
-unfoldable pub areDecimal : (text : List ℕ) → Bool
-areDecimal [] = true
-areDecimal (c ∷ rest) = (leb 0x30 c && leb c 0x39) && areDecimal rest
+unfoldable pub are_decimal : (text : List ℕ) → Bool
+are_decimal [] = true
+are_decimal (c ∷ rest) = (leb 0x30 c && leb c 0x39) && are_decimal rest
 
 -- the value of decimal digits after a value
-unfoldable pub valueAfter : (value : ℕ) → (digits : List ℕ) → ℕ
-valueAfter value [] = value
-valueAfter value (c ∷ rest) = valueAfter (value * 10 + (c - 0x30)) rest
+unfoldable pub value_after : (value : ℕ) → (digits : List ℕ) → ℕ
+value_after value [] = value
+value_after value (c ∷ rest) = value_after (value * 10 + (c - 0x30)) rest
 
 -- a value up to 65,535 of decimal digits
-unfoldable pub parsedAfter : (value : ℕ) → (digits : List ℕ) → Parsed
-parsedAfter value digits =
-    unless (areDecimal digits) parsed.Wrong
-    (unless (leb (valueAfter value digits) 65535) parsed.Wrong
-    (parsed.Number (valueAfter value digits)))
+unfoldable pub parsed_after : (value : ℕ) → (digits : List ℕ) → Parsed
+parsed_after value digits =
+    unless (are_decimal digits) parsed.Wrong
+    (unless (leb (value_after value digits) 65535) parsed.Wrong
+    (parsed.Number (value_after value digits)))
 
 -- a decimal number has a digit
-unfoldable pub decimalNamed : (text : List ℕ) → Parsed
-decimalNamed text = unless (leb 1 (length text)) parsed.Wrong (parsedAfter 0 text)
+unfoldable pub decimal_named : (text : List ℕ) → Parsed
+decimal_named text = unless (leb 1 (length text)) parsed.Wrong (parsed_after 0 text)
 
 -- the byte of two hexadecimal digits; a digit's value is 16 where it is none
 abbrev pub byte_of : (high low : ℕ) → Parsed
@@ -34,6 +34,6 @@ byte_of high low =
     (parsed.Number (high * 16 + low)))
 
 -- a byte in two hexadecimal digits
-unfoldable pub byteNamed : (text : List ℕ) → Parsed
-byteNamed text =
-    unless (eqb (length text) 2) parsed.Wrong (byte_of (digitOf (get_or text 0 0)) (digitOf (get_or text 1 0)))
+unfoldable pub byte_named : (text : List ℕ) → Parsed
+byte_named text =
+    unless (eqb (length text) 2) parsed.Wrong (byte_of (digit_of (get_or text 0 0)) (digit_of (get_or text 1 0)))

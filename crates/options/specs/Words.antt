@@ -26,14 +26,14 @@ pub data Named (A : Type 0) : Type 0 where
   named : (name : List ℕ) → A → Named A
 
 -- what a word stands for in a table of names, or else nothing
-abbrev pub lookUp : {A : Type 0} → (nothing : A) → List (Named A) → (word : List ℕ) → A
-lookUp nothing [] w = nothing
-lookUp nothing (named name meaning ∷ rest) w = cond (same w name) meaning (lookUp nothing rest w)
+abbrev pub look_up : {A : Type 0} → (nothing : A) → List (Named A) → (word : List ℕ) → A
+look_up nothing [] w = nothing
+look_up nothing (named name meaning ∷ rest) w = cond (same w name) meaning (look_up nothing rest w)
 
 -- the commands by name; every other word is none
-unfoldable pub commandNamed : (word : List ℕ) → Command
-commandNamed =
-    lookUp command.Unknown
+unfoldable pub command_named : (word : List ℕ) → Command
+command_named =
+    look_up command.Unknown
     (named (ascii "check") command.Check
     ∷ named (ascii "certify") command.Certify
     ∷ named (ascii "list") command.List
@@ -45,9 +45,9 @@ commandNamed =
     ∷ [])
 
 -- the options with a value, by their places; 0 for a word that is none
-unfoldable pub valuedNamed : (word : List ℕ) → ℕ
-valuedNamed =
-    lookUp 0
+unfoldable pub valued_named : (word : List ℕ) → ℕ
+valued_named =
+    look_up 0
     (named (ascii "--wired") place.wired
     ∷ named (ascii "--marks") place.marks
     ∷ named (ascii "-o") place.output
@@ -59,22 +59,22 @@ valuedNamed =
     ∷ [])
 
 -- .. and those without
-unfoldable pub flagNamed : (word : List ℕ) → ℕ
-flagNamed =
-    lookUp 0
+unfoldable pub flag_named : (word : List ℕ) → ℕ
+flag_named =
+    look_up 0
     (named (ascii "--raw") place.raw
     ∷ named (ascii "--quiet") place.quiet
     ∷ named (ascii "--help") place.help
     ∷ [])
 
 -- a word that is no option: a file's name, unless it is empty or begins with a hyphen
-abbrev pub otherWord : (word : List ℕ) → Word
-otherWord [] = word.Unknown
-otherWord (letter ∷ rest) = cond (eqb letter 0x2D) word.Unknown word.File
+abbrev pub other_word : (word : List ℕ) → Word
+other_word [] = word.Unknown
+other_word (letter ∷ rest) = cond (eqb letter 0x2D) word.Unknown word.File
 
 -- what a word after the command's name is
 unfoldable pub word_for : (word : List ℕ) → Word
 word_for w =
-    unless (eqb (valuedNamed w) 0) (word.Valued (valuedNamed w))
-    (unless (eqb (flagNamed w) 0) (word.Flag (flagNamed w))
-    (otherWord w))
+    unless (eqb (valued_named w) 0) (word.Valued (valued_named w))
+    (unless (eqb (flag_named w) 0) (word.Flag (flag_named w))
+    (other_word w))

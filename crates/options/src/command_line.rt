@@ -1,7 +1,7 @@
 // The command line, word by word: which argument gives what, or what is wrong with it.
 ghost use Rattle.std.specs.Prelude.{◌<◌, ◌≡◌, [], ◌∷◌};
-ghost use Rattle.options.specs.CommandLine.{afterWord, badValueOf, commonOptions, hasOption, isAmong, lackOf};
-ghost use Rattle.options.specs.CommandLine.{missingOf, moreFiles, moreNeeded, noted, notedFile, notedOption};
+ghost use Rattle.options.specs.CommandLine.{after_word, bad_value_of, common_options, has_option, is_among, lack_of};
+ghost use Rattle.options.specs.CommandLine.{missing_of, more_files, more_needed, noted, noted_file, noted_option};
 ghost use Rattle.options.specs.CommandLine.{step};
 
 use crate::Command;
@@ -31,7 +31,7 @@ pub enum Usage {
 
 // Whether every command that reads an image has an option.
 fn is_common(place: usize) -> bool
-    ensures { result ≡ isAmong place commonOptions }
+    ensures { result ≡ is_among place common_options }
 {
     if place == ROM {
         return true;
@@ -47,7 +47,7 @@ fn is_common(place: usize) -> bool
 
 // Whether a command has an option.
 pub fn takes(command: Command, place: usize) -> bool
-    ensures { result ≡ hasOption command place }
+    ensures { result ≡ has_option command place }
 {
     if is_common(place) {
         return true;
@@ -82,7 +82,7 @@ fn note(places: &mut [usize; PLACES], place: usize, argument: usize) -> Usage
 
 // Notes a file's name: the image, then, to play, the record.
 fn note_file(places: &mut [usize; PLACES], command: Command, argument: usize) -> Usage
-    ensures { step result places.new ≡ notedFile places.old (1 ∷ moreFiles command) argument }
+    ensures { step result places.new ≡ noted_file places.old (1 ∷ more_files command) argument }
 {
     if places[IMAGE] == 0 {
         places[IMAGE] = argument;
@@ -106,7 +106,7 @@ fn note_option(
     has_value: bool,
 ) -> Usage
     ensures { step result places.new
-        ≡ notedOption places.old command place argument has_value }
+        ≡ noted_option places.old command place argument has_value }
 {
     if !takes(command, place) {
         return Usage::Unfit(place);
@@ -126,7 +126,7 @@ pub fn take_word(
     argument: usize,
 ) -> Usage
     ensures { step result places.new
-        ≡ afterWord places.old command word.now argument }
+        ≡ after_word places.old command word.now argument }
 {
     let awaited = places[AWAITED];
     if awaited != 0 {
@@ -144,7 +144,7 @@ pub fn take_word(
 // Whether a place that is needed is not given.
 fn missing(places: &[usize; PLACES], place: usize) -> Usage
     requires { place < 16 }
-    ensures { result ≡ missingOf places.now (place ∷ []) }
+    ensures { result ≡ missing_of places.now (place ∷ []) }
 {
     if places[place] == 0 {
         return Usage::Missing(place);
@@ -154,7 +154,7 @@ fn missing(places: &[usize; PLACES], place: usize) -> Usage
 
 // What a command line lacks of what its command needs. The sources that are wired are never assumed.
 fn needs(places: &[usize; PLACES], command: Command) -> Usage
-    ensures { result ≡ missingOf places.now (1 ∷ moreNeeded command) }
+    ensures { result ≡ missing_of places.now (1 ∷ more_needed command) }
 {
     if places[IMAGE] == 0 {
         return Usage::Missing(IMAGE);
@@ -176,7 +176,7 @@ fn needs(places: &[usize; PLACES], command: Command) -> Usage
 
 // What the whole command line lacks, once all words are taken.
 pub fn lacks(places: &[usize; PLACES], command: Command) -> Usage
-    ensures { result ≡ lackOf places.now command }
+    ensures { result ≡ lack_of places.now command }
 {
     if places[HELP] != 0 {
         return Usage::Fine;
@@ -189,7 +189,7 @@ pub fn lacks(places: &[usize; PLACES], command: Command) -> Usage
 
 // That the value of an option is none that it can have.
 pub fn bad_value(places: &[usize; PLACES], place: usize) -> Usage
-    ensures { result ≡ badValueOf places.now place }
+    ensures { result ≡ bad_value_of places.now place }
 {
     if PLACES <= place {
         return Usage::UnknownOption(place);

@@ -1,8 +1,8 @@
 // The image that a file holds: Intel HEX, which begins with a colon, or raw bytes.
 ghost use Rattle.std.specs.Prelude.{◌≡◌, true, length};
-ghost use Rattle.isa.specs.Rom.{isImage};
-ghost use Rattle.options.specs.Image.{bytes_of, got, hexGot, imageGot, isHex, mayBe, rawGot, size_of};
-ghost use Rattle.options.specs.Image.{sizedBy, sizedByLowest, sizeNamed};
+ghost use Rattle.isa.specs.Rom.{is_image};
+ghost use Rattle.options.specs.Image.{bytes_of, got, hex_got, image_got, is_hex, may_be, raw_got, size_of};
+ghost use Rattle.options.specs.Image.{sized_by, sized_by_lowest, size_named};
 
 use crate::words::is;
 use hex::{Fault, HexAnswer};
@@ -56,7 +56,7 @@ pub enum ImageRead {
 
 // Whether a file is Intel HEX.
 pub fn is_hex(file: &[u8], raw: bool) -> bool
-    ensures { result ≡ isHex file.now raw }
+    ensures { result ≡ is_hex file.now raw }
 {
     if raw {
         return false;
@@ -69,7 +69,7 @@ pub fn is_hex(file: &[u8], raw: bool) -> bool
 
 // A HEX file's image, of a size that was asked for.
 fn sized(answer: HexAnswer, rom: Rom) -> ImageRead
-    ensures { result ≡ sizedBy rom answer }
+    ensures { result ≡ sized_by rom answer }
 {
     match answer {
         HexAnswer::Read { lowest: _ } => ImageRead::Whole {
@@ -83,7 +83,7 @@ fn sized(answer: HexAnswer, rom: Rom) -> ImageRead
 
 // A HEX file's image, of the size for the lowest address that it names: 2K from 800h on, else 4K.
 fn by_lowest(answer: HexAnswer) -> ImageRead
-    ensures { result ≡ sizedByLowest answer }
+    ensures { result ≡ sized_by_lowest answer }
 {
     match answer {
         HexAnswer::Read { lowest } => {
@@ -111,7 +111,7 @@ fn by_lowest(answer: HexAnswer) -> ImageRead
 fn hex_image(file: &[u8], asked: Asked, fill: u8, space: &mut [u8]) -> ImageRead
     requires { length space.old ≡ 20480 }
     ensures { got result space.new
-        ≡ hexGot file.now asked fill space.old }
+        ≡ hex_got file.now asked fill space.old }
 {
     match asked {
         Asked::Small => sized(hex::read::read(file, fill, &mut space[SMALL..]), Rom::Small),
@@ -122,7 +122,7 @@ fn hex_image(file: &[u8], asked: Asked, fill: u8, space: &mut [u8]) -> ImageRead
 
 // Whether a size may be that which is asked for. No word asks for pages.
 fn may_be(asked: Asked, rom: Rom) -> bool
-    ensures { result ≡ mayBe asked rom }
+    ensures { result ≡ may_be asked rom }
 {
     match asked {
         Asked::Small => match rom {
@@ -142,7 +142,7 @@ fn may_be(asked: Asked, rom: Rom) -> bool
 
 // The size of an image of so many bytes.
 fn size_of(length: usize) -> Rom
-    requires { isImage length ≡ true }
+    requires { is_image length ≡ true }
     ensures { result ≡ size_of length }
 {
     if length == HALF_SPACE {
@@ -169,7 +169,7 @@ pub fn bytes_of(rom: Rom) -> usize
 fn raw_image(file: &[u8], asked: Asked, space: &mut [u8]) -> ImageRead
     requires { length space.old ≡ 20480 }
     ensures { got result space.new
-        ≡ rawGot file.now asked space.old }
+        ≡ raw_got file.now asked space.old }
 {
     let length = file.len();
     if !is_image_length(length) {
@@ -189,7 +189,7 @@ fn raw_image(file: &[u8], asked: Asked, space: &mut [u8]) -> ImageRead
 // The image of a file's bytes.
 pub fn image_of(file: &[u8], asked: Asked, fill: u8, raw: bool, space: &mut [u8]) -> ImageRead
     ensures { got result space.new
-        ≡ imageGot file.now asked fill raw space.old }
+        ≡ image_got file.now asked fill raw space.old }
 {
     if space.len() != SPACE {
         return ImageRead::NoSize;
@@ -202,7 +202,7 @@ pub fn image_of(file: &[u8], asked: Asked, fill: u8, raw: bool, space: &mut [u8]
 
 // What `--rom` asks for.
 pub fn asked_of(word: &[u8]) -> Asked
-    ensures { result ≡ sizeNamed word.now }
+    ensures { result ≡ size_named word.now }
 {
     if is(word, b"2K") {
         return Asked::Small;

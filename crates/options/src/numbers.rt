@@ -1,6 +1,6 @@
 // Numbers on the command line.
 ghost use Rattle.std.specs.Prelude.{◌≡◌};
-ghost use Rattle.options.specs.Numbers.{byteNamed, decimalNamed};
+ghost use Rattle.options.specs.Numbers.{byte_named, decimal_named};
 
 use hex::digit_of;
 
@@ -12,7 +12,7 @@ pub enum Parsed {
 
 // A decimal number, up to 65,535.
 pub fn decimal_of(text: &[u8]) -> Parsed
-    ensures { result ≡ decimalNamed text.now }
+    ensures { result ≡ decimal_named text.now }
 {
     if text.len() == 0 {
         return Parsed::Wrong;
@@ -38,7 +38,7 @@ pub fn decimal_of(text: &[u8]) -> Parsed
 
 // A byte in two hexadecimal digits.
 pub fn byte_of(text: &[u8]) -> Parsed
-    ensures { result ≡ byteNamed text.now }
+    ensures { result ≡ byte_named text.now }
 {
     if text.len() != 2 {
         return Parsed::Wrong;

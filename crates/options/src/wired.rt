@@ -2,7 +2,7 @@
 ghost use Rattle.std.specs.Prelude.{◌≡◌};
 ghost use Rattle.bytes.specs.Bytes.{index_of};
 ghost use Rattle.io.specs.Counts.{IsPrefixLen};
-ghost use Rattle.options.specs.Wired.{bitNamed, parts_of, requestNamed, wiredAfter, wiredNamed};
+ghost use Rattle.options.specs.Wired.{bit_named, parts_of, request_named, wired_after, wired_named};
 
 use crate::numbers::{Parsed, decimal_of};
 use crate::words::is;
@@ -24,7 +24,7 @@ pub enum Request {
 
 // The bit of a source's name, 0 where it is none.
 pub fn bit_of(name: &[u8]) -> u8
-    ensures { result ≡ bitNamed name.now }
+    ensures { result ≡ bit_named name.now }
 {
     if is(name, b"nmi") {
         return 1;
@@ -53,7 +53,7 @@ fn before(text: &[u8], letter: u8) -> usize
 
 // The bits of names with commas between them.
 fn bits_of(names: &[u8]) -> Wired
-    ensures { result ≡ wiredAfter 0 (parts_of 44 names.now) }
+    ensures { result ≡ wired_after 0 (parts_of 44 names.now) }
 {
     let mut rest = names;
     let mut byte = 0u8;
@@ -73,7 +73,7 @@ fn bits_of(names: &[u8]) -> Wired
 
 // The wired byte of `none`, or of names with commas between them.
 pub fn wired_of(text: &[u8]) -> Wired
-    ensures { result ≡ wiredNamed text.now }
+    ensures { result ≡ wired_named text.now }
 {
     if is(text, b"none") {
         return Wired::Byte(0);
@@ -83,7 +83,7 @@ pub fn wired_of(text: &[u8]) -> Wired
 
 // A request, as `3=nmi`: the step, from 0, and the source's bit.
 pub fn request_of(text: &[u8]) -> Request
-    ensures { result ≡ requestNamed text.now }
+    ensures { result ≡ request_named text.now }
 {
     let middle = before(text, b'=');
     if middle == text.len() {

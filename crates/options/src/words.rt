@@ -1,6 +1,6 @@
 // The words of a command line: commands and options by their names.
 ghost use Rattle.std.specs.Prelude.{◌≡◌};
-ghost use Rattle.options.specs.Words.{commandNamed, flagNamed, same, valuedNamed, word_for};
+ghost use Rattle.options.specs.Words.{command_named, flag_named, same, valued_named, word_for};
 
 use crate::Command;
 
@@ -65,7 +65,7 @@ pub fn is(word: &[u8], name: &[u8]) -> bool
 
 // The command of a name.
 pub fn command_of(word: &[u8]) -> Command
-    ensures { result ≡ commandNamed word.now }
+    ensures { result ≡ command_named word.now }
 {
     if is(word, b"check") {
         return Command::Check;
@@ -96,7 +96,7 @@ pub fn command_of(word: &[u8]) -> Command
 
 // The place of an option that has a value, 0 where the word is none.
 fn valued(word: &[u8]) -> usize
-    ensures { result ≡ valuedNamed word.now }
+    ensures { result ≡ valued_named word.now }
 {
     if is(word, b"--wired") {
         return WIRED;
@@ -127,7 +127,7 @@ fn valued(word: &[u8]) -> usize
 
 // The place of an option without a value, 0 where the word is none.
 fn flag(word: &[u8]) -> usize
-    ensures { result ≡ flagNamed word.now }
+    ensures { result ≡ flag_named word.now }
 {
     if is(word, b"--raw") {
         return RAW;

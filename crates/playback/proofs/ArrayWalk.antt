@@ -1,5 +1,5 @@
 -- An array of bytes, of any length, that is held in a local and lent, as a walk has to do with it.
---     bytesVal, count-is       its machine value, and its length
+--     bytes_val, count-is       its machine value, and its length
 --     zeros, zeroed    `[0; k]` is stored
 --     slice_out, slice_back    it is lent as a slice, and comes back as it was
 --     lending, lent-to         the statements by which it is lent by `&mut` to a function, and their walk: as
@@ -57,33 +57,33 @@ Bytes k = Array u8 k
 abbrev pub BytesTy : ℕ → Ty
 BytesTy k = ty_array (ty_int w8) k
 
-abbrev pub bytesVal : List ℕ → Val
-bytesVal xs = only (array_vals (uint_vals w8) xs)
+abbrev pub bytes_val : List ℕ → Val
+bytes_val xs = only (array_vals (uint_vals w8) xs)
 
 abbrev AreBytes : ℕ → List ℕ → Type 0
-AreBytes k xs = Is (Bytes k) xs (bytesVal xs ∷ [])
+AreBytes k xs = Is (Bytes k) xs (bytes_val xs ∷ [])
 
 tells : (k : ℕ) → Tells (Bytes k) (Is (Bytes k)) (array_vals (uint_vals w8))
 tells k = Array-Tells u8 (uint_vals w8) (uint_Tells w8) k
 
 -- there are k of them
-pub count-is : (k : ℕ) (xs : List ℕ) → AreBytes k xs → length xs ≡ k
-count-is k xs is = is.1.0.1
+pub count_is : (k : ℕ) (xs : List ℕ) → AreBytes k xs → length xs ≡ k
+count_is k xs is = is.1.0.1
 
 -- k zeros
 pub zeros : ℕ → List ℕ
 zeros k = replicate k 0
 
-each-zero : (k : ℕ) → shadow (each ℕ u8.own_val (replicate k 0) (replicate k (vint w8 0)))
-each-zero zero = tt
-each-zero (suc k) = ((refl, omega arith), each-zero k)
+each_zero : (k : ℕ) → shadow (each ℕ u8.own_val (replicate k 0) (replicate k (vint w8 0)))
+each_zero zero = tt
+each_zero (suc k) = ((refl, omega arith), each_zero k)
 
-zeros-are : (k : ℕ) → Is (Bytes k) (zeros k) (array_val (replicate k (vint w8 0)) ∷ [])
+zeros_are : (k : ℕ) → Is (Bytes k) (zeros k) (array_val (replicate k (vint w8 0)) ∷ [])
 unfolding zeros
-zeros-are k = (replicate k (vint w8 0), ((refl, length-replicate k 0), each-zero k))
+zeros_are k = (replicate k (vint w8 0), ((refl, length-replicate k 0), each_zero k))
 
-pub zeros-bytes : (k : ℕ) → AreBytes k (zeros k)
-zeros-bytes k = subst (Is (Bytes k) (zeros k)) (tells k (zeros k) _ (zeros-are k)) (zeros-are k)
+pub zeros_bytes : (k : ℕ) → AreBytes k (zeros k)
+zeros_bytes k = subst (Is (Bytes k) (zeros k)) (tells k (zeros k) _ (zeros_are k)) (zeros_are k)
 
 -- a slice of an array, and what its lender keeps
 abbrev pub Sliced : (xs : List ℕ) → (ν l : ℕ) → GName → (count : ℕ) → Fml
@@ -104,47 +104,47 @@ module _ {M : Type 1} {𝓤 : Ura M} {𝓛 : Logic 𝓤} {K : Type 0} {Γ : List
   -- zeros are stored
   pub zeroed : K → (k : ℕ) {i l : ℕ} {C : Calls 𝓤 H} {Λ : Loops 𝓤 H} {E : Env 𝓤 H} {rest : Body} {q : Post 𝓤 H}
       → spot_of 𝓤 H E i ≡ (BytesTy k, l, 0)
-      → Step K 𝓛 (‵ (fat full_share (BytesTy k) l 0 (bytesVal (zeros k))) ∷ Γ) (runs C Λ E rest q)
+      → Step K 𝓛 (‵ (fat full_share (BytesTy k) l 0 (bytes_val (zeros k))) ∷ Γ) (runs C Λ E rest q)
       (‵ (froom (BytesTy k) l 0) ∷ Γ) (runs C Λ E (seq (assign (place i []) (repeat (int w8 0) k)) rest) q)
   zeroed t k {l = l} at_i =
       step (λ s. assigns t (rep t k (lit t tt)) (from_at t at_i (stop t))
-      (init t 0 refl (Array-Typed u8 (uint_Lawful 𝓛 w8).typed k (zeros k) _ (zeros-are k)).0) $
-      rewrite t 0 (λ (y : Val). ‵ (fat full_share (BytesTy k) l 0 y)) (ap only (tells k (zeros k) _ (zeros-are k)))
+      (init t 0 refl (Array-Typed u8 (uint_Lawful 𝓛 w8).typed k (zeros k) _ (zeros_are k)).0) $
+      rewrite t 0 (λ (y : Val). ‵ (fat full_share (BytesTy k) l 0 y)) (ap only (tells k (zeros k) _ (zeros_are k)))
       refl $ s)
 
   module _ {G : Goal 𝓤 H} where
     -- the array in the local at l, as what lies there
     lies : K → (k : ℕ) (xs : List ℕ) → AreBytes k xs → (l : ℕ)
-        → Step K 𝓛 (‵ (part_at (Bytes k) full_share xs l 0) ∷ Γ) G (‵ (fat full_share (BytesTy k) l 0 (bytesVal xs)) ∷ Γ) G
+        → Step K 𝓛 (‵ (part_at (Bytes k) full_share xs l 0) ∷ Γ) G (‵ (fat full_share (BytesTy k) l 0 (bytes_val xs)) ∷ Γ) G
     unfolding part_of
     lies t k xs is l =
         step (λ s.
-        use1 𝓛 (‵ (cell_at full_share (Bytes k).mir (bytesVal xs ∷ []) l 0))
-        (𝓛.laws.at_raw full_share (BytesTy k) l 0 (bytesVal xs)) $
-        owned t (Bytes k) (Is (Bytes k)) (Array-Makes 𝓛 u8 (uint_Makes 𝓛 w8) k) xs (bytesVal xs ∷ []) is $
+        use1 𝓛 (‵ (cell_at full_share (Bytes k).mir (bytes_val xs ∷ []) l 0))
+        (𝓛.laws.at_raw full_share (BytesTy k) l 0 (bytes_val xs)) $
+        owned t (Bytes k) (Is (Bytes k)) (Array-Makes 𝓛 u8 (uint_Makes 𝓛 w8) k) xs (bytes_val xs ∷ []) is $
         move t (1 ∷ 0 ∷ []) $ fjoin t $
         fpack t (List Val) (λ us. fsep (cell_at full_share (Bytes k).mir us l 0) ((Bytes k).own_val xs us))
-        (bytesVal xs ∷ []) $ s)
+        (bytes_val xs ∷ []) $ s)
 
     -- .. and back
     stands : K → (k : ℕ) (xs : List ℕ) (l : ℕ)
-        → (AreBytes k xs → Seq K 𝓛 (‵ (fat full_share (BytesTy k) l 0 (bytesVal xs)) ∷ Γ) G)
+        → (AreBytes k xs → Seq K 𝓛 (‵ (fat full_share (BytesTy k) l 0 (bytes_val xs)) ∷ Γ) G)
         → Seq K 𝓛 (‵ (part_at (Bytes k) full_share xs l 0) ∷ Γ) G
     unfolding part_of
     stands t k xs l then =
         fpick t (λ vs. fsplit t $
         spelt t (Bytes k) (Is (Bytes k)) (shows 𝓛 (Bytes k)) (array_vals (uint_vals w8)) (tells k) full_share xs vs
         l 0 $ move t (1 ∷ []) $
-        facts t (Bytes k) (Is (Bytes k)) (shows 𝓛 (Bytes k)) xs (bytesVal xs ∷ []) (λ is.
-        use1 𝓛 (‵ (fat full_share (BytesTy k) l 0 (bytesVal xs)))
-        (𝓛.laws.raw_at full_share (BytesTy k) l 0 (bytesVal xs)) $ then is))
+        facts t (Bytes k) (Is (Bytes k)) (shows 𝓛 (Bytes k)) xs (bytes_val xs ∷ []) (λ is.
+        use1 𝓛 (‵ (fat full_share (BytesTy k) l 0 (bytes_val xs)))
+        (𝓛.laws.raw_at full_share (BytesTy k) l 0 (bytes_val xs)) $ then is))
 
     lent_out : K → Soaks G → (k : ℕ) (xs : List ℕ) → AreBytes k xs → (ν l : ℕ)
         → ((γ : GName)
         → Seq K 𝓛
         (‵ ((MutRef (named 0) (ν ∷ []) (Bytes k)).own_val (record { ref_ptr = (l, 0); ghost_name = γ; now = xs }) (vptr l 0 ∷ [])) ∷ ‵
         (flent (ν ∷ []) (Behind (mem (Bytes k)) l 0 γ)) ∷ Γ) G)
-        → Seq K 𝓛 (‵ (fat full_share (BytesTy k) l 0 (bytesVal xs)) ∷ Γ) G
+        → Seq K 𝓛 (‵ (fat full_share (BytesTy k) l 0 (bytes_val xs)) ∷ Γ) G
     lent_out t z k xs is ν l then =
         lies t k xs is l $
         use1 𝓛 (later
@@ -153,30 +153,30 @@ module _ {M : Type 1} {𝓤 : Ura M} {𝓛 : Logic 𝓤} {K : Type 0} {Γ : List
         (flent (ν ∷ []) (Behind (mem (Bytes k)) l 0 γ))))) (lends_ref 𝓛 (Bytes k) (named 0) (ν ∷ []) xs l 0) $
         await t z $ pick t (λ γ. split t $ then γ)
 
-    come-back : K → Soaks G → (k : ℕ) (xs : List ℕ) (ν l : ℕ) {γ : GName}
-        → (AreBytes k xs → Seq K 𝓛 (‵ (fat full_share (BytesTy k) l 0 (bytesVal xs)) ∷ Γ) G)
+    come_back : K → Soaks G → (k : ℕ) (xs : List ℕ) (ν l : ℕ) {γ : GName}
+        → (AreBytes k xs → Seq K 𝓛 (‵ (fat full_share (BytesTy k) l 0 (bytes_val xs)) ∷ Γ) G)
         → Seq K 𝓛
         (‵ (fdead (ν ∷ [])) ∷ ‵ (flent (ν ∷ []) (Behind (mem (Bytes k)) l 0 γ)) ∷ ‵
         (fres γ ((Bytes k).coded.code xs)) ∷ Γ) G
-    come-back t z k xs ν l {γ} then =
+    come_back t z k xs ν l {γ} then =
         use3 𝓛 (later (‵ ((mem (Bytes k)).own_at xs l 0))) (ref_back 𝓛 (Bytes k) (ν ∷ []) γ xs l 0) $ await t z $
         stands t k xs l then
 
     pub slice_out : K → Soaks G → (k : ℕ) → Room u8 k → (xs : List ℕ) → AreBytes k xs → (ν l : ℕ)
         → ((γ : GName) → Seq K 𝓛 (‵ (Sliced xs ν l γ k) ∷ ‵ (Lender xs ν l) ∷ Γ) G)
-        → Seq K 𝓛 (‵ (fat full_share (BytesTy k) l 0 (bytesVal xs)) ∷ Γ) G
+        → Seq K 𝓛 (‵ (fat full_share (BytesTy k) l 0 (bytes_val xs)) ∷ Γ) G
     slice_out t z k room xs is ν l then =
         lies t k xs is l $
         use1 𝓛 (‵ ((arr_parts (shares u8) k).part full_share xs l 0)) (Array-apart 𝓛 u8 full_share tt k xs l 0) $
-        rewrite t 0 (λ (n : ℕ). ‵ ((arr_parts (shares u8) n).part full_share xs l 0)) (sym (count-is k xs is)) refl $
+        rewrite t 0 (λ (n : ℕ). ‵ ((arr_parts (shares u8) n).part full_share xs l 0)) (sym (count_is k xs is)) refl $
         use1 𝓛 (later (some (λ (γ : GName). ‵ (Sliced xs ν l γ (length xs)) ⊛ ‵ (Lender xs ν l))))
         (lends_shr_slice 𝓛 u8 (named 0) (ν ∷ []) full_share xs l 0
-        (subst (Room u8) (sym (count-is k xs is)) room)) $
-        await t z $ pick t (λ γ. split t $ rewrite t 0 (λ (n : ℕ). ‵ (Sliced xs ν l γ n)) (count-is k xs is) refl $
+        (subst (Room u8) (sym (count_is k xs is)) room)) $
+        await t z $ pick t (λ γ. split t $ rewrite t 0 (λ (n : ℕ). ‵ (Sliced xs ν l γ n)) (count_is k xs is) refl $
         then γ)
 
     pub slice_back : K → Soaks G → (k : ℕ) (xs : List ℕ) → length xs ≡ k → (ν l : ℕ)
-        → (AreBytes k xs → Seq K 𝓛 (‵ (fat full_share (BytesTy k) l 0 (bytesVal xs)) ∷ Γ) G)
+        → (AreBytes k xs → Seq K 𝓛 (‵ (fat full_share (BytesTy k) l 0 (bytes_val xs)) ∷ Γ) G)
         → Seq K 𝓛 (‵ (fdead (ν ∷ [])) ∷ ‵ (Lender xs ν l) ∷ Γ) G
     slice_back t z k xs count ν l then =
         lent_back t z $ rewrite t 0 (λ (n : ℕ). ‵ ((arr_parts (shares u8) n).part full_share xs l 0)) count refl $
@@ -227,7 +227,7 @@ module _ {M : Type 1} {𝓤 : Ura M} (𝓛 : Logic 𝓤) (k : ℕ) {n : ℕ} (ps
     -- The function leaves the array ys and answers r, of which φ ys r is known. The result's local has the type τ.
     -- The arguments are read where the function's `pre` stands first, then what the lender keeps, the reference (2),
     -- the result's room, and Γ (4 ..)
-    pub lent-to : {C : Calls 𝓤 H} {Λ : Loops 𝓤 H} → FmC 𝓤 H 𝓛.laws C → {f : Name}
+    pub lent_to : {C : Calls 𝓤 H} {Λ : Loops 𝓤 H} → FmC 𝓤 H 𝓛.laws C → {f : Name}
         → Triple 𝓤 (C f) (Met 𝓛 Op c)
         → ((γ : GName) → ent 𝓤 (emp 𝓤) ((c at (args γ)).requires (g γ)))
         → (φ : List ℕ → R.Denot → Type 0)
@@ -242,13 +242,13 @@ module _ {M : Type 1} {𝓤 : Ura M} (𝓛 : Logic 𝓤) (k : ℕ) {n : ℕ} (ps
         (froom τ lₔ 0) ∷ Γ) E os ((Met 𝓛 Op c).args (to γ)))
         → ((ys : List ℕ) (r : R.Denot) (v : Val) → φ ys r → AreBytes k ys → Is R r (v ∷ [])
         → Seq K 𝓛
-        (‵ (fat full_share (BytesTy k) l 0 (bytesVal ys)) ∷ raw (toks 𝓛 n κs qs) ∷ ‵
+        (‵ (fat full_share (BytesTy k) l 0 (bytes_val ys)) ∷ raw (toks 𝓛 n κs qs) ∷ ‵
         (fat full_share (LoanTy k) lₚ 0 (vptr l 0)) ∷ ‵ (fat full_share τ lₔ 0 v) ∷ Γ) (runs C Λ E rest Q))
         → Seq K 𝓛
         (‵ (flft (ν ∷ []) full_share) ∷ raw (toks 𝓛 n κs qs) ∷ ‵ (owns (types_at ps at) xs vss) ∷ ‵
-        (fat full_share (BytesTy k) l 0 (bytesVal h)) ∷ ‵ (froom (LoanTy k) lₚ 0) ∷ ‵ (froom τ lₔ 0) ∷ Γ)
+        (fat full_share (BytesTy k) l 0 (bytes_val h)) ∷ ‵ (froom (LoanTy k) lₚ 0) ∷ ‵ (froom τ lₔ 0) ∷ Γ)
         (runs C Λ E (lending i p d f os rest) Q)
-    lent-to fm known free φ hears τ typed gh t at_i at_p at-d opds then =
+    lent_to fm known free φ hears τ typed gh t at_i at_p at-d opds then =
         assigns t (addr t (from_at t at_i (stop t))) (from_at t at_p (stop t)) (init t 4 refl (tt, tt)) $
         move t (3 ∷ []) $ lent_out t tt k h gh ν l (λ γ.
         -- [the reference; the lender's part; ν's token; the tokens; what the others own; p; d; …]
@@ -267,4 +267,4 @@ module _ {M : Type 1} {𝓤 : Ura M} (𝓛 : Logic 𝓤) (k : ℕ) {n : ℕ} (ps
         facts t R (Is R) (shows 𝓛 R) r (v ∷ []) (λ is.
         -- [the tokens; the array's last value; the lender's part; p; d; …]
         land t (from_at t at-d (stop t)) (init t 4 refl (typed r v is)) $ split t $ lft_end t tt $
-        move t (0 ∷ 3 ∷ 2 ∷ []) $ come-back t tt k ws.0 ν l (λ gm. then ws.0 r v e gm is)))))))
+        move t (0 ∷ 3 ∷ 2 ∷ []) $ come_back t tt k ws.0 ν l (λ gm. then ws.0 r v e gm is)))))))

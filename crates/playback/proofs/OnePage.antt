@@ -5,49 +5,49 @@ use mathlib.Core.Bool.{true}
 use mathlib.Core.List.{List, [], ◌∷◌}
 use lib.ListN.{length}
 use Rattle.isa.specs.Refusals.{Answer, done, refused}
-use Rattle.isa.specs.Rom.{isSpace}
-use Rattle.isa.proofs.Halves.{space-image}
+use Rattle.isa.specs.Rom.{is_space}
+use Rattle.isa.proofs.Halves.{space_image}
 use Rattle.machine.specs.declared.Machine.{Machine}
 use Rattle.machine.specs.Step as stepping
-use Rattle.machine.proofs.OnePage.{machine-as-before}
+use Rattle.machine.proofs.OnePage.{machine_as_before}
 use Rattle.bench.specs.Calls.{leaves}
 use Rattle.playback.specs.declared.Entry.{Entry}
 use Rattle.playback.specs.declared.Entry.TheVariants.{Step, Store, Reset}
-use Rattle.playback.specs.Record.{entriesIn}
-use Rattle.playback.specs.Play.{Playing, call_of, entryAnswer, unlessEnded, playFrom, playedBy, playOf}
-use Rattle.playback.specs.OnePage.{answerUnpaged, leavesUnpaged, playFromUnpaged, playedUnpaged, PlaybackAsBefore}
+use Rattle.playback.specs.Record.{entries_in}
+use Rattle.playback.specs.Play.{Playing, call_of, entry_answer, unless_ended, play_from, played_by, play_of}
+use Rattle.playback.specs.OnePage.{answer_unpaged, leaves_unpaged, play_from_unpaged, played_unpaged, PlaybackAsBefore}
 
 -- what is played after an entry matters only where there is something left to play
-rest-is : (m : Machine) (n cycles : ℕ) (a : Answer ℕ) (f g : ℕ → Playing) → ((spent : ℕ) → f spent ≡ g spent)
-    → unlessEnded m n cycles a f ≡ unlessEnded m n cycles a g
-rest-is m n cycles (done spent) f g same = same spent
-rest-is m n cycles (refused r) f g same = refl
+rest_is : (m : Machine) (n cycles : ℕ) (a : Answer ℕ) (f g : ℕ → Playing) → ((spent : ℕ) → f spent ≡ g spent)
+    → unless_ended m n cycles a f ≡ unless_ended m n cycles a g
+rest_is m n cycles (done spent) f g same = same spent
+rest_is m n cycles (refused r) f g same = refl
 
-module _ (image : List ℕ) (is : isSpace (length image) ≡ true) where
-  answer-is : (m : Machine) (e : Entry) → entryAnswer image m e ≡ answerUnpaged image m e
-  answer-is m (Step request) = ap (λ (s : stepping.Step). s.answer) (machine-as-before.step image is m request)
-  answer-is m (Store address value) = refl
-  answer-is m Reset = refl
+module _ (image : List ℕ) (is : is_space (length image) ≡ true) where
+  answer_is : (m : Machine) (e : Entry) → entry_answer image m e ≡ answer_unpaged image m e
+  answer_is m (Step request) = ap (λ (s : stepping.Step). s.answer) (machine_as_before.step image is m request)
+  answer_is m (Store address value) = refl
+  answer_is m Reset = refl
 
-  leaves-is : (m : Machine) (e : Entry) → leaves image (call_of e) m ≡ leavesUnpaged image m e
+  leaves_is : (m : Machine) (e : Entry) → leaves image (call_of e) m ≡ leaves_unpaged image m e
   unfolding leaves
-  leaves-is m (Step request) = ap (λ (s : stepping.Step). s.machine) (machine-as-before.step image is m request)
-  leaves-is m (Store address value) = refl
-  leaves-is m Reset = refl
+  leaves_is m (Step request) = ap (λ (s : stepping.Step). s.machine) (machine_as_before.step image is m request)
+  leaves_is m (Store address value) = refl
+  leaves_is m Reset = refl
 
-  play-is : (n cycles : ℕ) (m : Machine) (entries : List Entry)
-      → playFrom image n cycles m entries ≡ playFromUnpaged image n cycles m entries
-  unfolding playFrom playFromUnpaged
-  play-is n cycles m [] = refl
-  play-is n cycles m (e ∷ entries) =
-      rw (answer-is m e, leaves-is m e)
-      (rest-is m n cycles (answerUnpaged image m e) _ _
-      (λ spent. play-is (n + 1) (cycles + spent) (leavesUnpaged image m e) entries))
+  play_is : (n cycles : ℕ) (m : Machine) (entries : List Entry)
+      → play_from image n cycles m entries ≡ play_from_unpaged image n cycles m entries
+  unfolding play_from play_from_unpaged
+  play_is n cycles m [] = refl
+  play_is n cycles m (e ∷ entries) =
+      rw (answer_is m e, leaves_is m e)
+      (rest_is m n cycles (answer_unpaged image m e) _ _
+      (λ spent. play_is (n + 1) (cycles + spent) (leaves_unpaged image m e) entries))
 
-  played-is : (read : Answer (List Entry)) → playedBy image read ≡ playedUnpaged image read
-  played-is (done entries) = rw (play-is 0 0 _ entries)
-  played-is (refused n) = refl
+  played_is : (read : Answer (List Entry)) → played_by image read ≡ played_unpaged image read
+  played_is (done entries) = rw (play_is 0 0 _ entries)
+  played_is (refused n) = refl
 
-pub playback-as-before : PlaybackAsBefore
-unfolding playOf
-playback-as-before image is recording = rw (space-image image is, is) (played-is image is (entriesIn recording))
+pub playback_as_before : PlaybackAsBefore
+unfolding play_of
+playback_as_before image is recording = rw (space_image image is, is) (played_is image is (entries_in recording))

@@ -5,49 +5,49 @@ use mathlib.Core.Path.{◌≡◌, refl, sym, ap, ◌∙◌}
 use mathlib.Core.List.{List}
 use Rattle.isa.specs.Refusals.{Numbered, Answer, Ended, done, refused}
 use Rattle.machine.specs.declared.Machine.{Machine}
-use Rattle.machine.specs.State.{HostStore, resetOf, hostStored, hostStoreOf}
+use Rattle.machine.specs.State.{HostStore, reset_of, host_stored, host_store_of}
 use Rattle.machine.specs.Step.{step_of}
 use Rattle.machine.specs.Step as stepping
 use Rattle.bench.specs.Calls.{leaves}
 use Rattle.playback.specs.declared.Entry.{Entry}
 use Rattle.playback.specs.declared.Entry.TheVariants.{Step, Store, Reset}
-use Rattle.playback.specs.Play.{withoutCycles, pressOf}
-use Rattle.playback.specs.Keys.{stepLeft}
+use Rattle.playback.specs.Play.{without_cycles, press_of}
+use Rattle.playback.specs.Keys.{step_left}
 use Rattle.playback.proofs.Keys.{step_keeps, store_keeps}
 
 module _ (image : List ℕ) (m m' : Machine) where
-  pub step-press :
-      (request : ℕ) (a : Answer ℕ) → stepLeft m' a ≡ step_of image m request →
-      stepLeft m' a ≡ pressOf image m (Step request)
-  unfolding pressOf leaves
-  step-press request a left = left
+  pub step_press :
+      (request : ℕ) (a : Answer ℕ) → step_left m' a ≡ step_of image m request →
+      step_left m' a ≡ press_of image m (Step request)
+  unfolding press_of leaves
+  step_press request a left = left
 
-  pub store-press :
-      (address value : ℕ) (ended : Ended) → hostStored m' ended ≡ hostStoreOf m address value →
-      stepLeft m' (withoutCycles ended) ≡ pressOf image m (Store address value)
-  unfolding pressOf leaves
-  store-press address value ended left = ap (λ (s : HostStore). stepLeft s.machine (withoutCycles s.ending)) left
+  pub store_press :
+      (address value : ℕ) (ended : Ended) → host_stored m' ended ≡ host_store_of m address value →
+      step_left m' (without_cycles ended) ≡ press_of image m (Store address value)
+  unfolding press_of leaves
+  store_press address value ended left = ap (λ (s : HostStore). step_left s.machine (without_cycles s.ending)) left
 
-  pub reset-press : m' ≡ resetOf m → stepLeft m' (done 0) ≡ pressOf image m Reset
-  unfolding pressOf leaves
-  reset-press left = ap (λ (x : Machine). stepLeft x (done 0)) left
+  pub reset_press : m' ≡ reset_of m → step_left m' (done 0) ≡ press_of image m Reset
+  unfolding press_of leaves
+  reset_press left = ap (λ (x : Machine). step_left x (done 0)) left
 
   -- a key that refuses or stops leaves the machine as it was
-  pub press-keeps : (e : Entry) (why : Numbered) → stepLeft m' (refused why) ≡ pressOf image m e → m' ≡ m
-  unfolding pressOf leaves
-  press-keeps (Step request) why left =
+  pub press_keeps : (e : Entry) (why : Numbered) → step_left m' (refused why) ≡ press_of image m e → m' ≡ m
+  unfolding press_of leaves
+  press_keeps (Step request) why left =
       let is = ap (λ (s : stepping.Step). s.answer) (sym left) in
       ap (λ (s : stepping.Step). s.machine) (left ∙ sym (step_keeps image m request why is))
-  press-keeps (Store address value) why left =
-      ap (λ (s : stepping.Step). s.machine) left ∙ by-ending (hostStoreOf m address value).ending refl
+  press_keeps (Store address value) why left =
+      ap (λ (s : stepping.Step). s.machine) left ∙ by_ending (host_store_of m address value).ending refl
       (ap (λ (s : stepping.Step). s.answer) (sym left))
     where
-      by-ending :
-          (a : Ended) → (hostStoreOf m address value).ending ≡ a → withoutCycles a ≡ refused why →
-          (hostStoreOf m address value).machine ≡ m
-      by-ending (done tt) is refuses = let z : ◌≡◌ {A = ℕ} 0 1 = cc in absurd (omega arith)
-      by-ending (refused other) is refuses =
+      by_ending :
+          (a : Ended) → (host_store_of m address value).ending ≡ a → without_cycles a ≡ refused why →
+          (host_store_of m address value).machine ≡ m
+      by_ending (done tt) is refuses = let z : ◌≡◌ {A = ℕ} 0 1 = cc in absurd (omega arith)
+      by_ending (refused other) is refuses =
           sym (ap (λ (s : HostStore). s.machine) (store_keeps m address value other is))
-  press-keeps Reset why left =
+  press_keeps Reset why left =
       let is = ap (λ (s : stepping.Step). s.answer) (sym left) in
       let z : ◌≡◌ {A = ℕ} 0 1 = cc in absurd (omega arith)

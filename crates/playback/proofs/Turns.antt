@@ -6,16 +6,16 @@ use mathlib.Core.List.{List}
 use lib.Dec.{T as Holds, eqb, eqb→eq, eqb_refl, T_not}
 use Rattle.isa.specs.Refusals.{Answer, Ended, done, refused}
 use Rattle.machine.specs.declared.Machine.{Machine}
-use Rattle.machine.specs.State.{fresh_of, ended_of, resetOf, hostStored, hostStoreOf}
+use Rattle.machine.specs.State.{fresh_of, ended_of, reset_of, host_stored, host_store_of}
 use Rattle.machine.specs.Steps.{Reported}
 use Rattle.machine.specs.Run.{run_of}
 use Rattle.playback.specs.declared.Entry.{Entry}
 use Rattle.playback.specs.declared.Entry.TheVariants.{Step, Store, Reset}
 use Rattle.playback.specs.declared.turn.Turn.{Turn}
-use Rattle.playback.specs.Entries.{entriesOf}
-use Rattle.playback.specs.Play.{playingAs, playedBy}
-use Rattle.playback.specs.Turn.{entryBy, entry_of, playedFrom, playsOn, Kept, FirstTurn}
-use Rattle.playback.specs.Turn.{After, AfterStore, AfterReset, Gathered, runLeft, AfterRun}
+use Rattle.playback.specs.Entries.{entries_of}
+use Rattle.playback.specs.Play.{playing_as, played_by}
+use Rattle.playback.specs.Turn.{entry_by, entry_of, played_from, plays_on, Kept, FirstTurn}
+use Rattle.playback.specs.Turn.{After, AfterStore, AfterReset, Gathered, run_left, AfterRun}
 
 -- a test that came out so
 pub came : (b : Bool) → Holds b → b ≡ true
@@ -27,59 +27,59 @@ failed true h = absurd h
 failed false h = refl
 
 -- the entry of a turn, by the tests of its kind
-pub is-step : (t : Turn) → Holds (eqb t.kind 0) → entry_of t ≡ Step t.first
-is-step t h = rw (eqb→eq t.kind 0 h) refl
+pub is_step : (t : Turn) → Holds (eqb t.kind 0) → entry_of t ≡ Step t.first
+is_step t h = rw (eqb→eq t.kind 0 h) refl
 
 pub is_store : (t : Turn) → Holds (eqb t.kind 1) → entry_of t ≡ Store t.first t.second
 is_store t h = rw (eqb→eq t.kind 1 h) refl
 
-pub is-reset : (t : Turn) → Holds (not (eqb t.kind 0)) → Holds (not (eqb t.kind 1)) → entry_of t ≡ Reset
-is-reset t no_step no_store = by_kind t.kind no_step no_store
+pub is_reset_lem : (t : Turn) → Holds (not (eqb t.kind 0)) → Holds (not (eqb t.kind 1)) → entry_of t ≡ Reset
+is_reset_lem t no_step no_store = by_kind t.kind no_step no_store
   where
     by_kind :
-        (kind : ℕ) → Holds (not (eqb kind 0)) → Holds (not (eqb kind 1)) → entryBy kind t.first t.second ≡ Reset
+        (kind : ℕ) → Holds (not (eqb kind 0)) → Holds (not (eqb kind 1)) → entry_by kind t.first t.second ≡ Reset
     by_kind zero no_step no_store = absurd (T_not (eqb 0 0) no_step (eqb_refl 0))
     by_kind (suc zero) no_step no_store = absurd (T_not (eqb 1 1) no_store (eqb_refl 1))
     by_kind (suc (suc kind)) no_step no_store = refl
 
 -- the playing is over
-pub is-over :
+pub is_over :
     (image body : List ℕ) (m : Machine) (t : Turn) → t.more ≡ false →
-    playsOn image body m t ≡ done (playingAs m t.entries t.cycles (ended_of t.ending))
-unfolding playsOn
-is-over image body m t over = rw over refl
+    plays_on image body m t ≡ done (playing_as m t.entries t.cycles (ended_of t.ending))
+unfolding plays_on
+is_over image body m t over = rw over refl
 
 -- what a turn after another keeps, by the key that was pressed
 pub after_run :
     (body : List ℕ) (t : Turn) (count : ℕ) (report : Reported) (t' : Turn) → AfterRun body t count report t' →
     (requests : List ℕ) → Gathered body t requests count →
-    After body t (λ image m m'. runLeft m' report ≡ run_of image m requests count) t'
+    After body t (λ image m m'. run_left m' report ≡ run_of image m requests count) t'
 unfolding AfterRun
 after_run body t count report t' is = is
 
 pub after_store :
     (body : List ℕ) (t : Turn) (ended : Ended) (t' : Turn) → AfterStore body t ended t' →
-    After body t (λ image m m'. hostStored m' ended ≡ hostStoreOf m t.first t.second) t'
+    After body t (λ image m m'. host_stored m' ended ≡ host_store_of m t.first t.second) t'
 unfolding AfterStore
 after_store body t ended t' is = is
 
-pub after-reset :
-    (body : List ℕ) (t t' : Turn) → AfterReset body t t' → After body t (λ image m m'. m' ≡ resetOf m) t'
+pub after_reset :
+    (body : List ℕ) (t t' : Turn) → AfterReset body t t' → After body t (λ image m m'. m' ≡ reset_of m) t'
 unfolding AfterReset
-after-reset body t t' is = is
+after_reset body t t' is = is
 
 -- the first turn is at the whole playing
-from-fresh : (image : List ℕ) (a : Answer (List Entry)) → playedFrom image 0 0 fresh_of a ≡ playedBy image a
-from-fresh image (done entries) = refl
-from-fresh image (refused why) = refl
+from_fresh : (image : List ℕ) (a : Answer (List Entry)) → played_from image 0 0 fresh_of a ≡ played_by image a
+from_fresh image (done entries) = refl
+from_fresh image (refused why) = refl
 
-pub first-kept : (body : List ℕ) (t : Turn) → FirstTurn body fresh_of t → Kept body t
+pub first_kept : (body : List ℕ) (t : Turn) → FirstTurn body fresh_of t → Kept body t
 unfolding FirstTurn
-first-kept body t is = is.0
+first_kept body t is = is.0
 
-pub first-plays :
+pub first_plays :
     (image body : List ℕ) (m : Machine) (t : Turn) → m ≡ fresh_of → FirstTurn body fresh_of t →
-    playsOn image body m t ≡ playedBy image (entriesOf body)
+    plays_on image body m t ≡ played_by image (entries_of body)
 unfolding FirstTurn
-first-plays image body m t new is =
-    ap (λ (x : Machine). playsOn image body x t) new ∙ is.1 image ∙ from-fresh image (entriesOf body)
+first_plays image body m t new is =
+    ap (λ (x : Machine). plays_on image body x t) new ∙ is.1 image ∙ from_fresh image (entries_of body)

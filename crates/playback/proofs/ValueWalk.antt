@@ -74,9 +74,9 @@ module _ {M : Type 1} {𝓤 : Ura M} (𝓛 : Logic 𝓤) (Op : Ended) (c : Claus
       called opds then =
           readied t $ calls_at t fm (Met 𝓛 Op c) known y opds (λ v. learned t tt v (λ r e is. then r v e is))
 
-      pub called-last : Opds K 𝓛 (Asked ∷ Γ) E xs ((Met 𝓛 Op c).args y)
+      pub called_last : Opds K 𝓛 (Asked ∷ Γ) E xs ((Met 𝓛 Op c).args y)
           → ((r : (Of 𝓛 Op c y).Denot) (v : Val) → φ r → Is (Of 𝓛 Op c y) r (v ∷ [])
           → Seq K 𝓛 (Tokens 𝓛 Op c y ∷ Γ) (settles E d v q))
           → Seq K 𝓛 (Tokens 𝓛 Op c y ∷ Owned ∷ Γ) (runs C Λ E (call f xs d) q)
-      called-last opds then =
+      called_last opds then =
           readied t $ calls_at_last t fm (Met 𝓛 Op c) known y opds (λ v. learned t tt v (λ r e is. then r v e is))

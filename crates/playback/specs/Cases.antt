@@ -2,10 +2,10 @@
 use Rattle.std.specs.Prelude.{ℕ, ◌≡◌, List, [], ◌∷◌}
 use Rattle.isa.specs.Refusals.{plain, done, refused}
 use Rattle.certificate.specs.Cases.{image11}
-use Rattle.bench.specs.Session.{levelsInUse}
+use Rattle.bench.specs.Session.{levels_in_use}
 use Rattle.playback.specs.declared.Entry.{Entry}
 use Rattle.playback.specs.declared.Entry.TheVariants.{Step, Store, Reset}
-use Rattle.playback.specs.Play.{Playing, playOf}
+use Rattle.playback.specs.Play.{Playing, play_of}
 use Rattle.playback.specs.Safety.{PlaysWithin}
 
 -- three steps, a step with NMI's request, a host store to the ROM window, a reset
@@ -24,8 +24,8 @@ pub record P11Played : Type 0 where
   -- the store, which is entry 4, ends it with 10. The four steps before it took 4, 2, 4 and 1 cycles, and left two
   -- levels in use: 890h was called, and NMI's request taken there
   pub playing : Playing
-  pub plays : playOf image11 recording11 ≡ done playing
+  pub plays : play_of image11 recording11 ≡ done playing
   pub entries : playing.entries ≡ 4
   pub cycles : playing.cycles ≡ 11
   pub ending : playing.ending ≡ refused (plain 10)
-  pub levels : levelsInUse playing.machine ≡ 2
+  pub levels : levels_in_use playing.machine ≡ 2

@@ -1,56 +1,56 @@
 -- Where a playing stands between two keys: what the functions inside the crate promise; no claim uses it.
 use Rattle.std.specs.Prelude.{ℕ, zero, suc, ◌+◌, ◌-◌, ◌*◌, ◌≤◌, ◌<◌, ◌≡◌, Bool, true, false, List, length, drop, get_or}
 use Rattle.isa.specs.Refusals.{Answer, Ended, done, refused}
-use Rattle.isa.specs.Sources.{namesOnlySources}
+use Rattle.isa.specs.Sources.{names_only_sources}
 use Rattle.machine.specs.declared.Machine.{Machine}
 use Rattle.machine.specs.declared.Ending.{Ending}
 use Rattle.machine.specs.declared.Ending.TheVariants as ending
-use Rattle.machine.specs.State.{ended_of, resetOf, hostStored, hostStoreOf}
+use Rattle.machine.specs.State.{ended_of, reset_of, host_stored, host_store_of}
 use Rattle.machine.specs.Steps.{Reported}
 use Rattle.machine.specs.Run.{Run, run_of}
 use Rattle.playback.specs.declared.Entry.{Entry}
 use Rattle.playback.specs.declared.Entry.TheVariants.{Step, Store, Reset}
 use Rattle.playback.specs.declared.turn.Turn.{Turn}
-use Rattle.playback.specs.Entries.{thenRead, entriesOf, isBody}
-use Rattle.playback.specs.Play.{Playing, playingAs, playFrom, pressOf}
-use Rattle.playback.specs.Keys.{stepLeft}
+use Rattle.playback.specs.Entries.{then_read, entries_of, is_body}
+use Rattle.playback.specs.Play.{Playing, playing_as, play_from, press_of}
+use Rattle.playback.specs.Keys.{step_left}
 
 -- the entry of a turn, by its kind
-abbrev pub entryBy : (kind first second : ℕ) → Entry
-entryBy zero first second = Step first
-entryBy (suc zero) first second = Store first second
-entryBy (suc (suc kind)) first second = Reset
+abbrev pub entry_by : (kind first second : ℕ) → Entry
+entry_by zero first second = Step first
+entry_by (suc zero) first second = Store first second
+entry_by (suc (suc kind)) first second = Reset
 
 abbrev pub entry_of : Turn → Entry
-entry_of t = entryBy t.kind t.first t.second
+entry_of t = entry_by t.kind t.first t.second
 
 -- what is read is played from a machine on, after some entries with their cycles
-abbrev pub playedFrom : (image : List ℕ) → (entries cycles : ℕ) → Machine → Answer (List Entry) → Answer Playing
-playedFrom image n cycles m (done entries) = done (playFrom image n cycles m entries)
-playedFrom image n cycles m (refused why) = refused why
+abbrev pub played_from : (image : List ℕ) → (entries cycles : ℕ) → Machine → Answer (List Entry) → Answer Playing
+played_from image n cycles m (done entries) = done (play_from image n cycles m entries)
+played_from image n cycles m (refused why) = refused why
 
 -- what the whole playing is, by the machine and the turn: the turn's entry and the rest of the body are played; or the
 -- playing is over
-abbrev pub playsBy : Bool → (image body : List ℕ) → Machine → Turn → Answer Playing
-playsBy true image body m t =
-    playedFrom image t.entries t.cycles m (thenRead (entry_of t) (entriesOf (drop t.next body)))
-playsBy false image body m t = done (playingAs m t.entries t.cycles (ended_of t.ending))
+abbrev pub plays_by : Bool → (image body : List ℕ) → Machine → Turn → Answer Playing
+plays_by true image body m t =
+    played_from image t.entries t.cycles m (then_read (entry_of t) (entries_of (drop t.next body)))
+plays_by false image body m t = done (playing_as m t.entries t.cycles (ended_of t.ending))
 
-unfoldable pub playsOn : (image body : List ℕ) → Machine → Turn → Answer Playing
-playsOn image body m t = playsBy t.more image body m t
+unfoldable pub plays_on : (image body : List ℕ) → Machine → Turn → Answer Playing
+plays_on image body m t = plays_by t.more image body m t
 
 -- how many turns there can be from a turn on
-abbrev pub leftBy : Bool → (body : List ℕ) → (next : ℕ) → ℕ
-leftBy true body next = suc (length body - next)
-leftBy false body next = 0
+abbrev pub left_by : Bool → (body : List ℕ) → (next : ℕ) → ℕ
+left_by true body next = suc (length body - next)
+left_by false body next = 0
 
 unfoldable pub left : (body : List ℕ) → Turn → ℕ
-left body t = leftBy t.more body t.next
+left body t = left_by t.more body t.next
 
 -- the rest of the body is entries, and the sums of one entry more have 32 bits
 abbrev pub Within : (body : List ℕ) → (next entries cycles : ℕ) → Type 0
 Within body next entries cycles =
-    (next ≤ length body) × (entries < next) × (cycles ≤ 255 * entries) × (isBody (drop next body) ≡ true)
+    (next ≤ length body) × (entries < next) × (cycles ≤ 255 * entries) × (is_body (drop next body) ≡ true)
 
 unfoldable pub Kept : (body : List ℕ) → Turn → Type 0
 Kept body t = t.more ≡ true → Within body t.next t.entries t.cycles
@@ -60,8 +60,8 @@ abbrev pub Due : (body : List ℕ) → Turn → Entry → Type 0
 Due body t e = (t.more ≡ true) × (entry_of t ≡ e) × Kept body t × (length body ≤ 0xFFFFFF)
 
 -- the turn of an entry, and that of a playing that is over
-abbrev pub turnBy : (kind first second next entries cycles : ℕ) → Turn
-turnBy kind first second next entries cycles = record {
+abbrev pub turn_by : (kind first second next entries cycles : ℕ) → Turn
+turn_by kind first second next entries cycles = record {
   more = true;
   kind = kind;
   first = first;
@@ -73,12 +73,12 @@ turnBy kind first second next entries cycles = record {
 }
 
 abbrev pub turn_of : Entry → (next entries cycles : ℕ) → Turn
-turn_of (Step request) next entries cycles = turnBy 0 request 0 next entries cycles
-turn_of (Store address value) next entries cycles = turnBy 1 address value next entries cycles
-turn_of Reset next entries cycles = turnBy 2 0 0 next entries cycles
+turn_of (Step request) next entries cycles = turn_by 0 request 0 next entries cycles
+turn_of (Store address value) next entries cycles = turn_by 1 address value next entries cycles
+turn_of Reset next entries cycles = turn_by 2 0 0 next entries cycles
 
-abbrev pub overOf : (entries cycles : ℕ) → Ending → Turn
-overOf entries cycles why = record {
+abbrev pub over_of : (entries cycles : ℕ) → Ending → Turn
+over_of entries cycles why = record {
   more = false;
   kind = 0;
   first = 0;
@@ -94,7 +94,7 @@ unfoldable pub TurnAt : (body : List ℕ) → (start entries cycles : ℕ) → T
 TurnAt body start entries cycles t =
     Kept body t × (left body t ≤ length body - start) ×
     ((image : List ℕ) (m : Machine) →
-    playsOn image body m t ≡ playedFrom image entries cycles m (entriesOf (drop start body)))
+    plays_on image body m t ≡ played_from image entries cycles m (entries_of (drop start body)))
 
 -- a turn t' after a turn t: nearer to the end, and the playing is the same whenever the turn's key was pressed, which
 -- left one machine in the place of another
@@ -102,40 +102,40 @@ abbrev pub After :
     (body : List ℕ) → Turn → (Press : (image : List ℕ) (before left : Machine) → Type 0) → Turn → Type 0
 After body t Press t' =
     Kept body t' × (left body t' < left body t) ×
-    ((image : List ℕ) (m m' : Machine) → Press image m m' → playsOn image body m' t' ≡ playsOn image body m t)
+    ((image : List ℕ) (m m' : Machine) → Press image m m' → plays_on image body m' t' ≡ plays_on image body m t)
 
 unfoldable pub AfterAny : (body : List ℕ) → Turn → Answer ℕ → Turn → Type 0
 AfterAny body t answer =
-    After body t (λ image m m'. stepLeft m' answer ≡ pressOf image m (entry_of t))
+    After body t (λ image m m'. step_left m' answer ≡ press_of image m (entry_of t))
 
 unfoldable pub AfterStore : (body : List ℕ) → Turn → Ended → Turn → Type 0
 AfterStore body t ended =
-    After body t (λ image m m'. hostStored m' ended ≡ hostStoreOf m t.first t.second)
+    After body t (λ image m m'. host_stored m' ended ≡ host_store_of m t.first t.second)
 
 unfoldable pub AfterReset : (body : List ℕ) → Turn → Turn → Type 0
-AfterReset body t = After body t (λ image m m'. m' ≡ resetOf m)
+AfterReset body t = After body t (λ image m m'. m' ≡ reset_of m)
 
 -- the steps of the first so many requests are read, and then the rest
-unfoldable pub stepsRead : (requests : List ℕ) → (count : ℕ) → Answer (List Entry) → Answer (List Entry)
-stepsRead requests zero rest = rest
-stepsRead requests (suc n) rest = stepsRead requests n (thenRead (Step (get_or requests n 0)) rest)
+unfoldable pub steps_read : (requests : List ℕ) → (count : ℕ) → Answer (List Entry) → Answer (List Entry)
+steps_read requests zero rest = rest
+steps_read requests (suc n) rest = steps_read requests n (then_read (Step (get_or requests n 0)) rest)
 
 -- the requests of the turn's step and of steps in a row after it, of which each names only sources, and where the body
 -- goes on
 pub record Gathered (body : List ℕ) (t : Turn) (requests : List ℕ) (count : ℕ) : Type 0 where
   pub next : ℕ
-  pub is-next : next + 2 ≡ t.next + 2 * count
+  pub is_next : next + 2 ≡ t.next + 2 * count
   pub within : next ≤ length body
   pub some : 0 < count
   pub most : count ≤ 4096
-  pub fit : (k : ℕ) → 0 < k → k < count → namesOnlySources (get_or requests k 0) ≡ true
+  pub fit : (k : ℕ) → 0 < k → k < count → names_only_sources (get_or requests k 0) ≡ true
   pub reads :
-      thenRead (Step t.first) (entriesOf (drop t.next body))
-      ≡ stepsRead requests count (entriesOf (drop next body))
+      then_read (Step t.first) (entries_of (drop t.next body))
+      ≡ steps_read requests count (entries_of (drop next body))
 
 -- a machine that the run's key leaves, with the key's report
-abbrev pub runLeft : Machine → Reported → Run
-runLeft held report = record { machine = held; report = report }
+abbrev pub run_left : Machine → Reported → Run
+run_left held report = record { machine = held; report = report }
 
 -- the report is of a run of such requests, on some machine
 pub record RowRun (body : List ℕ) (t : Turn) (count : ℕ) (report : Reported) : Type 0 where
@@ -144,15 +144,15 @@ pub record RowRun (body : List ℕ) (t : Turn) (count : ℕ) (report : Reported)
   pub before : Machine
   pub left : Machine
   pub gathered : Gathered body t requests count
-  pub ran : runLeft left report ≡ run_of image before requests count
+  pub ran : run_left left report ≡ run_of image before requests count
 
 -- the run's key was pressed for the turn's step and those after it
 unfoldable pub AfterRun : (body : List ℕ) → Turn → (count : ℕ) → Reported → Turn → Type 0
 AfterRun body t count report t' =
     (requests : List ℕ) → Gathered body t requests count →
-    After body t (λ image m m'. runLeft m' report ≡ run_of image m requests count) t'
+    After body t (λ image m m'. run_left m' report ≡ run_of image m requests count) t'
 
 -- the turn of the first entry: nothing is played before it
 unfoldable pub FirstTurn : (body : List ℕ) → (fresh : Machine) → Turn → Type 0
 FirstTurn body fresh t =
-    Kept body t × ((image : List ℕ) → playsOn image body fresh t ≡ playedFrom image 0 0 fresh (entriesOf body))
+    Kept body t × ((image : List ℕ) → plays_on image body fresh t ≡ played_from image 0 0 fresh (entries_of body))

@@ -1,6 +1,6 @@
 // A record's body, entry by entry.
 ghost use Rattle.std.specs.Prelude.{◌≡◌, ◌<◌, length};
-ghost use Rattle.playback.specs.Entries.{Leads, isBody};
+ghost use Rattle.playback.specs.Entries.{Leads, is_body};
 
 use crate::Entry;
 
@@ -38,7 +38,7 @@ pub fn first_entry(body: &[u8]) -> Leading
 
 // Whether a body is entries to its end.
 pub fn is_body(body: &[u8]) -> bool
-    ensures { result ≡ isBody body.now }
+    ensures { result ≡ is_body body.now }
 {
     let mut rest = body;
     while 0 < rest.len() {

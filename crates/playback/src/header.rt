@@ -1,6 +1,6 @@
 // A record's header: its version, and the count of the bytes after it.
 ghost use Rattle.std.specs.Prelude.{◌≤◌, ◌≡◌, length, get_or};
-ghost use Rattle.playback.specs.Record.{BodyFound, countOf, longCountOf};
+ghost use Rattle.playback.specs.Record.{BodyFound, count_of, long_count_of};
 
 use isa::Refusal;
 
@@ -25,7 +25,7 @@ const MOST_LONG: usize = 1_048_576;
 // The count in a record's second and third byte, the high one first.
 fn count_of(recording: &[u8]) -> usize
     requires { 3 ≤ length recording.now }
-    ensures { result ≡ countOf recording.now }
+    ensures { result ≡ count_of recording.now }
 {
     recording[1] as usize * 256 + recording[2] as usize
 }
@@ -33,7 +33,7 @@ fn count_of(recording: &[u8]) -> usize
 // The same with the fourth byte, the lowest.
 fn long_count_of(recording: &[u8]) -> usize
     requires { 4 ≤ length recording.now }
-    ensures { result ≡ longCountOf recording.now }
+    ensures { result ≡ long_count_of recording.now }
 {
     count_of(recording) * 256 + recording[3] as usize
 }

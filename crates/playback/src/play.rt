@@ -2,8 +2,8 @@
 ghost use Rattle.std.specs.Prelude.{◌≤◌, ◌≡◌, true, length};
 ghost use Rattle.isa.specs.Refusals.{numbered, refused, done};
 ghost use Rattle.machine.specs.State.{ended_of};
-ghost use Rattle.playback.specs.Entries.{isBody, entriesOf};
-ghost use Rattle.playback.specs.Play.{playedOf, playingAs, playedBy, playOf};
+ghost use Rattle.playback.specs.Entries.{is_body, entries_of};
+ghost use Rattle.playback.specs.Play.{played_of, playing_as, played_by, play_of};
 
 use crate::entries::is_body;
 use crate::header::{Body, find_body};
@@ -17,7 +17,7 @@ use machine::state::fresh;
 
 // Nothing was played. The machine says nothing then: a fresh one stands in its place.
 fn refused_play(reason: Refusal) -> Played
-    ensures { playedOf result ≡ refused (numbered reason) }
+    ensures { played_of result ≡ refused (numbered reason) }
 {
     Played {
         machine: fresh(),
@@ -27,7 +27,7 @@ fn refused_play(reason: Refusal) -> Played
 
 // The machine as the playing left it, and what its last turn counted.
 fn ended(machine: Machine, turn: Turn) -> Played
-    ensures { playedOf result ≡ done (playingAs machine turn.entries turn.cycles (ended_of turn.ending)) }
+    ensures { played_of result ≡ done (playing_as machine turn.entries turn.cycles (ended_of turn.ending)) }
 {
     let ending = turn.ending;
     Played {
@@ -43,8 +43,8 @@ fn ended(machine: Machine, turn: Turn) -> Played
 // Plays the entries of a body: one machine is held here, and lent to the key of each entry, or of each row of steps,
 // which is one run. The body is short enough for the sum of the cycles to have 32 bits.
 fn play_entries(image: &[u8], body: &[u8]) -> Played
-    requires { (isBody body.now ≡ true) × (length body.now ≤ 0xFFFFFF) }
-    ensures { playedOf result ≡ playedBy image.now (entriesOf body.now) }
+    requires { (is_body body.now ≡ true) × (length body.now ≤ 0xFFFFFF) }
+    ensures { played_of result ≡ played_by image.now (entries_of body.now) }
 {
     let mut held = fresh();
     let mut turn = first_turn(body);
@@ -69,7 +69,7 @@ fn play_entries(image: &[u8], body: &[u8]) -> Played
 // A body that is no list of entries is refused with 29, before any is played.
 fn play_body(image: &[u8], body: &[u8]) -> Played
     requires { length body.now ≤ 0xFFFFFF }
-    ensures { playedOf result ≡ playedBy image.now (entriesOf body.now) }
+    ensures { played_of result ≡ played_by image.now (entries_of body.now) }
 {
     if !is_body(body) {
         return refused_play(Refusal::RecordEntry);
@@ -80,7 +80,7 @@ fn play_body(image: &[u8], body: &[u8]) -> Played
 // Plays a session's record on a fresh machine. Refuses with 1, then as its header is refused (28, 27, 28, 30), then
 // with 29, before the first entry is played.
 pub fn play(image: &[u8], recording: &[u8]) -> Played
-    ensures { playedOf result ≡ playOf image.now recording.now }
+    ensures { played_of result ≡ play_of image.now recording.now }
 {
     if !is_image_length(image.len()) {
         return refused_play(Refusal::ImageLength);

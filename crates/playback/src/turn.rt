@@ -1,15 +1,15 @@
 // Turns of a playing: which key is to be pressed next, and what was counted before it. A turn knows nothing of the
 // machine, so that one machine can be held elsewhere and lent to each key.
 ghost use Rattle.std.specs.Prelude.{◌≤◌, ◌*◌, ◌≡◌, true, length, drop};
-ghost use Rattle.isa.specs.Sources.{namesOnlySources};
+ghost use Rattle.isa.specs.Sources.{names_only_sources};
 ghost use Rattle.machine.specs.State.{ended_of, fresh_of};
 ghost use Rattle.machine.specs.Step.{answer_of};
-ghost use Rattle.machine.specs.Run.{reportOf};
-ghost use Rattle.playback.specs.Entries.{isBody, Leads};
-ghost use Rattle.playback.specs.Play.{withoutCycles};
+ghost use Rattle.machine.specs.Run.{report_of};
+ghost use Rattle.playback.specs.Entries.{is_body, Leads};
+ghost use Rattle.playback.specs.Play.{without_cycles};
 ghost use Rattle.playback.specs.declared.Entry.TheVariants.{Step, Store, Reset};
 ghost use Rattle.playback.specs.declared.entries.Leading.TheVariants as leading;
-ghost use Rattle.playback.specs.Turn.{entry_of, Due, turnBy, turn_of, overOf, TurnAt, FirstTurn};
+ghost use Rattle.playback.specs.Turn.{entry_of, Due, turn_by, turn_of, over_of, TurnAt, FirstTurn};
 ghost use Rattle.playback.specs.Turn.{AfterAny, AfterStore, AfterReset, Gathered, RowRun, AfterRun};
 
 use crate::Entry;
@@ -41,7 +41,7 @@ pub struct Turn {
 }
 
 fn entry_turn(kind: u8, first: u8, second: u8, next: usize, entries: u32, cycles: u32) -> Turn
-    ensures { result ≡ turnBy kind first second next entries cycles }
+    ensures { result ≡ turn_by kind first second next entries cycles }
 {
     Turn {
         more: true,
@@ -66,7 +66,7 @@ fn turn_of(entry: Entry, next: usize, entries: u32, cycles: u32) -> Turn
 }
 
 fn over(entries: u32, cycles: u32, ending: Ending) -> Turn
-    ensures { result ≡ overOf entries cycles ending }
+    ensures { result ≡ over_of entries cycles ending }
 {
     Turn {
         more: false,
@@ -83,7 +83,7 @@ fn over(entries: u32, cycles: u32, ending: Ending) -> Turn
 // The turn of the entry that begins at `start`, or the end of the playing.
 fn turn_at(body: &[u8], start: usize, entries: u32, cycles: u32) -> Turn
     requires { (start ≤ length body.now) × (entries ≤ start) × (cycles ≤ 255 * entries)
-        × (isBody (drop start body.now) ≡ true) }
+        × (is_body (drop start body.now) ≡ true) }
     ensures { TurnAt body.now start entries cycles result }
 {
     if start == body.len() {
@@ -98,7 +98,7 @@ fn turn_at(body: &[u8], start: usize, entries: u32, cycles: u32) -> Turn
 }
 
 pub fn first_turn(body: &[u8]) -> Turn
-    requires { isBody body.now ≡ true }
+    requires { is_body body.now ≡ true }
     ensures { FirstTurn body.now fresh_of result }
 {
     turn_at(body, 0, 0, 0)
@@ -122,7 +122,7 @@ fn after_answer(body: &[u8], turn: Turn, answer: StepAnswer) -> Turn
 
 // The request of the step that begins there. Where none does it is 255, which names more than sources.
 fn request_at(body: &[u8], at: usize) -> u8
-    ensures { namesOnlySources result ≡ true → Leads (drop at body.now) (leading.Entry (Step result) 2) }
+    ensures { names_only_sources result ≡ true → Leads (drop at body.now) (leading.Entry (Step result) 2) }
 {
     let count = body.len();
     if count < 2 {
@@ -159,8 +159,8 @@ pub fn gather(requests: &mut [u8; 4096], body: &[u8], turn: Turn) -> u32
 // The turn after the run of a row of so many steps: that of the entry after the row, or the end of the playing at the
 // step with which the run was refused or stopped.
 pub fn after_run(body: &[u8], turn: Turn, count: u32, report: Report) -> Turn
-    requires { Due body.now turn (Step turn.first) × RowRun body.now turn count (reportOf report) }
-    ensures { AfterRun body.now turn count (reportOf report) result }
+    requires { Due body.now turn (Step turn.first) × RowRun body.now turn count (report_of report) }
+    ensures { AfterRun body.now turn count (report_of report) result }
 {
     let entries = turn.entries + report.steps;
     let cycles = turn.cycles + report.cycles;
@@ -173,7 +173,7 @@ pub fn after_run(body: &[u8], turn: Turn, count: u32, report: Report) -> Turn
 
 // A host store takes no cycles.
 fn store_answer(ending: Ending) -> StepAnswer
-    ensures { answer_of result ≡ withoutCycles (ended_of ending) }
+    ensures { answer_of result ≡ without_cycles (ended_of ending) }
 {
     match ending {
         Ending::Done => StepAnswer::Done(0),

@@ -2,20 +2,20 @@
 -- answer included)".
 use Rattle.std.specs.Prelude.{ℕ, ◌≡◌, ◌⊎◌, Bool, cond, List}
 use Rattle.isa.specs.Refusals.{done, refused}
-use Rattle.certificate.specs.Check.{Verdict, accepted, checkOf}
+use Rattle.certificate.specs.Check.{Verdict, accepted, check_of}
 
 -- that of the answer, but 2 where not all of it could be written
-abbrev pub exitStatus : (status : ℕ) → (is-written : Bool) → ℕ
-exitStatus status is-written = cond is-written status 2
+abbrev pub exit_status : (status : ℕ) → (is-written : Bool) → ℕ
+exit_status status is-written = cond is-written status 2
 
 -- "0 accepted .., 1 refused"
-abbrev pub statusOf : Verdict → ℕ
-statusOf (done levels) = 0
-statusOf (refused n) = 1
+abbrev pub status_of : Verdict → ℕ
+status_of (done levels) = 0
+status_of (refused n) = 1
 
 -- the exit status of an answer that was written, or 2
 abbrev pub Exits : (answer : Verdict) → (status : ℕ) → Type 0
-Exits answer status = (status ≡ statusOf answer) ⊎ (status ≡ 2)
+Exits answer status = (status ≡ status_of answer) ⊎ (status ≡ 2)
 
 -- that of a refusal
 abbrev pub Refuses : (status : ℕ) → Type 0
@@ -25,7 +25,7 @@ Refuses status = (status ≡ 1) ⊎ (status ≡ 2)
 pub record IsAccepted (image : List ℕ) (wired : ℕ) : Type 0 where
   pub certificate : List ℕ
   pub levels : ℕ
-  pub accepts : checkOf image certificate wired ≡ accepted levels
+  pub accepts : check_of image certificate wired ≡ accepted levels
 
 -- the exit status 0, on which what stands after `&&` is done, is answered only where a certificate of the image is
 -- accepted

@@ -1,8 +1,8 @@
 // An answer on standard output: the job program's line, then what it is about, in words.
 ghost use Rattle.isa.specs.Refusals.{numbered, refused};
-ghost use Rattle.certificate.specs.Check.{accepted, checkOf};
+ghost use Rattle.certificate.specs.Check.{accepted, check_of};
 ghost use Rattle.listing.specs.Pieces.{Adds, Holds};
-ghost use Rattle.reports.specs.Answers.{answerText};
+ghost use Rattle.reports.specs.Answers.{answer_text};
 ghost use Rattle.reports.specs.Output.{Exits, Refuses};
 
 use crate::attempt::attempt;
@@ -36,7 +36,7 @@ pub struct Subject {
 
 // Adds the job program's line of a refusal, without its end.
 pub fn refusal_line(line: Line, refusal: Refusal) -> Line
-    ensures { Adds (answerText (refused (numbered refusal))) line result }
+    ensures { Adds (answer_text (refused (numbered refusal))) line result }
 {
     let begun = line.word(b"refused ");
     match number_of(refusal) {
@@ -49,7 +49,7 @@ pub fn refusal_line(line: Line, refusal: Refusal) -> Line
 
 // The job program's line of accepted marks, without its end.
 fn accepted_line(levels: u8) -> Line
-    ensures { Holds (answerText (accepted levels)) result }
+    ensures { Holds (answer_text (accepted levels)) result }
 {
     Line::new().word(b"accepted ").decimal(levels as u32)
 }
@@ -159,7 +159,7 @@ fn put_accepted(image: &[u8], marks: &[u8], subject: Subject, levels: u8) -> u8
 
 // Checks marks, writes the answer, and answers the exit status.
 pub fn put_checked(image: &[u8], marks: &mut [u8], subject: Subject) -> u8
-    ensures { Exits (checkOf image.now marks.old subject.wired) result }
+    ensures { Exits (check_of image.now marks.old subject.wired) result }
 {
     match check(image, marks, subject.wired) {
         Checked::Accepted(levels) => put_accepted(image, marks, subject, levels),

@@ -1,6 +1,6 @@
 // Standard output and standard error.
 ghost use Rattle.std.specs.Prelude.{◌≡◌};
-ghost use Rattle.reports.specs.Output.{exitStatus};
+ghost use Rattle.reports.specs.Output.{exit_status};
 
 use crate::FAILED;
 use libc::{STDERR_FILENO, STDOUT_FILENO};
@@ -47,7 +47,7 @@ pub fn put_error(text: &[u8]) {
 
 // The exit status: that of the answer, unless not all of it could be written.
 pub fn finish(status: u8, is_written: bool) -> u8
-    ensures { result ≡ exitStatus status is_written }
+    ensures { result ≡ exit_status status is_written }
 {
     if is_written {
         return status;

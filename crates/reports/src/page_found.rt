@@ -1,8 +1,8 @@
 // The page with which the check found a rule broken.
 ghost use Rattle.std.specs.Prelude.{◌≡◌, true, ◌<◌, ◌++◌, length};
 ghost use Rattle.isa.specs.Rom.{IsImage, space_of};
-ghost use Rattle.certificate.specs.Check.{answered, checkOf};
-ghost use Rattle.reports.specs.PageFound.{FoundFirst, refusesAt};
+ghost use Rattle.certificate.specs.Check.{answered, check_of};
+ghost use Rattle.reports.specs.PageFound.{FoundFirst, refuses_at};
 
 use certificate::Checked;
 use certificate::check::check;
@@ -22,7 +22,7 @@ fn join<'a>(page: &'a [u8], fixed: &'a [u8], space: &mut [u8])
 // The check of program space as it stands with a page of several in place.
 fn check_with(image: &[u8], page: u8, certificate: &[u8], wired: u8) -> Checked
     requires { IsImage image.now × (4096 < length image.now) }
-    ensures { answered result ≡ checkOf (space_of image.now page) certificate.now wired }
+    ensures { answered result ≡ check_of (space_of image.now page) certificate.now wired }
 {
     let mut space = [0u8; 4096];
     join(page_of(image, page), fixed_of(image), &mut space);
@@ -31,7 +31,7 @@ fn check_with(image: &[u8], page: u8, certificate: &[u8], wired: u8) -> Checked
 
 // Whether a check refused at an address.
 fn is_refused_at(checked: Checked, address: u16) -> bool
-    ensures { result ≡ refusesAt address (answered checked) }
+    ensures { result ≡ refuses_at address (answered checked) }
 {
     match checked {
         Checked::Accepted(_) => false,

@@ -2,8 +2,8 @@
 use mathlib.Core.Path.{◌∙◌}
 use borrow.Author.Tests.{le-leb, lt-leb}
 use borrow.Author.Rules.{rules}
-use Rattle.exports.specs.Lent.{decodedLent}
-use Rattle.exports.proofs.Clamping.{decode-clamped}
+use Rattle.exports.specs.Lent.{decoded_lent}
+use Rattle.exports.proofs.Clamping.{decode_clamped}
 use Rattle.exports.proofs.decode_with.Statement.{statement}
 use Rattle.exports.proofs.decode_with.Tie as tie
 
@@ -26,7 +26,7 @@ refused-requires-2 : tie.Need-refused-requires-2
 refused-requires-2 c κs = search rules
 
 returns : tie.Need-returns
-unfolding decodedLent
+unfolding decoded_lent
 returns c =
     let at-instruction = c.before.before.before in
     let at-decode = at-instruction.before.before in
@@ -34,7 +34,7 @@ returns c =
     let start = at-clamp-address.before.before.before in
     rw (
       ← ((rw at-clamp-address.clamp-address.ensures at at-decode.decode.ensures)
-          ∙ decode-clamped start.args.image.now start.args.bank start.args.address),
+          ∙ decode_clamped start.args.image.now start.args.bank start.args.address),
       at-instruction.instruction.given.1,
       lt-leb _ _ c.before.if1.true,
       c.refused2.ensures,
@@ -50,7 +50,7 @@ done-requires : tie.Need-done-requires
 done-requires c κs = search rules
 
 returns-2 : tie.Need-returns-2
-unfolding decodedLent
+unfolding decoded_lent
 returns-2 c =
     let at-refusal = c.before.before in
     let at-decode = at-refusal.before.before in
@@ -58,7 +58,7 @@ returns-2 c =
     let start = at-clamp-address.before.before.before in
     rw (
       ← ((rw at-clamp-address.clamp-address.ensures at at-decode.decode.ensures)
-          ∙ decode-clamped start.args.image.now start.args.bank start.args.address),
+          ∙ decode_clamped start.args.image.now start.args.bank start.args.address),
       at-refusal.refusal.given.1,
       c.refused.ensures,
     )
@@ -67,7 +67,7 @@ same_length : tie.Need-same-length
 same_length c = search rules
 
 returns-3 : tie.Need-returns-3
-unfolding decodedLent
+unfolding decoded_lent
 returns-3 c =
     let at-put-row = c.before.before.before in
     let at-if1 = at-put-row.before.before in
@@ -77,7 +77,7 @@ returns-3 c =
     let start = at-clamp-address.before.before.before in
     rw (
       ← ((rw at-clamp-address.clamp-address.ensures at at-decode.decode.ensures)
-          ∙ decode-clamped start.args.image.now start.args.bank start.args.address),
+          ∙ decode_clamped start.args.image.now start.args.bank start.args.address),
       at-instruction.instruction.given.1,
       le-leb _ _ at-if1.if1.false,
       c.done.ensures,

@@ -1,8 +1,8 @@
 -- `st62_job` meets its contract.
 use borrow.Author.Rules.{rules}
 use native.Mathlib.Omega.{arith}
-use Rattle.exports.specs.Lent.{jobLent}
-use Rattle.exports.proofs.JobLine.{line-short, line-lent, refused-lent}
+use Rattle.exports.specs.Lent.{job_lent}
+use Rattle.exports.proofs.JobLine.{line_short, line_lent_lem, refused_lent}
 use Rattle.exports.proofs.st62_job.Statement.{statement}
 use Rattle.exports.proofs.st62_job.Tie as tie
 
@@ -15,7 +15,7 @@ enum-known-count c = search rules
 cast-done : tie.Need-overflow-cast-done
 cast-done c =
     let at-answer = c.before.before.before.before.before in
-    omega (arith, line-short _ _ _ _ (rw c.before.count.given.1 at at-answer.answer.ensures))
+    omega (arith, line_short _ _ _ _ (rw c.before.count.given.1 at at-answer.answer.ensures))
 
 done-requires : tie.Need-done-requires
 done-requires c κs = search rules
@@ -30,21 +30,21 @@ same_length : tie.Need-same-length
 same_length c = search rules
 
 returns : tie.Need-returns
-unfolding jobLent
+unfolding job_lent
 returns c =
     let at_count = c.before.before in
     let at-answer = at_count.before.before.before.before in
-    rw c.done.ensures (line-lent _ _ _ _ (rw at_count.count.given.1 at at-answer.answer.ensures))
+    rw c.done.ensures (line_lent_lem _ _ _ _ (rw at_count.count.given.1 at at-answer.answer.ensures))
 
 same-length-2 : tie.Need-same-length-2
 same-length-2 c = search rules
 
 returns-2 : tie.Need-returns-2
-unfolding jobLent
+unfolding job_lent
 returns-2 c =
     let at-refusal = c.before.before in
     let at-answer = at-refusal.before.before.before.before in
-    rw c.refused.ensures (refused-lent _ _ _ _ (rw at-refusal.refusal.given.1 at at-answer.answer.ensures))
+    rw c.refused.ensures (refused_lent _ _ _ _ (rw at-refusal.refusal.given.1 at at-answer.answer.ensures))
 
 pub st62-job-spec : {M : Type 1} → statement M
 st62-job-spec =

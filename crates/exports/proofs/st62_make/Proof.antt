@@ -1,7 +1,7 @@
 -- `st62_make` meets its contract.
 use borrow.Author.Rules.{rules}
 use Rattle.maker.specs.Make.{made_of}
-use Rattle.exports.proofs.Clamping.{make-clamped}
+use Rattle.exports.proofs.Clamping.{make_clamped}
 use Rattle.exports.proofs.st62_make.Statement.{statement}
 use Rattle.exports.proofs.st62_make.Tie as tie
 
@@ -19,7 +19,7 @@ same_length c = search rules
 
 returns : tie.Need-returns
 returns c =
-    make-clamped
+    make_clamped
     (record {
       made = made_of c.before.before.before.make.result;
       makes = rw c.before.before.before.before.before.clamp-byte.ensures at c.before.before.before.make.ensures;

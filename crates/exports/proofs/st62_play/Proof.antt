@@ -1,7 +1,7 @@
 -- `st62_play` meets its contract: the playing's refusals, 2, 9, then state and report.
 use borrow.Author.Tests.{eq-eqb, ne_eqb, le-leb, lt-leb}
 use borrow.Author.Rules.{rules}
-use Rattle.exports.specs.Lent.{playLent, playedLent, reportBytes}
+use Rattle.exports.specs.Lent.{play_lent, played_lent, report_bytes}
 use Rattle.exports.proofs.st62_play.Statement.{statement}
 use Rattle.exports.proofs.st62_play.Tie as tie
 
@@ -21,7 +21,7 @@ refused-requires-2 : tie.Need-refused-requires-2
 refused-requires-2 c κs = search rules
 
 returns : tie.Need-returns
-unfolding playLent playedLent
+unfolding play_lent played_lent
 returns c =
     rw (
       ← c.before.before.before.before.before.before.play.ensures,
@@ -34,7 +34,7 @@ refused-requires-3 : tie.Need-refused-requires-3
 refused-requires-3 c κs = search rules
 
 returns-2 : tie.Need-returns-2
-unfolding playLent playedLent
+unfolding play_lent played_lent
 returns-2 c =
     rw (
       ← c.before.before.before.before.before.before.before.play.ensures,
@@ -60,7 +60,7 @@ ending-word-requires : tie.Need-ending-word-requires
 ending-word-requires c κs = search rules
 
 returns-3 : tie.Need-returns-3
-unfolding playLent playedLent
+unfolding play_lent played_lent
 returns-3 c =
     let at-answer = c.before.before in
     rw (← at-answer.before.before.before.play.ensures, at-answer.answer.given.1, c.refused.ensures)
@@ -72,7 +72,7 @@ same-length-2 : tie.Need-same-length-2
 same-length-2 c = search rules
 
 returns-4 : tie.Need-returns-4
-unfolding playLent playedLent reportBytes
+unfolding play_lent played_lent report_bytes
 returns-4 c =
     let at-put = c.before.before.before in
     let at-pack = at-put.before.before.before.before.before in

@@ -2,10 +2,10 @@
 use mathlib.Core.Path.{sym, ap, ◌∙◌}
 use borrow.Author.Tests.{le-leb, lt-leb, not-true, not-false}
 use borrow.Author.Rules.{rules}
-use Rattle.exports.specs.Answers.{readingWord}
+use Rattle.exports.specs.Answers.{reading_word}
 use Rattle.exports.specs.States.{unpacked}
-use Rattle.exports.specs.Lent.{readWord}
-use Rattle.exports.proofs.Pasting.{valid-length}
+use Rattle.exports.specs.Lent.{read_word}
+use Rattle.exports.proofs.Pasting.{valid_length}
 use Rattle.exports.proofs.st62_read.Statement.{statement}
 use Rattle.exports.proofs.st62_read.Tie as tie
 
@@ -13,7 +13,7 @@ refused-requires : tie.Need-refused-requires
 refused-requires c κs = search rules
 
 returns : tie.Need-returns
-unfolding readWord
+unfolding read_word
 returns c = rw (lt-leb _ _ c.before.if1.true) c.refused.ensures
 
 is-valid-requires : tie.Need-is-valid-requires
@@ -23,7 +23,7 @@ invalid-state-requires : tie.Need-invalid-state-requires
 invalid-state-requires c κs = search rules
 
 returns-2 : tie.Need-returns-2
-unfolding readWord unpacked
+unfolding read_word unpacked
 returns-2 c =
     let v = c.before.before in
     rw (
@@ -35,7 +35,7 @@ returns-2 c =
 
 unpack-requires : tie.Need-unpack-requires
 unpack-requires c κs =
-    valid-length _ (sym c.before.is-valid.ensures ∙ not-false _ c.if2.false)
+    valid_length _ (sym c.before.is-valid.ensures ∙ not-false _ c.if2.false)
 
 cast-read : tie.Need-overflow-cast-read
 cast-read c = search rules
@@ -47,7 +47,7 @@ reading-word-requires : tie.Need-reading-word-requires
 reading-word-requires c κs = search rules
 
 returns-3 : tie.Need-returns-3
-unfolding readWord unpacked
+unfolding read_word unpacked
 returns-3 c =
     let u = c.before.before in
     let v = u.before.before in
@@ -57,7 +57,7 @@ returns-3 c =
       not-false v.is-valid.result u.before.if2.false,
     )
     (c.reading-word.ensures
-    ∙ ap readingWord (rw u.unpack.ensures at c.before.read.ensures))
+    ∙ ap reading_word (rw u.unpack.ensures at c.before.read.ensures))
 
 pub st62-read-spec : {M : Type 1} → statement M
 st62-read-spec =

@@ -2,9 +2,9 @@
 use mathlib.Core.Path.{sym, ◌∙◌}
 use borrow.Author.Tests.{not-true, not-false}
 use borrow.Author.Rules.{rules}
-use Rattle.exports.specs.Lent.{resetLent}
+use Rattle.exports.specs.Lent.{reset_lent}
 use Rattle.exports.specs.States.{unpacked}
-use Rattle.exports.proofs.Pasting.{valid-length}
+use Rattle.exports.proofs.Pasting.{valid_length}
 use Rattle.exports.proofs.st62_reset.Statement.{statement}
 use Rattle.exports.proofs.st62_reset.Tie as tie
 
@@ -18,7 +18,7 @@ same_length : tie.Need-same-length
 same_length c = search rules
 
 returns : tie.Need-returns
-unfolding resetLent unpacked
+unfolding reset_lent unpacked
 returns c =
     let at-is-valid = c.before.before in
     rw (
@@ -28,7 +28,7 @@ returns c =
     )
 
 unpack-requires : tie.Need-unpack-requires
-unpack-requires c κs = valid-length _ (sym c.before.before.is-valid.ensures ∙ not-false _ c.before.if1.false)
+unpack-requires c κs = valid_length _ (sym c.before.before.is-valid.ensures ∙ not-false _ c.before.if1.false)
 
 reset-requires : tie.Need-reset-requires
 reset-requires c κs = search rules
@@ -37,7 +37,7 @@ pack-requires : tie.Need-pack-requires
 pack-requires c κs =
     let at-if1 = c.before.before.before.before in
     let at-is-valid = at-if1.before in
-    valid-length _ (sym at-is-valid.is-valid.ensures ∙ not-false _ at-if1.if1.false)
+    valid_length _ (sym at-is-valid.is-valid.ensures ∙ not-false _ at-if1.if1.false)
 
 done-requires : tie.Need-done-requires
 done-requires c κs = search rules
@@ -46,7 +46,7 @@ same-length-2 : tie.Need-same-length-2
 same-length-2 c = search rules
 
 returns-2 : tie.Need-returns-2
-unfolding resetLent unpacked
+unfolding reset_lent unpacked
 returns-2 c =
     let at-pack = c.before.before.before in
     let at-reset = at-pack.before.before in

@@ -2,9 +2,9 @@
 use mathlib.Core.Path.{sym, ◌∙◌}
 use borrow.Author.Tests.{le-leb, lt-leb, not-true, not-false}
 use borrow.Author.Rules.{rules}
-use Rattle.exports.specs.Lent.{runLent, ranLent, reportBytes}
-use Rattle.exports.specs.States.{machineAt, unpacked}
-use Rattle.exports.proofs.Pasting.{valid-length}
+use Rattle.exports.specs.Lent.{run_lent, ran_lent, report_bytes}
+use Rattle.exports.specs.States.{machine_at, unpacked}
+use Rattle.exports.proofs.Pasting.{valid_length}
 use Rattle.exports.proofs.st62_run.Statement.{statement}
 use Rattle.exports.proofs.st62_run.Tie as tie
 
@@ -18,7 +18,7 @@ same_length : tie.Need-same-length
 same_length c = search rules
 
 returns : tie.Need-returns
-unfolding runLent unpacked
+unfolding run_lent unpacked
 returns c =
     let at-is-valid = c.before.before in
     rw (
@@ -30,22 +30,22 @@ returns c =
 data-of-requires : tie.Need-data-of-requires
 data-of-requires c κs =
     let k = c.before in
-    valid-length _ (sym k.before.is-valid.ensures ∙ not-false _ k.if1.false)
+    valid_length _ (sym k.before.is-valid.ensures ∙ not-false _ k.if1.false)
 
 stack-of-requires : tie.Need-stack-of-requires
 stack-of-requires c κs =
     let k = c.before.before.before in
-    valid-length _ (sym k.before.is-valid.ensures ∙ not-false _ k.if1.false)
+    valid_length _ (sym k.before.is-valid.ensures ∙ not-false _ k.if1.false)
 
 control-of-requires : tie.Need-control-of-requires
 control-of-requires c κs =
     let k = c.before.before.before.before.before in
-    valid-length _ (sym k.before.is-valid.ensures ∙ not-false _ k.if1.false)
+    valid_length _ (sym k.before.is-valid.ensures ∙ not-false _ k.if1.false)
 
 pairs-of-requires : tie.Need-pairs-of-requires
 pairs-of-requires c κs =
     let k = c.before.before.before.before.before.before.before in
-    valid-length _ (sym k.before.is-valid.ensures ∙ not-false _ k.if1.false)
+    valid_length _ (sym k.before.is-valid.ensures ∙ not-false _ k.if1.false)
 
 run-lent-requires : tie.Need-run-lent-requires
 run-lent-requires c κs = search rules
@@ -60,7 +60,7 @@ same-length-2 : tie.Need-same-length-2
 same-length-2 c = search rules
 
 returns-2 : tie.Need-returns-2
-unfolding runLent unpacked machineAt ranLent
+unfolding run_lent unpacked machine_at ran_lent
 returns-2 c =
     let at-is-refused = c.before.before in
     let at-run = at-is-refused.before.before.before.before in
@@ -93,7 +93,7 @@ same-length-3 : tie.Need-same-length-3
 same-length-3 c = search rules
 
 returns-3 : tie.Need-returns-3
-unfolding runLent unpacked machineAt ranLent
+unfolding run_lent unpacked machine_at ran_lent
 returns-3 c =
     let at-if2 = c.before.before in
     let at-is-refused = at-if2.before in
@@ -129,7 +129,7 @@ pack-parts-requires c κs =
     let at-run = c.before.before.before.before.before.before.before.before.before.before in
     let at-if1 = at-run.before.before.before.before.before.before.before.before.before.before.before in
     let at-is-valid = at-if1.before in
-    valid-length _ (sym at-is-valid.is-valid.ensures ∙ not-false _ at-if1.if1.false)
+    valid_length _ (sym at-is-valid.is-valid.ensures ∙ not-false _ at-if1.if1.false)
 
 slice-aggregate-put : tie.Need-slice-aggregate-put
 slice-aggregate-put c = search rules
@@ -147,7 +147,7 @@ same-length-5 : tie.Need-same-length-5
 same-length-5 c = search rules
 
 returns-4 : tie.Need-returns-4
-unfolding runLent unpacked machineAt ranLent reportBytes
+unfolding run_lent unpacked machine_at ran_lent report_bytes
 returns-4 c =
     let at-put = c.before.before.before in
     let at-pack = at-put.before.before.before.before.before in

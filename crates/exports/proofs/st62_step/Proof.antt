@@ -2,10 +2,10 @@
 use borrow.Author.Rules.{rules}
 use mathlib.Core.Path.{sym, ◌∙◌}
 use borrow.Author.Tests.{not-true, not-false}
-use Rattle.exports.specs.States.{machineAt, unpacked}
-use Rattle.exports.specs.Lent.{stepLent}
-use Rattle.exports.proofs.Clamping.{step-lent-clamped}
-use Rattle.exports.proofs.Pasting.{valid-length}
+use Rattle.exports.specs.States.{machine_at, unpacked}
+use Rattle.exports.specs.Lent.{step_lent}
+use Rattle.exports.proofs.Clamping.{step_lent_clamped}
+use Rattle.exports.proofs.Pasting.{valid_length}
 use Rattle.exports.proofs.st62_step.Statement.{statement}
 use Rattle.exports.proofs.st62_step.Tie as tie
 
@@ -19,7 +19,7 @@ same_length : tie.Need-same-length
 same_length c = search rules
 
 returns : tie.Need-returns
-unfolding stepLent unpacked
+unfolding step_lent unpacked
 returns c =
     let at-is-valid = c.before.before in
     rw (
@@ -31,22 +31,22 @@ returns c =
 data-of-requires : tie.Need-data-of-requires
 data-of-requires c κs =
     let k = c.before in
-    valid-length _ (sym k.before.is-valid.ensures ∙ not-false _ k.if1.false)
+    valid_length _ (sym k.before.is-valid.ensures ∙ not-false _ k.if1.false)
 
 stack-of-requires : tie.Need-stack-of-requires
 stack-of-requires c κs =
     let k = c.before.before.before in
-    valid-length _ (sym k.before.is-valid.ensures ∙ not-false _ k.if1.false)
+    valid_length _ (sym k.before.is-valid.ensures ∙ not-false _ k.if1.false)
 
 control-of-requires : tie.Need-control-of-requires
 control-of-requires c κs =
     let k = c.before.before.before.before.before in
-    valid-length _ (sym k.before.is-valid.ensures ∙ not-false _ k.if1.false)
+    valid_length _ (sym k.before.is-valid.ensures ∙ not-false _ k.if1.false)
 
 pairs-of-requires : tie.Need-pairs-of-requires
 pairs-of-requires c κs =
     let k = c.before.before.before.before.before.before.before in
-    valid-length _ (sym k.before.is-valid.ensures ∙ not-false _ k.if1.false)
+    valid_length _ (sym k.before.is-valid.ensures ∙ not-false _ k.if1.false)
 
 clamp-byte-requires : tie.Need-clamp-byte-requires
 clamp-byte-requires c κs = search rules
@@ -58,7 +58,7 @@ pack-parts-requires : tie.Need-pack-parts-requires
 pack-parts-requires c κs =
     let at-step = c.before.before.before.before.before.before in
     let k = at-step.before.before.before.before.before.before.before.before.before.before.before.before in
-    valid-length _ (sym k.before.is-valid.ensures ∙ not-false _ k.if1.false)
+    valid_length _ (sym k.before.is-valid.ensures ∙ not-false _ k.if1.false)
 
 step-word-requires : tie.Need-step-word-requires
 step-word-requires c κs = search rules
@@ -67,7 +67,7 @@ same-length-2 : tie.Need-same-length-2
 same-length-2 c = search rules
 
 returns-2 : tie.Need-returns-2
-unfolding stepLent unpacked machineAt
+unfolding step_lent unpacked machine_at
 returns-2 c =
     let at-pack = c.before.before.before in
     let at-step = at-pack.before.before.before.before.before.before.before in
@@ -92,7 +92,7 @@ returns-2 c =
       at-data.data_of.ensures,
       at-clamp.clamp-byte.ensures,
     ) at at-step.step-lent.ensures in
-    step-lent-clamped _ _ _ _ _ stepped.0 stepped.1)
+    step_lent_clamped _ _ _ _ _ stepped.0 stepped.1)
 
 pub st62-step-spec : {M : Type 1} → statement M
 st62-step-spec =

@@ -2,9 +2,9 @@
 use mathlib.Core.Path.{sym, ap, ◌∙◌}
 use borrow.Author.Tests.{le-leb, lt-leb, not-true, not-false}
 use borrow.Author.Rules.{rules}
-use Rattle.exports.specs.Lent.{storeLent, storedLent}
+use Rattle.exports.specs.Lent.{store_lent, stored_lent}
 use Rattle.exports.specs.States.{unpacked}
-use Rattle.exports.proofs.Pasting.{valid-length}
+use Rattle.exports.proofs.Pasting.{valid_length}
 use Rattle.exports.proofs.st62_store.Statement.{statement}
 use Rattle.exports.proofs.st62_store.Tie as tie
 
@@ -12,14 +12,14 @@ refused-requires : tie.Need-refused-requires
 refused-requires c κs = search rules
 
 returns : tie.Need-returns
-unfolding storeLent unpacked
+unfolding store_lent unpacked
 returns c = rw (lt-leb _ _ c.before.if1.true, c.refused.ensures)
 
 refused-requires-2 : tie.Need-refused-requires-2
 refused-requires-2 c κs = search rules
 
 returns-2 : tie.Need-returns-2
-unfolding storeLent unpacked
+unfolding store_lent unpacked
 returns-2 c = rw (le-leb _ _ c.before.before.if1.false, lt-leb _ _ c.before.if2.true, c.refused2.ensures)
 
 is-valid-requires : tie.Need-is-valid-requires
@@ -32,7 +32,7 @@ same_length : tie.Need-same-length
 same_length c = search rules
 
 returns-3 : tie.Need-returns-3
-unfolding storeLent unpacked
+unfolding store_lent unpacked
 returns-3 c = rw (
   le-leb _ _ c.before.before.before.before.before.if1.false,
   le-leb _ _ c.before.before.before.before.if2.false,
@@ -42,7 +42,7 @@ returns-3 c = rw (
 )
 
 unpack-requires : tie.Need-unpack-requires
-unpack-requires c κs = valid-length _ (sym c.before.before.is-valid.ensures ∙ not-false _ c.before.if3.false)
+unpack-requires c κs = valid_length _ (sym c.before.before.is-valid.ensures ∙ not-false _ c.before.if3.false)
 
 cast-host-store : tie.Need-overflow-cast-host-store
 cast-host-store c = search rules
@@ -57,7 +57,7 @@ pack-requires : tie.Need-pack-requires
 pack-requires c κs =
     let at-if3 = c.before.before.before.before.before in
     let at-is-valid = at-if3.before in
-    valid-length _ (sym at-is-valid.is-valid.ensures ∙ not-false _ at-if3.if3.false)
+    valid_length _ (sym at-is-valid.is-valid.ensures ∙ not-false _ at-if3.if3.false)
 
 ending-word-requires : tie.Need-ending-word-requires
 ending-word-requires c κs = search rules
@@ -66,7 +66,7 @@ same-length-2 : tie.Need-same-length-2
 same-length-2 c = search rules
 
 returns-4 : tie.Need-returns-4
-unfolding storeLent unpacked
+unfolding store_lent unpacked
 returns-4 c =
     let at-pack = c.before.before.before in
     let at-host-store = at-pack.before.before.before in
@@ -83,7 +83,7 @@ returns-4 c =
       c.ending-word.ensures,
       at-pack.pack.ensures,
     )
-    (ap storedLent (rw at-unpack.unpack.ensures at at-host-store.host-store.ensures))
+    (ap stored_lent (rw at-unpack.unpack.ensures at at-host-store.host-store.ensures))
 
 pub st62-store-spec : {M : Type 1} → statement M
 st62-store-spec =

@@ -2,7 +2,7 @@
 use mathlib.Core.Path.{ap, ◌∙◌}
 use borrow.Author.Tests.{le-leb, lt-leb}
 use borrow.Author.Rules.{rules}
-use Rattle.exports.specs.Answers.{sizeWord}
+use Rattle.exports.specs.Answers.{size_word}
 use Rattle.exports.proofs.st62_width.Statement.{statement}
 use Rattle.exports.proofs.st62_width.Tie as tie
 
@@ -23,7 +23,7 @@ sizing-word-requires c κs = search rules
 
 returns-2 : tie.Need-returns-2
 returns-2 c =
-    rw (le-leb _ _ c.before.before.if1.false) (c.sizing-word.ensures ∙ ap sizeWord c.before.width.ensures)
+    rw (le-leb _ _ c.before.before.if1.false) (c.sizing-word.ensures ∙ ap size_word c.before.width.ensures)
 
 pub st62-width-spec : {M : Type 1} → statement M
 st62-width-spec =

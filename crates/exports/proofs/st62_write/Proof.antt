@@ -1,6 +1,6 @@
 -- `st62_write` meets its contract.
 use borrow.Author.Rules.{rules}
-use Rattle.exports.specs.Lent.{writeLent}
+use Rattle.exports.specs.Lent.{write_lent}
 use Rattle.exports.proofs.st62_write.Statement.{statement}
 use Rattle.exports.proofs.st62_write.Tie as tie
 
@@ -26,7 +26,7 @@ same_length : tie.Need-same-length
 same_length c = search rules
 
 returns : tie.Need-returns
-unfolding writeLent
+unfolding write_lent
 returns c =
     let at-write = c.before.before.before in
     let at-instruction = at-write.before.before.before in
@@ -40,7 +40,7 @@ returns c =
     )
 
 returns-2 : tie.Need-returns-2
-unfolding writeLent
+unfolding write_lent
 returns-2 c = rw (← c.before.before.before.read.ensures, c.before.enum_told.given.1, c.refused.ensures)
 
 pub st62-write-spec : {M : Type 1} → statement M

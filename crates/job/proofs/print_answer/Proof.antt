@@ -2,7 +2,7 @@
 use mathlib.Core.Path.{sym}
 use lib.Seq.{length-take-le}
 use borrow.Author.Rules.{rules}
-use Rattle.jobs.proofs.AnswerLaws.{within-buffer}
+use Rattle.jobs.proofs.AnswerLaws.{within_buffer}
 use Rattle.job.proofs.print_answer.Statement.{statement}
 use Rattle.job.proofs.print_answer.Tie as tie
 
@@ -18,13 +18,13 @@ enum-known-length c = search rules
 array-share-prefix-line : tie.Need-array-share-prefix-line
 array-share-prefix-line c =
     let at-answer = c.before.before.before.before in
-    within-buffer c.before.length.given.1 at-answer.answer.ensures
+    within_buffer c.before.length.given.1 at-answer.answer.ensures
 
 slice-aggregate-write-all : tie.Need-slice-aggregate-write-all
 slice-aggregate-write-all c =
     let at_length = c.before.before in
     let at-answer = at_length.before.before.before in
-    let written = within-buffer at_length.length.given.1 at-answer.answer.ensures in
+    let written = within_buffer at_length.length.given.1 at-answer.answer.ensures in
     sym (length-take-le _ _ written)
 
 write-all-requires : tie.Need-write-all-requires

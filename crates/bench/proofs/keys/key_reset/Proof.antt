@@ -28,11 +28,11 @@ use denote.Triple.Statement.{Triple}
 use denote.Triple.Entry.{on_entry}
 use denote.Triple.Table.{cited}
 use denote.Triple.Walked.{Stays, walk_of, Walks, walked}
-use Rattle.machine.specs.State.{resetOf}
+use Rattle.machine.specs.State.{reset_of}
 use Rattle.machine.specs.declared.Machine.{Machine}
 use Rattle.bench.proofs.KeyWalk as key-walk
 use Rattle.bench.proofs.FunctionWalk.{Met, leaves, proved, framed}
-use Rattle.bench.proofs.KeyWalk.{begins, asked, closed, typed-machine, known-machine, vals}
+use Rattle.bench.proofs.KeyWalk.{begins, asked, closed, typed_machine, known_machine, vals}
 use Rattle.machine.specs.contracts.Machine as T
 use Rattle.machine.proofs.Machine.TheLaws as T'
 use Rattle.machine.specs.contracts.state.reset as reset
@@ -80,7 +80,7 @@ module _ {M : Type 1} {𝓤 : Ura M} (𝓛 : Logic 𝓤) (at_mem : Memory → SP
         (λ l₁. alloc1 ! (λ l₂. alloc1 ! (λ l₃. alloc0 ! $ params1 ! $ pass1 ! (init ! 4 refl (tt, tt)) $ pass0 ! $
         -- [_3; …; _2; …; _1; …; _0; …; obs; the borrow; the token; what else there is, which is nothing]
         move ! (8 ∷ 9 ∷ 10 ∷ 11 ∷ 0 ∷ 2 ∷ 4 ∷ 6 ∷ []) $
-        asked 𝓛 fm reset.ended (reset.clauses 𝓛 at_mem run) known to (λ r. r ≡ resetOf h) (λ r ws. refl) T'.mir
+        asked 𝓛 fm reset.ended (reset.clauses 𝓛 at_mem run) known to (λ r. r ≡ reset_of h) (λ r ws. refl) T'.mir
         (λ r v is. ((LL.lawful T.the_type T'.the_laws 𝓛).typed r (v ∷ []) is).0) b o h ! refl refl asks
         (and_then ! (load ! (from ! (stop !)) (look ! 5 refl)) (no_more !))
         (λ r v e is.
@@ -88,9 +88,9 @@ module _ {M : Type 1} {𝓤 : Ura M} (𝓛 : Logic 𝓤) (at_mem : Memory → SP
         rewrite ! 6 (λ (u : Val). ‵ (fat full_share T'.mir l₂ 0 u))
         (ap only (LL.tells T.the_type T'.the_laws r (v ∷ []) is)) refl $
         assigns ! (of_opd ! (load ! (from ! (stop !)) (look ! 6 refl))) (from ! (hop ! (look ! 7 refl) (stop !)))
-        (store_raw ! 1 refl (typed-machine 𝓛 r (known-machine r v is))) $
+        (store_raw ! 1 refl (typed_machine 𝓛 r (known_machine r v is))) $
         assigns ! (of_opd ! (unit_lit !)) (from ! (stop !)) (init ! 8 refl (tt, tt)) $
-        closed ! tt b o r (known-machine r v is) $ returns ! (look ! 7 refl) $
+        closed ! tt b o r (known_machine r v is) $ returns ! (look ! 7 refl) $
         -- [obs; the borrow; the token; the tokens; _3; _2; _1; _0; 3's; 2's; 1's; 0's]
         move ! (7 ∷ 11 ∷ 6 ∷ 10 ∷ 5 ∷ 9 ∷ 4 ∷ 8 ∷ []) $ leaves ! $ leaves ! $ leaves ! $ leaves ! $ free0 ! $
         move ! (2 ∷ 3 ∷ []) $ join ! $ move ! (1 ∷ 2 ∷ 0 ∷ []) $

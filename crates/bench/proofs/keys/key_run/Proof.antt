@@ -30,12 +30,12 @@ use denote.Triple.Entry.{on_entry}
 use denote.Triple.Table.{cited}
 use denote.Triple.Walked.{Stays, walk_of, Walks, walked}
 use denote.Exit.{yes}
-use Rattle.machine.specs.Run.{ranOf, run_of}
+use Rattle.machine.specs.Run.{ran_of, run_of}
 use Rattle.machine.specs.declared.Machine.{Machine}
 use Rattle.bench.proofs.KeyWalk as key-walk
 use Rattle.bench.proofs.FunctionWalk.{Met, leaves, proved, framed}
 use Rattle.bench.proofs.KeyWalk.{begins, asked, answers, vals}
-use Rattle.bench.proofs.Answers.{low-report, ran}
+use Rattle.bench.proofs.Answers.{low_report, ran}
 use Rattle.machine.specs.contracts.Machine as T
 use Rattle.machine.proofs.Ran.TheLaws as S'
 use Rattle.machine.specs.contracts.Report as O
@@ -129,7 +129,7 @@ module _ {M : Type 1} {𝓤 : Ura M} (𝓛 : Logic 𝓤) (at_mem : Memory → SP
         pass1 ! (init ! 4 refl (tt, record { fits = gn })) $ pass0 ! $
         -- [_6; …; _5; …; _4; …; _3; …; _2; …; _1; …; _0; …; obs; the borrow; the token; P]
         move ! (14 ∷ 15 ∷ 16 ∷ 17 ∷ 0 ∷ 2 ∷ 10 ∷ 12 ∷ []) $
-        asked 𝓛 fm run_op.ended (run_op.clauses 𝓛 at_mem run) known to (λ r. ranOf r ≡ run_of s.now h z.now n)
+        asked 𝓛 fm run_op.ended (run_op.clauses 𝓛 at_mem run) known to (λ r. ran_of r ≡ run_of s.now h z.now n)
         (λ r ws. refl) S'.mir (ran 𝓛).typed b o h ! refl refl asks
         (and_then ! (load ! (from ! (stop !)) (look ! 15 refl))
         (and_then ! (load ! (from ! (stop !)) (look ! 5 refl))
@@ -142,7 +142,7 @@ module _ {M : Type 1} {𝓤 : Ura M} (𝓛 : Logic 𝓤) (at_mem : Memory → SP
         move ! (2 ∷ 3 ∷ []) $ join ! $ move ! (1 ∷ 2 ∷ 0 ∷ []) $
         by ! (key-walk.exits tt [] ps (plain (λ _. O.the_row)) (yes, (yes, (yes, tt))) 𝓛
         (key.clauses 𝓛 at_mem run) (κ, (κ₁, (κ₂, tt))) (q, (q₁, (q₂, tt))) tt b o γ h xs at tt
-        r.machine (tt, (tt, (tt, tt))) r.report (low-report r.report) (fact_i 𝓤 _ (emp 𝓤) e)
+        r.machine (tt, (tt, (tt, tt))) r.report (low_report r.report) (fact_i 𝓤 _ (emp 𝓤) e)
         (LL.makes O.the_type O'.the_plain 𝓛 r.report _ ((ran 𝓛).result-is r v is)))))))))))
 
 module _ {M : Type 1} {𝓤 : Ura M} (𝓛 : Logic 𝓤) (at_mem : Memory → SProp 𝓤)

@@ -30,9 +30,9 @@ use denote.Triple.Entry.{on_entry}
 use denote.Triple.Table.{cited}
 use denote.Triple.Walked.{Stays, walk_of, Walks, walked}
 use denote.Exit.{yes}
-use Rattle.machine.specs.Step.{steppedOf, step_of}
-use Rattle.machine.specs.Actions.{actionAs, actionOf}
-use Rattle.machine.specs.Operands.{stepReadOf}
+use Rattle.machine.specs.Step.{stepped_of, step_of}
+use Rattle.machine.specs.Actions.{action_as, action_of}
+use Rattle.machine.specs.Operands.{step_read_of}
 use Rattle.machine.specs.declared.Machine.{Machine}
 use Rattle.bench.proofs.KeyWalk as key-walk
 use Rattle.bench.proofs.FunctionWalk.{Met, leaves, proved, framed}
@@ -116,8 +116,8 @@ module _ {M : Type 1} {𝓤 : Ura M} (𝓛 : Logic 𝓤) (at_mem : Memory → SP
         -- [_5; …; _4; …; _3; …; _2; …; _1; …; _0; …; obs; the borrow; the token; P]
         move ! (12 ∷ 13 ∷ 14 ∷ 15 ∷ 0 ∷ 2 ∷ 8 ∷ 10 ∷ []) $
         asked 𝓛 fm step.ended (step.clauses 𝓛 at_mem run) known to
-        (λ r. (steppedOf r ≡ step_of s.now h n) × (r.report.read ≡ stepReadOf s.now h n)
-        × (actionAs r.report.action ≡ actionOf s.now h n))
+        (λ r. (stepped_of r ≡ step_of s.now h n) × (r.report.read ≡ step_read_of s.now h n)
+        × (action_as r.report.action ≡ action_of s.now h n))
         (λ r ws. refl) S'.mir (stepped 𝓛).typed b o h ! refl refl asks
         (and_then ! (load ! (from ! (stop !)) (look ! 13 refl))
         (and_then ! (load ! (from ! (stop !)) (look ! 5 refl))

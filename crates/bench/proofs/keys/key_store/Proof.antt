@@ -27,12 +27,12 @@ use denote.Triple.Entry.{on_entry}
 use denote.Triple.Table.{cited}
 use denote.Triple.Walked.{Stays, walk_of, Walks, walked}
 use denote.Exit.{yes}
-use Rattle.machine.specs.State.{storedOf, hostStoreOf}
+use Rattle.machine.specs.State.{stored_of, host_store_of}
 use Rattle.machine.specs.declared.Machine.{Machine}
 use Rattle.bench.proofs.KeyWalk as key-walk
 use Rattle.bench.proofs.FunctionWalk.{Met, leaves, proved, framed}
 use Rattle.bench.proofs.KeyWalk.{begins, asked, answers, vals}
-use Rattle.bench.proofs.Answers.{low-ending, stored}
+use Rattle.bench.proofs.Answers.{low_ending, stored}
 use Rattle.machine.specs.contracts.Machine as T
 use Rattle.machine.proofs.Stored.TheLaws as S'
 use Rattle.machine.specs.contracts.Ending as O
@@ -104,7 +104,7 @@ module _ {M : Type 1} {𝓤 : Ura M} (𝓛 : Logic 𝓤) (at_mem : Memory → SP
         pass1 ! (init ! 4 refl (tt, record { fits = gw })) $ pass0 ! $
         -- [_5; …; _4; …; _3; …; _2; …; _1; …; _0; …; obs; the borrow; the token; P]
         move ! (12 ∷ 13 ∷ 14 ∷ 15 ∷ 0 ∷ 2 ∷ 8 ∷ 10 ∷ []) $
-        asked 𝓛 fm store.ended (store.clauses 𝓛 at_mem run) known to (λ r. storedOf r ≡ hostStoreOf h n w)
+        asked 𝓛 fm store.ended (store.clauses 𝓛 at_mem run) known to (λ r. stored_of r ≡ host_store_of h n w)
         (λ r ws. refl) S'.mir (stored 𝓛).typed b o h ! refl refl asks
         (and_then ! (load ! (from ! (stop !)) (look ! 5 refl))
         (and_then ! (load ! (from ! (stop !)) (look ! 13 refl))
@@ -116,7 +116,7 @@ module _ {M : Type 1} {𝓤 : Ura M} (𝓛 : Logic 𝓤) (at_mem : Memory → SP
         move ! (2 ∷ 3 ∷ []) $ join ! $ move ! (1 ∷ 2 ∷ 0 ∷ []) $
         by ! (key-walk.exits tt [] ps (plain (λ _. O.the_row)) (yes, (yes, tt)) 𝓛 (key.clauses 𝓛 at_mem run)
         (κ, tt) (q, tt) tt b o γ h xs at tt
-        r.machine (tt, (tt, tt)) r.ending (low-ending r.ending) (fact_i 𝓤 _ (emp 𝓤) e)
+        r.machine (tt, (tt, tt)) r.ending (low_ending r.ending) (fact_i 𝓤 _ (emp 𝓤) e)
         (EL.makes O.the_type O'.the_plain 𝓛 r.ending _ ((stored 𝓛).result-is r v is))))))))))
 
 module _ {M : Type 1} {𝓤 : Ura M} (𝓛 : Logic 𝓤) (at_mem : Memory → SProp 𝓤)

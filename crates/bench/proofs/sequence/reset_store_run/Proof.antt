@@ -37,15 +37,15 @@ use denote.Triple.Entry.{alive, on_entry}
 use denote.Triple.Table.{cited}
 use denote.Triple.Walked.{Stays, walk_of, Walks, walked}
 use denote.Exit.{yes}
-use Rattle.machine.specs.State.{resetOf, HostStore, hostStoreOf, ended_of}
-use Rattle.machine.specs.Run.{reportOf, run_of}
+use Rattle.machine.specs.State.{reset_of, HostStore, host_store_of, ended_of}
+use Rattle.machine.specs.Run.{report_of, run_of}
 use Rattle.machine.specs.declared.Machine.{Machine}
 use Rattle.machine.specs.declared.Report.{Report}
 use Rattle.machine.specs.declared.Ran.{Ran}
-use Rattle.bench.proofs.FunctionWalk.{Met, leaves, proved, framed, dropped, go-dropped, exits-plain}
-use Rattle.bench.proofs.KeyWalk.{val, vals, typed-machine}
+use Rattle.bench.proofs.FunctionWalk.{Met, leaves, proved, framed, dropped, go_dropped, exits_plain}
+use Rattle.bench.proofs.KeyWalk.{val, vals, typed_machine}
 use Rattle.bench.proofs.CallerWalk.{pressed}
-use Rattle.bench.proofs.Answers.{low-report}
+use Rattle.bench.proofs.Answers.{low_report}
 use Rattle.machine.specs.contracts.Machine as T
 use Rattle.machine.proofs.Machine.TheLaws as T'
 use Rattle.machine.specs.contracts.Ran as S
@@ -80,11 +80,11 @@ abbrev stayed : Stays (holder.ended).signature.params (holder.ended).kept
 stayed = dropped ps (yes, (yes, (yes, (yes, (yes, (yes, tt))))))
 
 -- the keys' other parameters
-abbrev store-ps : List (Slot 1)
-store-ps = plain (λ _. u8) ∷ plain (λ _. u8) ∷ []
+abbrev store_ps : List (Slot 1)
+store_ps = plain (λ _. u8) ∷ plain (λ _. u8) ∷ []
 
-abbrev run-ps : List (Slot 3)
-run-ps = shr_slice_of (1 ∷ []) tt (plain (λ _. u8)) ∷ shr_slice_of (2 ∷ []) tt (plain (λ _. u8)) ∷ plain (λ _. u32) ∷ []
+abbrev run_ps : List (Slot 3)
+run_ps = shr_slice_of (1 ∷ []) tt (plain (λ _. u8)) ∷ shr_slice_of (2 ∷ []) tt (plain (λ _. u8)) ∷ plain (λ _. u32) ∷ []
 
 -- the contracts that the proof cites
 module _ {M : Type 1} {𝓤 : Ura M} (𝓛 : Logic 𝓤) (mem : Memory → SProp 𝓤) (run : Routine → Fun 𝓤) where
@@ -101,13 +101,13 @@ module _ {M : Type 1} {𝓤 : Ura M} (𝓛 : Logic 𝓤) (mem : Memory → SProp
 abbrev made : Machine → Report → Ran
 made m r = record { machine = m; report = r }
 
-known-report : (r : Report) (v : Val) → Is report.the_row r (v ∷ []) → Is report.the_row r (low-report r ∷ [])
-known-report r v is =
+known_report : (r : Report) (v : Val) → Is report.the_row r (v ∷ []) → Is report.the_row r (low_report r ∷ [])
+known_report r v is =
     LL.owes report.the_type report'.the_laws r (LL.owed report.the_type report'.the_laws r (v ∷ []) is)
 
-made-is : (m : Machine) (r : Report) (v : Val) → Is T.the_row m (vals m) → Is report.the_row r (v ∷ [])
+made_is : (m : Machine) (r : Report) (v : Val) → Is T.the_row m (vals m) → Is report.the_row r (v ∷ [])
     → Is S.the_row (made m r) (LL.vals S.the_type S'.the_laws (made m r))
-made-is m r v gm is = LL.owes S.the_type S'.the_laws (made m r) (gm, (known-report r v is, tt))
+made_is m r v gm is = LL.owes S.the_type S'.the_laws (made m r) (gm, (known_report r v is, tt))
 
 module _ {M : Type 1} {𝓤 : Ura M} (𝓛 : Logic 𝓤) (mem : Memory → SProp 𝓤)
     (run : Routine → Fun 𝓤) (κ₀ κ₁ : Lft) (q₀ q₁ : Share) (s : Bor (List ℕ)) (h : Machine) (a w : ℕ)
@@ -161,25 +161,25 @@ module _ {M : Type 1} {𝓤 : Ura M} (𝓛 : Logic 𝓤) (mem : Memory → SProp
         (λ l₉. alloc1 !
         (λ l₁₀. alloc1 ! (λ l₁₁. alloc1 ! (λ l₁₂. alloc1 ! (λ l₁₃. alloc1 ! (λ l₁₄. alloc0 ! $ params1 ! $
         pass1 ! (init ! 26 refl ((shr_slice_Lawful 𝓛 (named 0) κ₀ u8).typed s (sv ∷ []) gs).0) $
-        pass1 ! (init ! 24 refl (typed-machine 𝓛 h gh)) $ pass1 ! (init ! 22 refl (tt, record { fits = ga })) $
+        pass1 ! (init ! 24 refl (typed_machine 𝓛 h gh)) $ pass1 ! (init ! 22 refl (tt, record { fits = ga })) $
         pass1 ! (init ! 20 refl (tt, record { fits = gw })) $
         pass1 ! (init ! 18 refl ((shr_slice_Lawful 𝓛 (named 1) κ₁ u8).typed z (zv ∷ []) gz).0) $
         pass1 ! (init ! 16 refl (tt, record { fits = gn })) $ pass0 ! $
         -- [_14; …; _13; …; .. _1; …; _0; …; the slices and n; the address and the value; the tokens]
         assigns ! (of_opd ! (load ! (from ! (stop !)) (look ! 24 refl))) (from ! (stop !))
-        (init ! 14 refl (typed-machine 𝓛 h gh)) $
+        (init ! 14 refl (typed_machine 𝓛 h gh)) $
         lft_new ! tt (λ ν. nothing ! $ use0 𝓛 (raw (emp 𝓤)) (id⊢ 𝓤 (emp 𝓤)) $ move ! (2 ∷ 0 ∷ 1 ∷ 17 ∷ 11 ∷ 13 ∷ []) $
         pressed 𝓛 {n = 0} [] (plain (λ _. unit)) tt (reset.clauses 𝓛 mem run) ν l₇ tt tt h tt tt
-        (λ _. tt) fm known-reset (λ _. id⊢ 𝓤 _) (λ m _. m ≡ resetOf h) (λ _ _ _. id⊢ 𝓤 _) ty_unit
+        (λ _. tt) fm known-reset (λ _. id⊢ 𝓤 _) (λ m _. m ≡ reset_of h) (λ _ _ _. id⊢ 𝓤 _) ty_unit
         (λ r v is. ((Nothing-Lawful 𝓛).typed r (v ∷ []) is).0) gh ! refl refl refl
         (λ _. and_then ! (load ! (from ! (stop !)) (look ! 2 refl)) (no_more !)) (λ m₁ _ _ e₁ g₁ _.
         -- [_7; no tokens; _10; _9; _14; …; _13; …; _12; …; _11; …; 10's; 9's; _8; …; 7's; _6; …; .. _0; …; the slices
         -- and n; the address and the value; the tokens]
         lft_new ! tt (λ ν'. move ! (0 ∷ 2 ∷ 33 ∷ 1 ∷ 9 ∷ 11 ∷ []) $
-        pressed 𝓛 store-ps (plain (λ _. ending.the_row)) (yes, (yes, tt))
+        pressed 𝓛 store_ps (plain (λ _. ending.the_row)) (yes, (yes, tt))
         (store.clauses 𝓛 mem run) ν' l₇ tt tt m₁ (a, (w, tt)) (vint w8 a ∷ [], (vint w8 w ∷ [], tt))
         (λ _. tt) fm known_store (λ _. id⊢ 𝓤 _)
-        (λ m r. record { machine = m; ending = ended_of r } ≡ hostStoreOf m₁ a w) (λ _ _ _. id⊢ 𝓤 _) ending'.mir
+        (λ m r. record { machine = m; ending = ended_of r } ≡ host_store_of m₁ a w) (λ _ _ _. id⊢ 𝓤 _) ending'.mir
         (λ r v is. ((EL.lawful ending.the_type ending'.the_laws 𝓛 tt).typed r _ is).0) g₁ ! refl refl refl
         (λ _. and_then ! (load ! (from ! (stop !)) (look ! 2 refl))
         (and_then ! (load ! (from ! (stop !)) (look ! 23 refl))
@@ -187,10 +187,10 @@ module _ {M : Type 1} {𝓤 : Ura M} (𝓛 : Logic 𝓤) (mem : Memory → SProp
         -- [_7; no tokens; _12; _11; _10; _9; _14; …; _13; …; 12's; 11's; 10's; 9's; _8; …; 7's; _6; …; .. _0; …; the
         -- slices and n; the tokens]
         lft_new ! tt (λ ν''. move ! (0 ∷ 33 ∷ 32 ∷ 1 ∷ 9 ∷ 15 ∷ []) $
-        pressed 𝓛 run-ps (plain (λ _. report.the_row)) (yes, (yes, (yes, tt))) (running.clauses 𝓛 mem run) ν'' l₇
+        pressed 𝓛 run_ps (plain (λ _. report.the_row)) (yes, (yes, (yes, tt))) (running.clauses 𝓛 mem run) ν'' l₇
         (κ₀, (κ₁, tt)) (q₀, (q₁, tt)) m₂ (s, (z, (n, tt))) (sv ∷ [], (zv ∷ [], (vint w32 n ∷ [], tt)))
         (λ _. tt) fm known-run (λ _. id⊢ 𝓤 _)
-        (λ m r. record { machine = m; report = reportOf r } ≡ run_of s.now m₂ z.now n)
+        (λ m r. record { machine = m; report = report_of r } ≡ run_of s.now m₂ z.now n)
         (λ _ _ _. id⊢ 𝓤 _) report'.mir
         (λ r v is. ((LL.lawful report.the_type report'.the_laws 𝓛).typed r _ is).0) g₂ ! refl refl refl
         (λ _. and_then ! (load ! (from ! (stop !)) (look ! 2 refl))
@@ -202,23 +202,23 @@ module _ {M : Type 1} {𝓤 : Ura M} (𝓛 : Logic 𝓤) (mem : Memory → SProp
         rewrite ! 3 (λ (y : Val). ‵ (fat full_share report'.mir l₈ 0 y))
         (ap only (LL.tells report.the_type report'.the_laws r (v ∷ []) is)) refl $
         assigns ! (of_opd ! (load ! (from ! (stop !)) (look ! 0 refl))) (from ! (stop !))
-        (init ! 9 refl (typed-machine 𝓛 m₃ g₃)) $
+        (init ! 9 refl (typed_machine 𝓛 m₃ g₃)) $
         assigns !
         (agg ! (and_then ! (load ! (from ! (stop !)) (look ! 9 refl))
         (and_then ! (load ! (from ! (stop !)) (look ! 3 refl)) (no_more !)))) (from ! (stop !))
-        (init ! 30 refl ((LL.lawful S.the_type S'.the_laws 𝓛).typed (made m₃ r) _ (made-is m₃ r v g₃ is)).0) $
+        (init ! 30 refl ((LL.lawful S.the_type S'.the_laws 𝓛).typed (made m₃ r) _ (made_is m₃ r v g₃ is)).0) $
         returns ! (look ! 30 refl) $
         move ! (30 ∷ 31 ∷ 28 ∷ 29 ∷ 26 ∷ 27 ∷ 24 ∷ 25 ∷ 22 ∷ 23 ∷ 20 ∷ 21 ∷ 18 ∷ 19 ∷ 0 ∷ 17 ∷ 3 ∷ 16
         ∷ 8 ∷ 15 ∷ 7 ∷ 14 ∷ 6 ∷ 13 ∷ 5 ∷ 12 ∷ 2 ∷ 11 ∷ 9 ∷ 10 ∷ []) $
         leaves ! $ leaves ! $ leaves ! $ leaves ! $ leaves ! $ leaves ! $ leaves ! $ leaves ! $ leaves ! $ leaves ! $
         leaves ! $ leaves ! $ leaves ! $ leaves ! $ leaves ! $ free0 ! $ keep ! (0 ∷ []) $
-        by ! (exits-plain [] ps (plain (λ _. S.the_row)) (yes, (yes, (yes, (yes, (yes, (yes, tt)))))) 𝓛
+        by ! (exits_plain [] ps (plain (λ _. S.the_row)) (yes, (yes, (yes, (yes, (yes, (yes, tt)))))) 𝓛
         (holder.clauses 𝓛 mem run) bound (tt, (tt, (tt, (tt, (tt, (tt, tt)))))) (made m₃ r)
         (LL.val S.the_type S'.the_laws (made m₃ r))
         (fact_i 𝓤 _ (emp 𝓤)
         (e₃ ∙ ap (λ (m : Machine). run_of s.now m z.now n)
-        (ap (λ (y : HostStore). y.machine) e₂ ∙ ap (λ (m : Machine). (hostStoreOf m a w).machine) e₁)))
-        (LL.makes S.the_type S'.the_plain 𝓛 (made m₃ r) _ (made-is m₃ r v g₃ is))))))))))))))))))))))))
+        (ap (λ (y : HostStore). y.machine) e₂ ∙ ap (λ (m : Machine). (host_store_of m a w).machine) e₁)))
+        (LL.makes S.the_type S'.the_plain 𝓛 (made m₃ r) _ (made_is m₃ r v g₃ is))))))))))))))))))))))))
 
 module _ {M : Type 1} {𝓤 : Ura M} (𝓛 : Logic 𝓤) (mem : Memory → SProp 𝓤)
     (run : Routine → Fun 𝓤) where
@@ -249,7 +249,7 @@ unfolding code.routine
 reset-store-run-spec 𝓤 𝓛 𝓜 𝓡 =
     proved 𝓛 𝓜 𝓡 code.env #bench·sequence·reset-store-run code.function (code.unfolded 𝓤 𝓛.H 𝓜 𝓡) holder.ended stayed
     (holder.clauses 𝓛 𝓜.mem 𝓡.run)
-    (go-dropped 𝓛 ps (yes, (yes, (yes, (yes, (yes, (yes, tt)))))) (
+    (go_dropped 𝓛 ps (yes, (yes, (yes, (yes, (yes, (yes, tt)))))) (
       (λ κs x f. refl),
       ((λ κs x f. refl), ((λ κs x f. refl), ((λ κs x f. refl), ((λ κs x f. refl), ((λ κs x f. refl), tt))))),
     ))

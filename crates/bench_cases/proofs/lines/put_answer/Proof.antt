@@ -2,7 +2,7 @@
 use mathlib.Core.Path.{sym}
 use lib.Seq.{length-take-le}
 use borrow.Author.Rules.{rules}
-use Rattle.jobs.proofs.AnswerLaws.{within-buffer}
+use Rattle.jobs.proofs.AnswerLaws.{within_buffer}
 use Rattle.bench_cases.proofs.lines.put_answer.Statement.{statement}
 use Rattle.bench_cases.proofs.lines.put_answer.Tie as tie
 
@@ -17,12 +17,12 @@ enum-known-length c = search rules
 
 array-share-prefix-line : tie.Need-array-share-prefix-line
 array-share-prefix-line c =
-    within-buffer c.before.length.given.1 c.before.before.before.before.answer.ensures
+    within_buffer c.before.length.given.1 c.before.before.before.before.answer.ensures
 
 slice-aggregate-put : tie.Need-slice-aggregate-put
 slice-aggregate-put c =
     let before = c.before.before in
-    let written = within-buffer before.length.given.1 before.before.before.before.answer.ensures in
+    let written = within_buffer before.length.given.1 before.before.before.before.answer.ensures in
     sym (length-take-le _ _ written)
 
 put-requires : tie.Need-put-requires

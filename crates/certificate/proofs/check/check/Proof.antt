@@ -3,8 +3,8 @@ use native.Mathlib.Omega.{arith}
 use mathlib.Core.Path.{sym, ◌∙◌}
 use lib.ListN.{length}
 use borrow.Author.Tests.{eq-eqb, ne_eqb, not-true, not-false}
-use Rattle.certificate.specs.Check.{checkOf}
-use Rattle.certificate.proofs.Facts.{at-most-4096}
+use Rattle.certificate.specs.Check.{check_of}
+use Rattle.certificate.proofs.Facts.{at_most_4096}
 use borrow.Author.Rules.{rules}
 use Rattle.certificate.proofs.check.check.Statement.{statement}
 use Rattle.certificate.proofs.check.check.Tie as tie
@@ -13,14 +13,14 @@ is-image-length-requires : tie.Need-is-image-length-requires
 is-image-length-requires c κs = search rules
 
 returns : tie.Need-returns
-unfolding checkOf
+unfolding check_of
 returns c = rw (← c.before.is-image-length.ensures, not-true c.before.is-image-length.result c.if1.true)
 
 marks-in-requires : tie.Need-marks-in-requires
 marks-in-requires c κs = search rules
 
 returns-2 : tie.Need-returns-2
-unfolding checkOf
+unfolding check_of
 returns-2 c =
     let asked = c.before.before.before in
     rw (
@@ -34,7 +34,7 @@ names-only-sources-requires : tie.Need-names-only-sources-requires
 names-only-sources-requires c κs = search rules
 
 returns-3 : tie.Need-returns-3
-unfolding checkOf
+unfolding check_of
 returns-3 c =
     let asked = c.before.before.before.before.before in
     rw (
@@ -53,11 +53,11 @@ check-rules-requires c κs =
     let is-image =
     sym asked.is-image-length.ensures ∙ not-false asked.is-image-length.result c.before.before.before.before.if1.false in (
       is-image,
-      omega (arith, at-most-4096 (length image), c.before.before.before.marks-in.ensures, c.before.before.if2.false),
+      omega (arith, at_most_4096 (length image), c.before.before.before.marks-in.ensures, c.before.before.if2.false),
     )
 
 returns-4 : tie.Need-returns-4
-unfolding checkOf
+unfolding check_of
 returns-4 c =
     let asked = c.before.before.before.before.before.before in
     rw (

@@ -1,6 +1,6 @@
 -- `check::check_flow` meets its contract: 15, then the successors.
 use borrow.Author.Tests.{not-true, not-false}
-use Rattle.certificate.specs.Check.{flowFound}
+use Rattle.certificate.specs.Check.{flow_found}
 use borrow.Author.Rules.{rules}
 use Rattle.certificate.proofs.check.check_flow.Statement.{statement}
 use Rattle.certificate.proofs.check.check_flow.Tie as tie
@@ -12,7 +12,7 @@ is-placed-requires : tie.Need-is-placed-requires
 is-placed-requires c κs = search rules
 
 returns : tie.Need-returns
-unfolding flowFound
+unfolding flow_found
 returns c =
     rw (
       ← c.before.before.kind-of.ensures,
@@ -30,7 +30,7 @@ check-successors-requires : tie.Need-check-successors-requires
 check-successors-requires c κs = search rules
 
 returns-2 : tie.Need-returns-2
-unfolding flowFound
+unfolding flow_found
 returns-2 c =
     rw (
       ← c.before.before.before.before.before.kind-of.ensures,

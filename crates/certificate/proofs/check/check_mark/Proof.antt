@@ -3,12 +3,12 @@ use mathlib.Core.Path.{◌≡◌, ap, ◌∙◌}
 use native.Mathlib.Omega.{arith}
 use borrow.Author.Tests.{lt-ltb, le-ltb}
 use mathlib.Core.List.{◌++◌}
-use Rattle.isa.proofs.AtAddress.{in-range}
-use Rattle.isa.proofs.Halves.{halves-space}
-use Rattle.isa.specs.FlowAt.{continuationOf, continuationFrom}
-use Rattle.certificate.specs.Check.{decodedFound}
-use Rattle.certificate.specs.Passes.{pageFound}
-use Rattle.certificate.proofs.Facts.{continuationFound, by-continuation, marked-page, positive}
+use Rattle.isa.proofs.AtAddress.{in_range}
+use Rattle.isa.proofs.Halves.{halves_space}
+use Rattle.isa.specs.FlowAt.{continuation_of, continuation_from}
+use Rattle.certificate.specs.Check.{decoded_found}
+use Rattle.certificate.specs.Passes.{page_found}
+use Rattle.certificate.proofs.Facts.{continuation_found, by_continuation, marked_page, positive}
 use borrow.Author.Rules.{rules}
 use Rattle.certificate.proofs.check.check_mark.Statement.{statement}
 use Rattle.certificate.proofs.check.check_mark.Tie as tie
@@ -18,37 +18,37 @@ abbrev start : tie.Else2 → tie.Start
 start c = c.before.before.before.before.before.before
 
 -- a mark with a kind: what is found is by where the instruction continues
-by-flow : (c : tie.After-flow-at)
-    → pageFound ((start c.before).args.page.now ++ (start c.before).args.fixed.now)
+by_flow : (c : tie.After-flow-at)
+    → page_found ((start c.before).args.page.now ++ (start c.before).args.fixed.now)
     (start c.before).args.certificate.now
     (start c.before).args.address (start c.before).args.mark
-    ≡ continuationFound (start c.before).args.certificate.now (start c.before).args.address
-    (start c.before).args.mark (continuationOf c.flow-at.result)
-by-flow c =
+    ≡ continuation_found (start c.before).args.certificate.now (start c.before).args.address
+    (start c.before).args.mark (continuation_of c.flow-at.result)
+by_flow c =
     let kind = c.before.before.kind-of in
     let pre = (start c.before).requires in
     rw (
-      marked-page _ _ _ _ c.before.before.before.if1.false,
+      marked_page _ _ _ _ c.before.before.before.if1.false,
       ← kind.ensures,
       lt-ltb 0 kind.result (positive c.before.if2.false),
-      by-continuation _ _ _ _,
+      by_continuation _ _ _ _,
       ← (c.flow-at.ensures pre.1 pre.2 pre.0
-          ∙ ap (continuationFrom _) (in-range ((start c.before).args.page.now ++ (start c.before).args.fixed.now) _
-          (halves-space (start c.before).args.page.now (start c.before).args.fixed.now pre.1) pre.2)),
+          ∙ ap (continuation_from _) (in_range ((start c.before).args.page.now ++ (start c.before).args.fixed.now) _
+          (halves_space (start c.before).args.page.now (start c.before).args.fixed.now pre.1) pre.2)),
     )
 
 returns : tie.Need-returns
-unfolding pageFound decodedFound
+unfolding page_found decoded_found
 returns c = rw c.if1.true
 
 kind-of-requires : tie.Need-kind-of-requires
 kind-of-requires c κs = search rules
 
 returns-2 : tie.Need-returns-2
-unfolding pageFound decodedFound
+unfolding page_found decoded_found
 returns-2 c =
     rw (
-      marked-page _ _ _ _ c.before.before.if1.false,
+      marked_page _ _ _ _ c.before.before.if1.false,
       ← c.before.kind-of.ensures,
       le-ltb 0 c.before.kind-of.result (omega (arith, c.if2.true)),
     )
@@ -67,10 +67,10 @@ enum-known-refusal c = search rules
 
 returns-3 : tie.Need-returns-3
 returns-3 c =
-    rw (by-flow c.before.before.before.before, c.before.before.flow.given.1) c.check-flow.ensures
+    rw (by_flow c.before.before.before.before, c.before.before.flow.given.1) c.check-flow.ensures
 
 returns-4 : tie.Need-returns-4
-returns-4 c = rw (by-flow c.before.before.before, c.before.refusal.given.1)
+returns-4 c = rw (by_flow c.before.before.before, c.before.refusal.given.1)
 
 pub check-mark-spec : {M : Type 1} → statement M
 check-mark-spec =

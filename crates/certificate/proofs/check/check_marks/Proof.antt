@@ -8,7 +8,7 @@ use borrow.Author.Rules.{rules}
 use lib.ListN.{get_or}
 use Rattle.certificate.specs.Marks.{lowest}
 use Rattle.certificate.specs.Findings.{passes, found}
-use Rattle.certificate.specs.Passes.{pageFound}
+use Rattle.certificate.specs.Passes.{page_found}
 use Rattle.certificate.proofs.check.check_marks.Statement.{statement}
 use Rattle.certificate.proofs.check.check_marks.Tie as tie
 
@@ -16,7 +16,7 @@ abbrev invariant-loop : tie.invariant-loop
 invariant-loop table page fixed certificate end start i₀ i =
     (i ≤ end)
     × ((j : ℕ) → j < i
-    → pageFound (page ++ fixed) certificate (lowest certificate + j) (get_or certificate j 0) ≡ passes)
+    → page_found (page ++ fixed) certificate (lowest certificate + j) (get_or certificate j 0) ≡ passes)
 
 abbrev decreases-loop : tie.decreases-loop
 decreases-loop table page fixed certificate end start i₀ i = end - i

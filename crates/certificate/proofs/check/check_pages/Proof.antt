@@ -4,10 +4,10 @@ use native.Mathlib.Omega.{arith}
 use mathlib.Core.Path.{◌≡◌, ◌∙◌}
 use borrow.Author.Rules.{rules}
 use lib.ListN.{length}
-use Rattle.isa.specs.Rom.{space_of, spacesIn, pagesIn}
+use Rattle.isa.specs.Rom.{space_of, spaces_in, pages_in}
 use Rattle.isa.proofs.Halves.{halves}
 use Rattle.certificate.specs.Findings.{found}
-use Rattle.certificate.proofs.Pages.{Known, known-none, known_more, known-all}
+use Rattle.certificate.proofs.Pages.{Known, known_none, known_more, known_all}
 use Rattle.certificate.proofs.check.check_pages.Statement.{statement}
 use Rattle.certificate.proofs.check.check_pages.Tie as tie
 
@@ -25,7 +25,7 @@ spaces-in-requires : tie.Need-spaces-in-requires invariant-loop decreases-loop
 spaces-in-requires c κs = search rules
 
 loop-holds : tie.Need-loop-init invariant-loop decreases-loop
-loop-holds c = (search rules, known-none _ _)
+loop-holds c = (search rules, known_none _ _)
 
 page-of-requires : tie.Need-page-of-requires invariant-loop decreases-loop
 page-of-requires c κs = search rules
@@ -63,8 +63,8 @@ returns c =
     let loop = c.before.loop in
     let start = c.before.before.before.before.before.before in
     let image = start.args.image.now in
-    let all : loop.page ≡ spacesIn (length image) = omega (arith, loop.invariant.0, c.before.before.spaces-in.ensures start.requires.1) in
-    known-all image _ (pagesIn (length image) - 1) _ _ (rw all at loop.invariant.1)
+    let all : loop.page ≡ spaces_in (length image) = omega (arith, loop.invariant.0, c.before.before.spaces-in.ensures start.requires.1) in
+    known_all image _ (pages_in (length image) - 1) _ _ (rw all at loop.invariant.1)
 
 pub check-pages-spec : {M : Type 1} → statement M
 check-pages-spec =

@@ -1,7 +1,7 @@
 -- `levels::levels_for` meets its contract: by whether the source is wired.
 use native.Mathlib.Omega.{arith}
-use Rattle.certificate.specs.Levels.{levelsFor}
-use Rattle.certificate.proofs.SourceLevels.{need-most}
+use Rattle.certificate.specs.Levels.{levels_for}
+use Rattle.certificate.proofs.SourceLevels.{need_most}
 use borrow.Author.Rules.{rules}
 use Rattle.certificate.proofs.levels.levels_for.Statement.{statement}
 use Rattle.certificate.proofs.levels.levels_for.Tie as tie
@@ -16,10 +16,10 @@ need-at-requires : tie.Need-need-at-requires
 need-at-requires c κs = search rules
 
 add-result : tie.Need-overflow-add-result
-add-result c = omega (arith, need-most _ _ c.need-at.ensures)
+add-result c = omega (arith, need_most _ _ c.need-at.ensures)
 
 returns : tie.Need-returns
-unfolding levelsFor
+unfolding levels_for
 returns c =
     rw (
       ← c.before.before.before.names.ensures,
@@ -29,7 +29,7 @@ returns c =
     )
 
 returns-2 : tie.Need-returns-2
-unfolding levelsFor
+unfolding levels_for
 returns-2 c = rw (← c.before.names.ensures, c.if1.false)
 
 pub levels-for-spec : {M : Type 1} → statement M

@@ -1,5 +1,5 @@
 -- `levels::source_levels` meets its contract: its calls.
-use Rattle.certificate.proofs.SourceLevels.{source-levels}
+use Rattle.certificate.proofs.SourceLevels.{source_levels_lem}
 use borrow.Author.Rules.{rules}
 use Rattle.certificate.proofs.levels.source_levels.Statement.{statement}
 use Rattle.certificate.proofs.levels.source_levels.Tie as tie
@@ -28,7 +28,7 @@ greater-requires-3 c κs = search rules
 returns : tie.Need-returns
 returns c =
     rw (
-      source-levels,
+      source_levels_lem,
       c.greater3.ensures,
       c.before.greater2.ensures,
       c.before.before.greater.ensures,

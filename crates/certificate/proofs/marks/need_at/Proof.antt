@@ -1,5 +1,5 @@
 -- `marks::need_at` meets its contract: its calls.
-use Rattle.certificate.specs.Marks.{needAt}
+use Rattle.certificate.specs.Marks.{need_at}
 use borrow.Author.Rules.{rules}
 use Rattle.certificate.proofs.marks.need_at.Statement.{statement}
 use Rattle.certificate.proofs.marks.need_at.Tie as tie
@@ -11,7 +11,7 @@ need-of-requires : tie.Need-need-of-requires
 need-of-requires c κs = search rules
 
 returns : tie.Need-returns
-unfolding needAt
+unfolding need_at
 returns c = rw (c.need-of.ensures, c.before.mark-at.ensures)
 
 pub need-at-spec : {M : Type 1} → statement M

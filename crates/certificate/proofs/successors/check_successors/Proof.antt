@@ -1,5 +1,5 @@
 -- `successors::check_successors` meets its contract: by how many there are.
-use Rattle.certificate.specs.Successors.{allHaveKind, coversAll, successorsFound}
+use Rattle.certificate.specs.Successors.{all_have_kind, covers_all, successors_found}
 use borrow.Author.Rules.{rules}
 use Rattle.certificate.proofs.successors.check_successors.Statement.{statement}
 use Rattle.certificate.proofs.successors.check_successors.Tie as tie
@@ -20,7 +20,7 @@ check-two-requires : tie.Need-check-two-requires
 check-two-requires c κs = search rules
 
 returns : tie.Need-returns
-unfolding allHaveKind coversAll successorsFound
+unfolding all_have_kind covers_all successors_found
 returns c = rw c.enum_told.given.1
 
 returns-2 : tie.Need-returns-2

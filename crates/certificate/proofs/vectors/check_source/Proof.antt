@@ -1,5 +1,5 @@
 -- `vectors::check_source` meets its contract: by whether the source is wired.
-use Rattle.certificate.specs.Vectors.{sourceFound}
+use Rattle.certificate.specs.Vectors.{source_found}
 use borrow.Author.Rules.{rules}
 use Rattle.certificate.proofs.vectors.check_source.Statement.{statement}
 use Rattle.certificate.proofs.vectors.check_source.Tie as tie
@@ -14,7 +14,7 @@ check-vector-requires : tie.Need-check-vector-requires
 check-vector-requires c κs = search rules
 
 returns : tie.Need-returns
-unfolding sourceFound
+unfolding source_found
 returns c =
     rw (
       ← c.before.before.before.names.ensures,
@@ -24,7 +24,7 @@ returns c =
     c.check-vector.ensures
 
 returns-2 : tie.Need-returns-2
-unfolding sourceFound
+unfolding source_found
 returns-2 c = rw (← c.before.names.ensures, c.if1.false)
 
 pub check-source-spec : {M : Type 1} → statement M

@@ -1,5 +1,5 @@
 -- `vectors::check_vectors` meets its contract: its calls.
-use Rattle.certificate.specs.Vectors.{vectorsFound}
+use Rattle.certificate.specs.Vectors.{vectors_found}
 use borrow.Author.Rules.{rules}
 use Rattle.certificate.proofs.vectors.check_vectors.Statement.{statement}
 use Rattle.certificate.proofs.vectors.check_vectors.Tie as tie
@@ -38,7 +38,7 @@ and-then-requires-5 : tie.Need-and-then-requires-5
 and-then-requires-5 c κs = search rules
 
 returns : tie.Need-returns
-unfolding vectorsFound
+unfolding vectors_found
 returns c =
     rw (
       c.and-then5.ensures,

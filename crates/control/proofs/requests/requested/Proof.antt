@@ -1,18 +1,18 @@
 -- `requests::requested` meets its contract.
 use borrow.Author.Rules.{rules}
-use Rattle.control.specs.Requests.{requestedOf}
+use Rattle.control.specs.Requests.{requested_of}
 use Rattle.control.proofs.requests.requested.Statement.{statement}
 use Rattle.control.proofs.requests.requested.Tie as tie
 
 returns : tie.Need-returns
-unfolding requestedOf
+unfolding requested_of
 returns c = rw c.if1.true
 
 is-taken-requires : tie.Need-is-taken-requires
 is-taken-requires c κs = search rules
 
 returns-2 : tie.Need-returns-2
-unfolding requestedOf
+unfolding requested_of
 returns-2 c =
     rw (
       ← c.before.is-taken.ensures,
@@ -23,7 +23,7 @@ is-taken-requires-2 : tie.Need-is-taken-requires-2
 is-taken-requires-2 c κs = search rules
 
 returns-3 : tie.Need-returns-3
-unfolding requestedOf
+unfolding requested_of
 returns-3 c =
     rw (
       ← c.before.before.before.is-taken.ensures,
@@ -36,7 +36,7 @@ is-taken-requires-3 : tie.Need-is-taken-requires-3
 is-taken-requires-3 c κs = search rules
 
 returns-4 : tie.Need-returns-4
-unfolding requestedOf
+unfolding requested_of
 returns-4 c =
     rw (
       ← c.before.before.before.before.before.is-taken.ensures,
@@ -51,7 +51,7 @@ is-taken-requires-4 : tie.Need-is-taken-requires-4
 is-taken-requires-4 c κs = search rules
 
 returns-5 : tie.Need-returns-5
-unfolding requestedOf
+unfolding requested_of
 returns-5 c =
     rw (
       ← c.before.before.before.before.before.before.before.is-taken.ensures,
@@ -68,7 +68,7 @@ is-taken-requires-5 : tie.Need-is-taken-requires-5
 is-taken-requires-5 c κs = search rules
 
 returns-6 : tie.Need-returns-6
-unfolding requestedOf
+unfolding requested_of
 returns-6 c =
     rw (
       ← c.before.before.before.before.before.before.before.before.before.is-taken.ensures,
@@ -84,7 +84,7 @@ returns-6 c =
     )
 
 returns-7 : tie.Need-returns-7
-unfolding requestedOf
+unfolding requested_of
 returns-7 c =
     rw (
       ← c.before.before.before.before.before.before.before.before.before.is-taken.ensures,

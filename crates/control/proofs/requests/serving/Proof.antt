@@ -1,6 +1,6 @@
 -- `requests::serving` meets its contract.
 use borrow.Author.Rules.{rules}
-use Rattle.control.specs.Requests.{servingOf}
+use Rattle.control.specs.Requests.{serving_of}
 use Rattle.control.proofs.requests.serving.Statement.{statement}
 use Rattle.control.proofs.requests.serving.Tie as tie
 
@@ -20,7 +20,7 @@ with-sleep-requires : tie.Need-with-sleep-requires
 with-sleep-requires c κs = search rules
 
 returns : tie.Need-returns
-unfolding servingOf
+unfolding serving_of
 returns c =
     let k = c.before.before in
     rw (c.with-sleep.ensures, c.before.with_mode.ensures, k.service-mode.ensures)

@@ -1,12 +1,12 @@
 -- `stack::push` meets its contract.
 use borrow.Author.Rules.{rules}
 use borrow.Author.Tests.{le-leb, lt-leb}
-use Rattle.control.specs.Stack.{pushOf}
+use Rattle.control.specs.Stack.{push_of}
 use Rattle.control.proofs.stack.push.Statement.{statement}
 use Rattle.control.proofs.stack.push.Tie as tie
 
 returns : tie.Need-returns
-unfolding pushOf
+unfolding push_of
 returns c = rw (le-leb _ _ c.if1.true)
 
 cast-top : tie.Need-overflow-cast-top
@@ -25,7 +25,7 @@ with-levels-requires : tie.Need-with-levels-requires
 with-levels-requires c κs = search rules
 
 returns-2 : tie.Need-returns-2
-unfolding pushOf
+unfolding push_of
 returns-2 c = rw (c.with-levels.ensures, lt-leb _ _ c.before.if1.false)
 
 pub push_spec : {M : Type 1} → statement M

@@ -1,6 +1,6 @@
 -- `transfers::return_from_interrupt` meets its contract.
 use borrow.Author.Rules.{rules}
-use Rattle.control.specs.Transfers.{returnFromInterruptOf}
+use Rattle.control.specs.Transfers.{return_from_interrupt_of}
 use Rattle.control.proofs.transfers.return_from_interrupt.Statement.{statement}
 use Rattle.control.proofs.transfers.return_from_interrupt.Tie as tie
 
@@ -17,7 +17,7 @@ with-mode-requires : tie.Need-with-mode-requires
 with-mode-requires c κs = search rules
 
 returns : tie.Need-returns
-unfolding returnFromInterruptOf
+unfolding return_from_interrupt_of
 returns c =
     let k = c.before.before.before in
     rw (c.with_mode.ensures, c.before.with-pc.ensures, k.before.beneath.ensures, ← k.ends-start-up.ensures)
@@ -30,7 +30,7 @@ with-mode-requires-2 : tie.Need-with-mode-requires-2
 with-mode-requires-2 c κs = search rules
 
 returns-2 : tie.Need-returns-2
-unfolding returnFromInterruptOf
+unfolding return_from_interrupt_of
 returns-2 c =
     let k = c.before.before.before.before in
     rw (c.with-mode2.ensures, k.before.beneath.ensures, ← k.ends-start-up.ensures)

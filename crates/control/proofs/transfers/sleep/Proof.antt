@@ -1,6 +1,6 @@
 -- `transfers::sleep` meets its contract.
 use borrow.Author.Rules.{rules}
-use Rattle.control.specs.Transfers.{sleptOf}
+use Rattle.control.specs.Transfers.{slept_of}
 use Rattle.control.proofs.transfers.sleep.Statement.{statement}
 use Rattle.control.proofs.transfers.sleep.Tie as tie
 
@@ -11,7 +11,7 @@ with-sleep-requires : tie.Need-with-sleep-requires
 with-sleep-requires c κs = search rules
 
 returns : tie.Need-returns
-unfolding sleptOf
+unfolding slept_of
 returns c = rw (c.with-sleep.ensures, c.before.with-pc.ensures)
 
 pub sleep-spec : {M : Type 1} → statement M

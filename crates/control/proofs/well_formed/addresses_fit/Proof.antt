@@ -6,19 +6,19 @@ use native.Mathlib.Omega.{arith}
 use native.Mathlib.Numerals.{add-one}
 use borrow.Author.Rules.{rules}
 use borrow.Author.Tests.{lt-ltb}
-use Rattle.control.specs.WellFormed.{addressesFit}
+use Rattle.control.specs.WellFormed.{addresses_fit}
 use Rattle.control.proofs.StaysWellFormed.{unfit}
 use Rattle.control.proofs.well_formed.addresses_fit.Statement.{statement}
 use Rattle.control.proofs.well_formed.addresses_fit.Tie as tie
 
 abbrev invariant-loop : tie.invariant-loop
-invariant-loop stack levels end i₀ i = (i ≤ levels) × (addressesFit stack i ≡ true)
+invariant-loop stack levels end i₀ i = (i ≤ levels) × (addresses_fit stack i ≡ true)
 
 abbrev decreases-loop : tie.decreases-loop
 decreases-loop stack levels end i₀ i = levels - i
 
 loop-holds : tie.Need-loop-init invariant-loop decreases-loop
-unfolding addressesFit
+unfolding addresses_fit
 loop-holds c = (search rules, refl)
 
 mul-if1 : tie.Need-overflow-mul-if1 invariant-loop decreases-loop
@@ -37,7 +37,7 @@ loop-less : tie.Need-loop-smaller invariant-loop decreases-loop
 loop-less c = search rules
 
 loop-again : tie.Need-loop-preserved invariant-loop decreases-loop
-unfolding addressesFit
+unfolding addresses_fit
 loop-again c = (search rules, rw (add-one _, lt-ltb _ _ c.if1.false) c.before.before.before.loop.invariant.1)
 
 returns-2 : tie.Need-returns-2 invariant-loop decreases-loop

@@ -1,6 +1,6 @@
 -- `effect::store_result` meets its contract.
 use borrow.Author.Rules.{rules}
-use Rattle.data.specs.Effect.{storeResultOf}
+use Rattle.data.specs.Effect.{store_result_of}
 use Rattle.data.proofs.effect.store_result.Statement.{statement}
 use Rattle.data.proofs.effect.store_result.Tie as tie
 
@@ -8,7 +8,7 @@ store-requires : tie.Need-store-requires
 store-requires c κs = search rules
 
 returns : tie.Need-returns
-unfolding storeResultOf
+unfolding store_result_of
 returns c = rw c.before.store.ensures
 
 pub store-result-spec : {M : Type 1} → statement M

@@ -3,7 +3,7 @@ use mathlib.Core.Logic.{⊎_elim}
 use borrow.Author.Rules.{rules}
 use borrow.Enum.Known.{lives_at}
 use Rattle.isa.specs.contracts.Instruction as Instruction
-use Rattle.data.specs.Reads.{operandReadOf}
+use Rattle.data.specs.Reads.{operand_read_of}
 use Rattle.data.proofs.reads.operand_read.Statement.{statement}
 use Rattle.data.proofs.reads.operand_read.Tie as tie
 
@@ -41,51 +41,51 @@ enum-known-instruction-11 : tie.Need-enum-known-instruction-11
 enum-known-instruction-11 c = search rules
 
 returns : tie.Need-returns
-unfolding operandReadOf
+unfolding operand_read_of
 returns c = rw c.before.instruction.given.1
 
 returns-2 : tie.Need-returns-2
-unfolding operandReadOf
+unfolding operand_read_of
 returns-2 c = rw c.before.instruction2.given.1
 
 returns-3 : tie.Need-returns-3
-unfolding operandReadOf
+unfolding operand_read_of
 returns-3 c = rw c.before.instruction3.given.1
 
 returns-4 : tie.Need-returns-4
-unfolding operandReadOf
+unfolding operand_read_of
 returns-4 c = rw c.before.instruction4.given.1
 
 returns-5 : tie.Need-returns-5
-unfolding operandReadOf
+unfolding operand_read_of
 returns-5 c = rw c.before.instruction5.given.1
 
 returns-6 : tie.Need-returns-6
-unfolding operandReadOf
+unfolding operand_read_of
 returns-6 c = rw c.before.instruction6.given.1
 
 returns-7 : tie.Need-returns-7
-unfolding operandReadOf
+unfolding operand_read_of
 returns-7 c = rw c.before.instruction7.given.1
 
 returns-8 : tie.Need-returns-8
-unfolding operandReadOf
+unfolding operand_read_of
 returns-8 c = rw c.before.instruction8.given.1
 
 returns-9 : tie.Need-returns-9
-unfolding operandReadOf
+unfolding operand_read_of
 returns-9 c = rw c.before.instruction9.given.1
 
 returns-10 : tie.Need-returns-10
-unfolding operandReadOf
+unfolding operand_read_of
 returns-10 c = rw c.before.instruction10.given.1
 
 returns-11 : tie.Need-returns-11
-unfolding operandReadOf
+unfolding operand_read_of
 returns-11 c = rw c.before.instruction11.given.1
 
 returns-12 : tie.Need-returns-12
-unfolding operandReadOf
+unfolding operand_read_of
 returns-12 c =
     let i = c.before.args.instruction in
     ⊎_elim (λ e. rw (lives_at Instruction.enum i 0 e).1)

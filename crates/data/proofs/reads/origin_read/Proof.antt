@@ -1,6 +1,6 @@
 -- `reads::origin_read` meets its contract.
 use borrow.Author.Rules.{rules}
-use Rattle.data.specs.Reads.{originReadOf}
+use Rattle.data.specs.Reads.{origin_read_of}
 use Rattle.data.proofs.reads.origin_read.Statement.{statement}
 use Rattle.data.proofs.reads.origin_read.Tie as tie
 
@@ -20,11 +20,11 @@ origin-requires : tie.Need-origin-requires
 origin-requires c κs = search rules
 
 returns : tie.Need-returns
-unfolding originReadOf
+unfolding origin_read_of
 returns c is = rw (← c.before.before.Operand-read.ensures, c.enum_told.given.1)
 
 returns-2 : tie.Need-returns-2
-unfolding originReadOf
+unfolding origin_read_of
 returns-2 c is =
     let k = c.before.before.before in
     rw (

@@ -1,7 +1,7 @@
 -- `space::held` meets its contract.
 use borrow.Author.Rules.{rules}
 use borrow.Author.Tests.{not-true, not-false}
-use Rattle.data.proofs.Window.{in_window}
+use Rattle.data.proofs.Window.{in_window_lem}
 use Rattle.data.proofs.space.held.Statement.{statement}
 use Rattle.data.proofs.space.held.Tie as tie
 
@@ -19,7 +19,7 @@ returns c is =
 window-byte-requires : tie.Need-window-byte-requires
 window-byte-requires c κs =
     let k = c.before in
-    in_window k.before.before.args.address k.is-window.result k.is-window.ensures
+    in_window_lem k.before.before.args.address k.is-window.result k.is-window.ensures
     (not-false k.is-window.result c.if1.false)
 
 shown-requires : tie.Need-shown-requires

@@ -1,6 +1,6 @@
 -- `space::operand` meets its contract.
 use borrow.Author.Rules.{rules}
-use Rattle.data.specs.Space.{operandOf}
+use Rattle.data.specs.Space.{operand_of}
 use Rattle.data.proofs.space.operand.Statement.{statement}
 use Rattle.data.proofs.space.operand.Tie as tie
 
@@ -11,7 +11,7 @@ read-requires : tie.Need-read-requires
 read-requires c κs = search rules
 
 returns : tie.Need-returns
-unfolding operandOf
+unfolding operand_of
 returns c is = rw (c.read.ensures is, c.before.address.ensures)
 
 pub operand-spec : {M : Type 1} → statement M

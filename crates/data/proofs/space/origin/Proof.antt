@@ -2,7 +2,7 @@
 use borrow.Author.Rules.{rules}
 use borrow.Author.Tests.{le-leb, lt-leb}
 use Rattle.data.specs.Space.{origin_of}
-use Rattle.data.proofs.Window.{in_window}
+use Rattle.data.proofs.Window.{in_window_lem}
 use Rattle.data.proofs.space.origin.Statement.{statement}
 use Rattle.data.proofs.space.origin.Tie as tie
 
@@ -12,12 +12,12 @@ is-window-requires c κs = search rules
 window-address-requires : tie.Need-window-address-requires
 window-address-requires c κs =
     let k = c.before in
-    in_window k.before.before.args.address k.is-window.result k.is-window.ensures c.if1.true
+    in_window_lem k.before.before.args.address k.is-window.result k.is-window.ensures c.if1.true
 
 window-byte-requires : tie.Need-window-byte-requires
 window-byte-requires c κs =
     let k = c.before.before in
-    in_window k.before.before.args.address k.is-window.result k.is-window.ensures c.before.if1.true
+    in_window_lem k.before.before.args.address k.is-window.result k.is-window.ensures c.before.if1.true
 
 enum_told : tie.Need-enum-told
 enum_told c = search rules

@@ -7,7 +7,7 @@ use borrow.Author.Rules.{rules}
 use borrow.Author.Tests.{eq-eqb, ne_eqb}
 use Rattle.exports.specs.Every.{every}
 use Rattle.exports.specs.Fields.{agree}
-use Rattle.exports.proofs.Every.{every_more, every-fails}
+use Rattle.exports.proofs.Every.{every_more, every_fails}
 use Rattle.exports.proofs.fields.begins_with.Statement.{statement}
 use Rattle.exports.proofs.fields.begins_with.Tie as tie
 
@@ -31,7 +31,7 @@ returns : tie.Need-returns invariant-loop decreases-loop
 returns c =
     let start = c.before.before.before.before.before in
     let same = agree start.args.fields.now start.args.own.now in
-    sym (every-fails same 7 c.before.before.before.before.loop.i (search rules) (ne_eqb _ _ c.if1.true))
+    sym (every_fails same 7 c.before.before.before.before.loop.i (search rules) (ne_eqb _ _ c.if1.true))
 
 add-i : tie.Need-overflow-add-i invariant-loop decreases-loop
 add-i c = search rules

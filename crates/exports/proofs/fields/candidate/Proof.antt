@@ -3,7 +3,7 @@ use mir.Syntax.{w8}
 use mir.Val.{SFits}
 use borrow.Author.Rules.{rules}
 use Rattle.isa.proofs.Finite.{kept}
-use Rattle.exports.specs.Fields.{instructionAt}
+use Rattle.exports.specs.Fields.{instruction_at}
 use Rattle.exports.proofs.fields.candidate.Statement.{statement}
 use Rattle.exports.proofs.fields.candidate.Tie as tie
 
@@ -41,7 +41,7 @@ of-form-requires : tie.Need-of-form-requires
 of-form-requires c κs = search rules
 
 returns : tie.Need-returns
-unfolding instructionAt
+unfolding instruction_at
 returns c =
     let fits : SFits w8 c.before.long-displacement.result = search rules in
     rw (

@@ -4,7 +4,7 @@ use mir.Syntax.{w8}
 use mir.Val.{SFits}
 use borrow.Author.Rules.{rules}
 use Rattle.isa.proofs.Finite.{kept}
-use Rattle.exports.specs.Fields.{jump_row, bitJumpRow, packedInstruction}
+use Rattle.exports.specs.Fields.{jump_row, bit_jump_row, packed_instruction}
 use Rattle.exports.proofs.fields.fields_of.Statement.{statement}
 use Rattle.exports.proofs.fields.fields_of.Tie as tie
 
@@ -189,139 +189,139 @@ bare-requires-6 : tie.Need-bare-requires-6
 bare-requires-6 c κs = search rules
 
 returns : tie.Need-returns
-unfolding packedInstruction
+unfolding packed_instruction
 returns c =
     let fits : SFits w8 c.before.before.i.given.0.0 = search rules in
     rw c.before.before.i.given.1 (c.jump.ensures ∙ ap (jump_row 0) (kept fits))
 
 returns-2 : tie.Need-returns-2
-unfolding packedInstruction
+unfolding packed_instruction
 returns-2 c =
     let fits : SFits w8 c.before.before.i2.given.0.0 = search rules in
     rw c.before.before.i2.given.1 (c.jump2.ensures ∙ ap (jump_row 1) (kept fits))
 
 returns-3 : tie.Need-returns-3
-unfolding packedInstruction
+unfolding packed_instruction
 returns-3 c =
     let fits : SFits w8 c.before.before.i3.given.0.0 = search rules in
     rw c.before.before.i3.given.1 (c.jump3.ensures ∙ ap (jump_row 2) (kept fits))
 
 returns-4 : tie.Need-returns-4
-unfolding packedInstruction
+unfolding packed_instruction
 returns-4 c =
     let fits : SFits w8 c.before.before.i4.given.0.0 = search rules in
     rw c.before.before.i4.given.1 (c.jump4.ensures ∙ ap (jump_row 3) (kept fits))
 
 returns-5 : tie.Need-returns-5
-unfolding packedInstruction
+unfolding packed_instruction
 returns-5 c = rw c.before.before.i5.given.1 c.to.ensures
 
 returns-6 : tie.Need-returns-6
-unfolding packedInstruction
+unfolding packed_instruction
 returns-6 c = rw c.before.before.i6.given.1 c.to2.ensures
 
 returns-7 : tie.Need-returns-7
-unfolding packedInstruction
+unfolding packed_instruction
 returns-7 c =
     let at-i7 = c.before.before in
     let fits : SFits w8 at-i7.i7.given.0.1.1.0 = search rules in
     rw at-i7.i7.given.1
-    (c.bit-jump.ensures ∙ ap (bitJumpRow 6 at-i7.i7.given.0.0 at-i7.i7.given.0.1.0) (kept fits))
+    (c.bit-jump.ensures ∙ ap (bit_jump_row 6 at-i7.i7.given.0.0 at-i7.i7.given.0.1.0) (kept fits))
 
 returns-8 : tie.Need-returns-8
-unfolding packedInstruction
+unfolding packed_instruction
 returns-8 c =
     let at-i8 = c.before.before in
     let fits : SFits w8 at-i8.i8.given.0.1.1.0 = search rules in
     rw at-i8.i8.given.1
-    (c.bit-jump2.ensures ∙ ap (bitJumpRow 7 at-i8.i8.given.0.0 at-i8.i8.given.0.1.0) (kept fits))
+    (c.bit-jump2.ensures ∙ ap (bit_jump_row 7 at-i8.i8.given.0.0 at-i8.i8.given.0.1.0) (kept fits))
 
 returns-9 : tie.Need-returns-9
-unfolding packedInstruction
+unfolding packed_instruction
 returns-9 c = rw c.before.before.i9.given.1 c.on_bit.ensures
 
 returns-10 : tie.Need-returns-10
-unfolding packedInstruction
+unfolding packed_instruction
 returns-10 c = rw c.before.before.i10.given.1 c.on-bit2.ensures
 
 returns-11 : tie.Need-returns-11
-unfolding packedInstruction
+unfolding packed_instruction
 returns-11 c = rw c.before.before.i11.given.1 c.on.ensures
 
 returns-12 : tie.Need-returns-12
-unfolding packedInstruction
+unfolding packed_instruction
 returns-12 c = rw c.before.before.i12.given.1 c.on2.ensures
 
 returns-13 : tie.Need-returns-13
-unfolding packedInstruction
+unfolding packed_instruction
 returns-13 c = rw c.before.before.i13.given.1 c.immediate.ensures
 
 returns-14 : tie.Need-returns-14
-unfolding packedInstruction
+unfolding packed_instruction
 returns-14 c = rw c.before.before.i14.given.1 c.immediate2.ensures
 
 returns-15 : tie.Need-returns-15
-unfolding packedInstruction
+unfolding packed_instruction
 returns-15 c = rw c.before.before.i15.given.1 c.on3.ensures
 
 returns-16 : tie.Need-returns-16
-unfolding packedInstruction
+unfolding packed_instruction
 returns-16 c = rw c.before.before.i16.given.1 c.on4.ensures
 
 returns-17 : tie.Need-returns-17
-unfolding packedInstruction
+unfolding packed_instruction
 returns-17 c = rw c.before.before.i17.given.1 c.on5.ensures
 
 returns-18 : tie.Need-returns-18
-unfolding packedInstruction
+unfolding packed_instruction
 returns-18 c = rw c.before.before.i18.given.1 c.immediate3.ensures
 
 returns-19 : tie.Need-returns-19
-unfolding packedInstruction
+unfolding packed_instruction
 returns-19 c = rw c.before.before.i19.given.1 c.on6.ensures
 
 returns-20 : tie.Need-returns-20
-unfolding packedInstruction
+unfolding packed_instruction
 returns-20 c = rw c.before.before.i20.given.1 c.immediate4.ensures
 
 returns-21 : tie.Need-returns-21
-unfolding packedInstruction
+unfolding packed_instruction
 returns-21 c = rw c.before.before.i21.given.1 c.on7.ensures
 
 returns-22 : tie.Need-returns-22
-unfolding packedInstruction
+unfolding packed_instruction
 returns-22 c = rw c.before.before.i22.given.1 c.immediate5.ensures
 
 returns-23 : tie.Need-returns-23
-unfolding packedInstruction
+unfolding packed_instruction
 returns-23 c = rw c.before.before.i23.given.1 c.on8.ensures
 
 returns-24 : tie.Need-returns-24
-unfolding packedInstruction
+unfolding packed_instruction
 returns-24 c = rw c.before.before.i24.given.1 c.immediate6.ensures
 
 returns-25 : tie.Need-returns-25
-unfolding packedInstruction
+unfolding packed_instruction
 returns-25 c = rw c.before.enum_told.given.1 c.bare.ensures
 
 returns-26 : tie.Need-returns-26
-unfolding packedInstruction
+unfolding packed_instruction
 returns-26 c = rw c.before.enum-told2.given.1 c.bare2.ensures
 
 returns-27 : tie.Need-returns-27
-unfolding packedInstruction
+unfolding packed_instruction
 returns-27 c = rw c.before.enum-told3.given.1 c.bare3.ensures
 
 returns-28 : tie.Need-returns-28
-unfolding packedInstruction
+unfolding packed_instruction
 returns-28 c = rw c.before.enum-told4.given.1 c.bare4.ensures
 
 returns-29 : tie.Need-returns-29
-unfolding packedInstruction
+unfolding packed_instruction
 returns-29 c = rw c.before.enum-told5.given.1 c.bare5.ensures
 
 returns-30 : tie.Need-returns-30
-unfolding packedInstruction
+unfolding packed_instruction
 returns-30 c = rw c.before.enum-told6.given.1 c.bare6.ensures
 
 pub fields-of-spec : {M : Type 1} → statement M

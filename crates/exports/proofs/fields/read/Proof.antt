@@ -4,8 +4,8 @@ use mathlib.Core.List.{[], ◌∷◌}
 use borrow.Author.Tests.{le-leb, lt-leb}
 use borrow.Author.Rules.{rules}
 use Rattle.exports.specs.Every.{every}
-use Rattle.exports.specs.Fields.{agree, packedInstruction, unpackedInstruction}
-use Rattle.exports.proofs.Rows.{seven, begins-with}
+use Rattle.exports.specs.Fields.{agree, packed_instruction, unpacked_instruction}
+use Rattle.exports.proofs.Rows.{seven, begins_with}
 use Rattle.exports.proofs.fields.read.Statement.{statement}
 use Rattle.exports.proofs.fields.read.Tie as tie
 
@@ -17,15 +17,15 @@ start c = c.before.before.before.before.before.before.before.before
 tested : (c : tie.After-begins-with)
     → c.begins-with.result
     ≡ every (agree (start c).args.fields.now
-    (packedInstruction c.before.before.before.before.before.candidate.result)) 7
+    (packed_instruction c.before.before.before.before.before.candidate.result)) 7
 tested c =
-    let own = packedInstruction c.before.before.before.before.before.candidate.result in
+    let own = packed_instruction c.before.before.before.before.before.candidate.result in
     c.begins-with.ensures
-    ∙ begins-with (start c).args.fields.now _ own (0 ∷ 0 ∷ 0 ∷ []) _ c.before.before.before.put-row.ensures
+    ∙ begins_with (start c).args.fields.now _ own (0 ∷ 0 ∷ 0 ∷ []) _ c.before.before.before.put-row.ensures
     (seven c.before.before.before.before.before.candidate.result)
 
 returns : tie.Need-returns
-unfolding unpackedInstruction
+unfolding unpacked_instruction
 returns c = rw (lt-leb _ _ c.if1.true)
 
 candidate-requires : tie.Need-candidate-requires
@@ -41,7 +41,7 @@ begins-with-requires : tie.Need-begins-with-requires
 begins-with-requires c κs = search rules
 
 returns-2 : tie.Need-returns-2
-unfolding unpackedInstruction
+unfolding unpacked_instruction
 returns-2 c =
     let at-candidate = c.before.before.before.before.before.before in
     rw (
@@ -52,7 +52,7 @@ returns-2 c =
     )
 
 returns-3 : tie.Need-returns-3
-unfolding unpackedInstruction
+unfolding unpacked_instruction
 returns-3 c =
     let at-candidate = c.before.before.before.before.before.before in
     rw (

@@ -1,6 +1,6 @@
 -- `packing::control_bytes` meets its contract.
 use borrow.Author.Rules.{rules}
-use Rattle.exports.specs.States.{controlBytes}
+use Rattle.exports.specs.States.{control_bytes}
 use Rattle.exports.proofs.packing.control_bytes.Statement.{statement}
 use Rattle.exports.proofs.packing.control_bytes.Tie as tie
 
@@ -35,7 +35,7 @@ flag-requires-7 : tie.Need-flag-requires-7
 flag-requires-7 c κs = search rules
 
 returns : tie.Need-returns
-unfolding controlBytes
+unfolding control_bytes
 returns c =
     let at-flag5 = c.before.before in
     let at-flag4 = at-flag5.before in

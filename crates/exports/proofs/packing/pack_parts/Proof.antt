@@ -1,7 +1,7 @@
 -- `packing::pack_parts` meets its contract.
 use borrow.Author.Rules.{rules}
 use Rattle.exports.specs.States.{packed}
-use Rattle.exports.proofs.Pasting.{three-parts}
+use Rattle.exports.proofs.Pasting.{three_parts}
 use Rattle.exports.proofs.packing.pack_parts.Statement.{statement}
 use Rattle.exports.proofs.packing.pack_parts.Tie as tie
 
@@ -39,7 +39,7 @@ returns c =
     let at-control-bytes = at-stack-bytes.before in
     let start = at-control-bytes.before.before in
     let a = start.args in
-    three-parts a.state.now a.bytes.now at-put.put.new.0 at-put2.put2.new.0 at-put3.put3.new.0
+    three_parts a.state.now a.bytes.now at-put.put.new.0 at-put2.put2.new.0 at-put3.put3.new.0
     a.c a.flags a.stack.now start.requires (search (rules, at-put.before.put-arg2.given))
     at-put.put.ensures
     (rw at-control-bytes.control-bytes.ensures at at-put2.put2.ensures)

@@ -1,6 +1,6 @@
 -- `packing::report_bytes` meets its contract.
 use borrow.Author.Rules.{rules}
-use Rattle.exports.specs.Lent.{reportBytes}
+use Rattle.exports.specs.Lent.{report_bytes}
 use Rattle.exports.proofs.packing.report_bytes.Statement.{statement}
 use Rattle.exports.proofs.packing.report_bytes.Tie as tie
 
@@ -29,7 +29,7 @@ digit-requires-8 : tie.Need-digit-requires-8
 digit-requires-8 c κs = search rules
 
 returns : tie.Need-returns
-unfolding reportBytes
+unfolding report_bytes
 returns c =
     let at-digit6 = c.before.before in
     let at-digit5 = at-digit6.before in

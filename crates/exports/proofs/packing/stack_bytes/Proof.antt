@@ -1,6 +1,6 @@
 -- `packing::stack_bytes` meets its contract.
 use borrow.Author.Rules.{rules}
-use Rattle.exports.specs.States.{stackBytes}
+use Rattle.exports.specs.States.{stack_bytes}
 use Rattle.exports.proofs.packing.stack_bytes.Statement.{statement}
 use Rattle.exports.proofs.packing.stack_bytes.Tie as tie
 
@@ -77,7 +77,7 @@ high-requires-6 : tie.Need-high-requires-6
 high-requires-6 c κs = search rules
 
 returns : tie.Need-returns
-unfolding stackBytes
+unfolding stack_bytes
 returns c =
     let at-low6 = c.before.before in
     let at-high5 = at-low6.before.before in

@@ -1,6 +1,6 @@
 -- `states::control_of` meets its contract.
 use borrow.Author.Rules.{rules}
-use Rattle.exports.specs.States.{controlAt}
+use Rattle.exports.specs.States.{control_at}
 use Rattle.exports.proofs.states.control_of.Statement.{statement}
 use Rattle.exports.proofs.states.control_of.Tie as tie
 
@@ -20,7 +20,7 @@ shared-slice-read-t9 : tie.Need-shared-slice-read-t9
 shared-slice-read-t9 c = search rules
 
 returns : tie.Need-returns
-unfolding controlAt
+unfolding control_at
 returns c = rw (c.before.before.before.before.word_at.ensures, c.before.Mode-of.ensures)
 
 pub control-of-spec : {M : Type 1} → statement M

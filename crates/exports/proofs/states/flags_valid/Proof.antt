@@ -6,13 +6,13 @@ use native.Mathlib.Omega.{arith}
 use borrow.Author.Rules.{rules}
 use borrow.Author.Tests.{le-ltb, lt-ltb}
 use Rattle.exports.specs.Every.{every}
-use Rattle.exports.specs.States.{isFlag}
-use Rattle.exports.proofs.Every.{every_more, every-fails}
+use Rattle.exports.specs.States.{is_flag}
+use Rattle.exports.proofs.Every.{every_more, every_fails}
 use Rattle.exports.proofs.states.flags_valid.Statement.{statement}
 use Rattle.exports.proofs.states.flags_valid.Tie as tie
 
 abbrev invariant-loop : tie.invariant-loop
-invariant-loop state i₀ i = (i ≤ 7) × (every (isFlag state) i ≡ true)
+invariant-loop state i₀ i = (i ≤ 7) × (every (is_flag state) i ≡ true)
 
 abbrev decreases-loop : tie.decreases-loop
 decreases-loop state i₀ i = 7 - i
@@ -29,9 +29,9 @@ shared-slice-read-if1 c = search rules
 
 returns : tie.Need-returns invariant-loop decreases-loop
 returns c =
-    let flag = isFlag c.before.before.before.before.args.state.now in
+    let flag = is_flag c.before.before.before.before.args.state.now in
     let i = c.before.before.before.loop.i in
-    sym (every-fails flag 7 i (search rules) (le-ltb _ _ c.if1.true))
+    sym (every_fails flag 7 i (search rules) (le-ltb _ _ c.if1.true))
 
 add-i : tie.Need-overflow-add-i invariant-loop decreases-loop
 add-i c = search rules
@@ -42,7 +42,7 @@ loop-less c = search rules
 loop-again : tie.Need-loop-preserved invariant-loop decreases-loop
 loop-again c =
     let looped = c.before.before.before in
-    let flag = isFlag looped.before.args.state.now in
+    let flag = is_flag looped.before.args.state.now in
     (search rules, every_more flag looped.loop.i looped.loop.invariant.1 (lt-ltb _ _ c.if1.false))
 
 returns-2 : tie.Need-returns-2 invariant-loop decreases-loop

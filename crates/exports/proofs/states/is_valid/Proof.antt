@@ -1,26 +1,26 @@
 -- `states::is_valid` meets its contract.
 use borrow.Author.Tests.{eq-eqb, ne_eqb, le-leb, lt-leb}
 use borrow.Author.Rules.{rules}
-use Rattle.exports.specs.States.{isValid}
+use Rattle.exports.specs.States.{is_valid}
 use Rattle.exports.proofs.states.is_valid.Statement.{statement}
 use Rattle.exports.proofs.states.is_valid.Tie as tie
 
 returns : tie.Need-returns
-unfolding isValid
+unfolding is_valid
 returns c = rw (ne_eqb _ _ c.if1.true)
 
 shared-slice-read-if2 : tie.Need-shared-slice-read-if2
 shared-slice-read-if2 c = search rules
 
 returns-2 : tie.Need-returns-2
-unfolding isValid
+unfolding is_valid
 returns-2 c = rw (eq-eqb _ _ c.before.before.if1.false, lt-leb _ _ c.if2.true)
 
 shared-slice-read-if3 : tie.Need-shared-slice-read-if3
 shared-slice-read-if3 c = search rules
 
 returns-3 : tie.Need-returns-3
-unfolding isValid
+unfolding is_valid
 returns-3 c =
     let at-if2 = c.before.before in
     let at-if1 = at-if2.before.before in
@@ -30,7 +30,7 @@ flags-valid-requires : tie.Need-flags-valid-requires
 flags-valid-requires c κs = search rules
 
 returns-4 : tie.Need-returns-4
-unfolding isValid
+unfolding is_valid
 returns-4 c = rw (
   eq-eqb _ _ c.before.before.before.before.before.if1.false,
   le-leb _ _ c.before.before.before.if2.false,

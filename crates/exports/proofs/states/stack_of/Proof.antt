@@ -1,6 +1,6 @@
 -- `states::stack_of` meets its contract.
 use borrow.Author.Rules.{rules}
-use Rattle.exports.specs.States.{stackAt}
+use Rattle.exports.specs.States.{stack_at}
 use Rattle.exports.proofs.states.stack_of.Statement.{statement}
 use Rattle.exports.proofs.states.stack_of.Tie as tie
 
@@ -23,7 +23,7 @@ word-at-requires-6 : tie.Need-word-at-requires-6
 word-at-requires-6 c κs = search rules
 
 returns : tie.Need-returns
-unfolding stackAt
+unfolding stack_at
 returns c =
     let at-word-at4 = c.before.before in
     let at-word-at3 = at-word-at4.before in

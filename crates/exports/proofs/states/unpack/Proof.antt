@@ -1,6 +1,6 @@
 -- `states::unpack` meets its contract.
 use borrow.Author.Rules.{rules}
-use Rattle.exports.specs.States.{machineAt}
+use Rattle.exports.specs.States.{machine_at}
 use Rattle.exports.proofs.states.unpack.Statement.{statement}
 use Rattle.exports.proofs.states.unpack.Tie as tie
 
@@ -17,7 +17,7 @@ data-of-requires : tie.Need-data-of-requires
 data-of-requires c κs = search rules
 
 returns : tie.Need-returns
-unfolding machineAt
+unfolding machine_at
 returns c = rw (
   c.before.before.before.control-of.ensures,
   c.before.before.stack_of.ensures,

@@ -7,14 +7,14 @@ use borrow.Author.Count.{below_more}
 use borrow.Author.Rules.{rules}
 use borrow.Author.Tests.{not-false}
 use Rattle.machine.specs.Run.{steps_of}
-use Rattle.gauge.specs.Sleep.{machineAfter, AwakeAfter, widthShown}
-use Rattle.gauge.proofs.Sleeper.{found_after, still-awake}
+use Rattle.gauge.specs.Sleep.{machine_after, AwakeAfter, width_shown}
+use Rattle.gauge.proofs.Sleeper.{found_after, still_awake}
 use Rattle.gauge.proofs.sleep.first_sleep.Statement.{statement}
 use Rattle.gauge.proofs.sleep.first_sleep.Tie as tie
 
 abbrev invariant-loop : tie.invariant-loop
 invariant-loop image held₀ steps₀ held steps =
-    (steps ≤ 1285) × (held ≡ machineAfter image held₀ steps)
+    (steps ≤ 1285) × (held ≡ machine_after image held₀ steps)
     × ((n : ℕ) → n < steps → AwakeAfter image held₀ n)
 
 abbrev decreases-loop : tie.decreases-loop
@@ -39,7 +39,7 @@ loop-less c =
     let loop = c.before.before.before.before.loop in
     let start = c.before.before.before.before.before.before in
     let still =
-    still-awake start.args.image.now start.args.m 1285 start.requires loop.held loop.steps asleep.result
+    still_awake start.args.image.now start.args.m 1285 start.requires loop.held loop.steps asleep.result
     loop.invariant.0 loop.invariant.1 asleep.ensures c.before.before.if1.true _ c.before.step.ensures.0 in
     omega (arith, still.left)
 
@@ -49,7 +49,7 @@ loop-again c =
     let loop = c.before.before.before.before.loop in
     let start = c.before.before.before.before.before.before in
     let still =
-    still-awake start.args.image.now start.args.m 1285 start.requires loop.held loop.steps asleep.result
+    still_awake start.args.image.now start.args.m 1285 start.requires loop.held loop.steps asleep.result
     loop.invariant.0 loop.invariant.1 asleep.ensures c.before.before.if1.true _ c.before.step.ensures.0 in
     (omega (arith, still.left), still.next, below_more _ _ loop.invariant.2 still.awake)
 
@@ -68,7 +68,7 @@ returns c =
           loop.invariant.1 asleep.ensures
           ∙ not-false asleep.result c.before.if1.false;
       awake = loop.invariant.2;
-      shows = c.width-shown.ensures ∙ ap widthShown loop.invariant.1;
+      shows = c.width-shown.ensures ∙ ap width_shown loop.invariant.1;
     }
 
 pub first-sleep-spec : {M : Type 1} → statement M

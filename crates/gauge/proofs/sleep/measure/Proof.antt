@@ -3,15 +3,15 @@ use Prim.Native.Nat.{◌≤◌, ◌-◌, ◌+◌, ◌*◌}
 use mathlib.Core.Path.{◌≡◌, refl, sym, ap, ◌∙◌}
 use native.Mathlib.Omega.{arith}
 use borrow.Author.Rules.{rules}
-use Rattle.machine.specs.Run.{ranOf, steps_of}
-use Rattle.gauge.specs.Sleep.{machineAfter, asleepAfter, AwakeAfter}
-use Rattle.gauge.proofs.Runs.{never, run_on, asleep-then, sleeps-within, found}
+use Rattle.machine.specs.Run.{ran_of, steps_of}
+use Rattle.gauge.specs.Sleep.{machine_after, asleep_after, AwakeAfter}
+use Rattle.gauge.proofs.Runs.{never, run_on, asleep_then, sleeps_within, found}
 use Rattle.gauge.proofs.sleep.measure.Statement.{statement}
 use Rattle.gauge.proofs.sleep.measure.Tie as tie
 
 abbrev invariant-loop : tie.invariant-loop
 invariant-loop image held₀ i₀ t9 held i =
-    (i ≤ 51) × (held ≡ machineAfter image held₀ (i * 1285)) × AwakeAfter image held₀ (i * 1285)
+    (i ≤ 51) × (held ≡ machine_after image held₀ (i * 1285)) × AwakeAfter image held₀ (i * 1285)
 
 abbrev decreases-loop : tie.decreases-loop
 decreases-loop image held₀ i₀ t9 held i = 51 - i
@@ -39,9 +39,9 @@ first-sleep-requires c κs =
     let loop = c.before.before.before.before.before.before.loop in
     let start = c.before.before.before.before.before.before.before.before in
     let room : loop.i * 1285 + 1285 ≤ 65535 = omega arith in
-    let finds = asleep-then start.args.image.now start.args.m start.requires (loop.i * 1285) room loop.held
-    loop.invariant.1 (ranOf ran.result) ran.ensures asleep.result asleep.ensures in
-    sleeps-within start.args.image.now start.args.m start.requires (loop.i * 1285) room loop.held
+    let finds = asleep_then start.args.image.now start.args.m start.requires (loop.i * 1285) room loop.held
+    loop.invariant.1 (ran_of ran.result) ran.ensures asleep.result asleep.ensures in
+    sleeps_within start.args.image.now start.args.m start.requires (loop.i * 1285) room loop.held
     loop.invariant.1 (finds ∙ c.if1.true)
 
 mul-t14 : tie.Need-overflow-mul-t14 invariant-loop decreases-loop
@@ -72,14 +72,14 @@ loop-again c =
     let loop = c.before.before.before.before.before.before.loop in
     let start = c.before.before.before.before.before.before.before.before in
     let room : loop.i * 1285 + 1285 ≤ 65535 = omega arith in
-    let finds = asleep-then start.args.image.now start.args.m start.requires (loop.i * 1285) room loop.held
-    loop.invariant.1 (ranOf ran.result) ran.ensures asleep.result asleep.ensures in
+    let finds = asleep_then start.args.image.now start.args.m start.requires (loop.i * 1285) room loop.held
+    loop.invariant.1 (ran_of ran.result) ran.ensures asleep.result asleep.ensures in
     let next : loop.i * 1285 + 1285 ≡ (loop.i + 1) * 1285 = omega arith in (
       search rules,
       run_on start.args.image.now start.args.m start.requires (loop.i * 1285) room loop.held loop.invariant.1
-          (ranOf ran.result) ran.ensures
-          ∙ ap (machineAfter start.args.image.now start.args.m) next,
-      ap (asleepAfter start.args.image.now start.args.m) (sym next) ∙ finds ∙ c.if1.false,
+          (ran_of ran.result) ran.ensures
+          ∙ ap (machine_after start.args.image.now start.args.m) next,
+      ap (asleep_after start.args.image.now start.args.m) (sym next) ∙ finds ∙ c.if1.false,
     )
 
 returns-2 : tie.Need-returns-2 invariant-loop decreases-loop
@@ -88,7 +88,7 @@ returns-2 c =
     let start = c.before.before.before in
     let all : loop.i * 1285 ≡ 65535 = omega arith in
     sym (never start.args.image.now start.args.m start.requires
-    (ap (asleepAfter start.args.image.now start.args.m) (sym all) ∙ loop.invariant.2))
+    (ap (asleep_after start.args.image.now start.args.m) (sym all) ∙ loop.invariant.2))
 
 pub measure-spec : {M : Type 1} → statement M
 measure-spec =

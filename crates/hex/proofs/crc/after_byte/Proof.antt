@@ -2,14 +2,14 @@
 use Prim.Native.Nat.{◌+◌, ◌-◌, ◌≤◌}
 use native.Mathlib.Omega.{arith}
 use mathlib.Core.Path.{◌≡◌, refl, ◌∙◌}
-use Rattle.hex.specs.Crc.{afterBits, afterByte}
-use Rattle.hex.proofs.CrcLaws.{bit-more, no_bits}
+use Rattle.hex.specs.Crc.{after_bits, after_byte}
+use Rattle.hex.proofs.CrcLaws.{bit_more, no_bits}
 use borrow.Author.Rules.{rules}
 use Rattle.hex.proofs.crc.after_byte.Statement.{statement}
 use Rattle.hex.proofs.crc.after_byte.Tie as tie
 
 abbrev invariant-loop : tie.invariant-loop
-invariant-loop register byte r₀ i₀ r i = (i ≤ 8) × (afterBits (8 - i) r ≡ afterByte register byte)
+invariant-loop register byte r₀ i₀ r i = (i ≤ 8) × (after_bits (8 - i) r ≡ after_byte register byte)
 
 abbrev decreases-loop : tie.decreases-loop
 decreases-loop register byte r₀ i₀ r i = 8 - i
@@ -30,7 +30,7 @@ loop-again : tie.Need-loop-preserved invariant-loop decreases-loop
 loop-again c =
     let loop = c.before.before.loop in
     let less : 8 - (loop.i + 1) ≡ 8 - loop.i - 1 = omega arith in
-    (omega arith, rw (less, c.after-bit.ensures) (bit-more (8 - loop.i) loop.r (omega arith) ∙ loop.invariant.1))
+    (omega arith, rw (less, c.after-bit.ensures) (bit_more (8 - loop.i) loop.r (omega arith) ∙ loop.invariant.1))
 
 returns : tie.Need-returns invariant-loop decreases-loop
 returns c =

@@ -3,7 +3,7 @@ use Prim.Native.Nat.{◌-◌, ◌≤◌}
 use native.Mathlib.Omega.{arith}
 use mathlib.Core.Path.{◌≡◌, refl, ◌∙◌}
 use lib.ListN.{length, drop, drop_of_length-le}
-use Rattle.hex.specs.Crc.{afterBytes, crcOf}
+use Rattle.hex.specs.Crc.{after_bytes, crc_of}
 use Rattle.hex.proofs.CrcLaws.{byte_more, no_bytes}
 use borrow.Author.Rules.{rules}
 use Rattle.hex.proofs.crc.crc_32.Statement.{statement}
@@ -11,7 +11,7 @@ use Rattle.hex.proofs.crc.crc_32.Tie as tie
 
 abbrev invariant-loop : tie.invariant-loop
 invariant-loop bytes register₀ i₀ register i =
-    (i ≤ length bytes) × (afterBytes register (drop i bytes) ≡ afterBytes 0xFFFFFFFF bytes)
+    (i ≤ length bytes) × (after_bytes register (drop i bytes) ≡ after_bytes 0xFFFFFFFF bytes)
 
 abbrev decreases-loop : tie.decreases-loop
 decreases-loop bytes register₀ i₀ register i = length bytes - i
@@ -43,7 +43,7 @@ loop-again c =
     )
 
 returns : tie.Need-returns invariant-loop decreases-loop
-unfolding crcOf
+unfolding crc_of
 returns c =
     let at-loop-head = c.before in
     let start = at-loop-head.before.before in

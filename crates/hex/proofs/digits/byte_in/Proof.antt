@@ -1,7 +1,7 @@
 -- `digits::byte_in` meets its contract: each digit is at most 16.
 use Prim.Native.Nat.{◌+◌, ◌*◌}
 use native.Mathlib.Omega.{arith}
-use Rattle.hex.proofs.DigitLaws.{digit-at-most, pair-at}
+use Rattle.hex.proofs.DigitLaws.{digit_at_most, pair_at_lem}
 use lib.ListN.{get_or}
 use borrow.Author.Rules.{rules}
 use Rattle.hex.proofs.digits.byte_in.Statement.{statement}
@@ -33,7 +33,7 @@ mul-result c =
     let at-digit-of = c.before.before in
     let start = at-digit-of.before.before.before in
     omega
-    (arith, at-digit-of.digit-of.ensures, digit-at-most (get_or start.args.digits.now (start.args.k * 2) 0))
+    (arith, at-digit-of.digit-of.ensures, digit_at_most (get_or start.args.digits.now (start.args.k * 2) 0))
 
 add-result : tie.Need-overflow-add-result
 add-result c =
@@ -44,8 +44,8 @@ add-result c =
       arith,
       at-digit-of.digit-of.ensures,
       c.digit-of2.ensures,
-      digit-at-most (get_or digits (start.args.k * 2) 0),
-      digit-at-most (get_or digits (start.args.k * 2 + 1) 0),
+      digit_at_most (get_or digits (start.args.k * 2) 0),
+      digit_at_most (get_or digits (start.args.k * 2 + 1) 0),
     )
 
 returns : tie.Need-returns
@@ -53,7 +53,7 @@ returns c =
     let at-digit-of = c.before.before in
     let start = at-digit-of.before.before.before in
     rw (
-      pair-at start.args.digits.now start.args.k start.requires,
+      pair_at_lem start.args.digits.now start.args.k start.requires,
       at-digit-of.digit-of.ensures,
       c.digit-of2.ensures,
     )

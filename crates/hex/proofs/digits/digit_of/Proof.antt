@@ -1,16 +1,16 @@
 -- `digits::digit_of` meets its contract: by the range that the character stands in.
 use borrow.Author.Tests.{lt-ltb, le-ltb}
-use Rattle.hex.specs.Digits.{digitOf}
+use Rattle.hex.specs.Digits.{digit_of}
 use borrow.Author.Rules.{rules}
 use Rattle.hex.proofs.digits.digit_of.Statement.{statement}
 use Rattle.hex.proofs.digits.digit_of.Tie as tie
 
 returns : tie.Need-returns
-unfolding digitOf
+unfolding digit_of
 returns c = rw (lt-ltb _ _ c.if1.true)
 
 returns-2 : tie.Need-returns-2
-unfolding digitOf
+unfolding digit_of
 returns-2 c =
     let at-if1 = c.before in
     rw (
@@ -19,7 +19,7 @@ returns-2 c =
     )
 
 returns-3 : tie.Need-returns-3
-unfolding digitOf
+unfolding digit_of
 returns-3 c =
     let at-if2 = c.before in
     let at-if1 = at-if2.before in
@@ -33,7 +33,7 @@ sub-result : tie.Need-overflow-sub-result
 sub-result c = search rules
 
 returns-4 : tie.Need-returns-4
-unfolding digitOf
+unfolding digit_of
 returns-4 c =
     let at-if3 = c.before in
     let at-if2 = at-if3.before in
@@ -46,7 +46,7 @@ returns-4 c =
     )
 
 returns-5 : tie.Need-returns-5
-unfolding digitOf
+unfolding digit_of
 returns-5 c =
     let at-if4 = c.before in
     let at-if3 = at-if4.before in
@@ -64,7 +64,7 @@ sub-result-2 : tie.Need-overflow-sub-result-2
 sub-result-2 c = search rules
 
 returns-6 : tie.Need-returns-6
-unfolding digitOf
+unfolding digit_of
 returns-6 c =
     let at-if5 = c.before in
     let at-if4 = at-if5.before in
@@ -81,7 +81,7 @@ returns-6 c =
     )
 
 returns-7 : tie.Need-returns-7
-unfolding digitOf
+unfolding digit_of
 returns-7 c =
     let at-if5 = c.before in
     let at-if4 = at-if5.before in

@@ -3,14 +3,14 @@ use Prim.Native.Nat.{◌-◌, ◌≤◌}
 use native.Mathlib.Omega.{arith}
 use mathlib.Core.Path.{◌≡◌, refl, sym, ap, ◌∙◌}
 use lib.ListN.{length, drop, drop_of_length-le}
-use Rattle.hex.specs.Digits.{areDigits}
-use Rattle.hex.proofs.DigitLaws.{no_digit, one-digit, no_more}
+use Rattle.hex.specs.Digits.{are_digits}
+use Rattle.hex.proofs.DigitLaws.{no_digit, one_digit, no_more}
 use borrow.Author.Rules.{rules}
 use Rattle.hex.proofs.digits.is_digits.Statement.{statement}
 use Rattle.hex.proofs.digits.is_digits.Tie as tie
 
 abbrev invariant-loop : tie.invariant-loop
-invariant-loop digits i₀ i = (i ≤ length digits) × (areDigits (drop i digits) ≡ areDigits digits)
+invariant-loop digits i₀ i = (i ≤ length digits) × (are_digits (drop i digits) ≡ are_digits digits)
 
 abbrev decreases-loop : tie.decreases-loop
 decreases-loop digits i₀ i = length digits - i
@@ -50,7 +50,7 @@ loop-again c =
     let start = at-loop.before.before in
     let loop = at-loop.loop in
     let called = at-digit-of.digit-of in
-    let same = one-digit start.args.digits.now loop.i in-loop.loop-test.true
+    let same = one_digit start.args.digits.now loop.i in-loop.loop-test.true
     (λ e. c.if1.false (called.ensures ∙ e)) in
     (omega arith, same ∙ loop.invariant.1)
 
@@ -60,7 +60,7 @@ returns-2 c =
     let start = at-loop-head.before.before in
     let loop = at-loop-head.loop in
     let digits = start.args.digits.now in
-    sym no_more ∙ ap areDigits (sym (drop_of_length-le digits {i = loop.i} (omega arith))) ∙ loop.invariant.1
+    sym no_more ∙ ap are_digits (sym (drop_of_length-le digits {i = loop.i} (omega arith))) ∙ loop.invariant.1
 
 pub is-digits-spec : {M : Type 1} → statement M
 is-digits-spec =

@@ -4,7 +4,7 @@ use native.Mathlib.Omega.{arith}
 use mathlib.Core.Path.{◌≡◌, ap}
 use lib.ListN.{length, drop, drop_of_length-le}
 use Rattle.hex.specs.Digits.{bytes_of, total}
-use Rattle.hex.proofs.DigitLaws.{pairs, total_at_most, total-step, total-none}
+use Rattle.hex.proofs.DigitLaws.{pairs, total_at_most, total_step, total_none}
 use borrow.Author.Rules.{rules}
 use Rattle.hex.proofs.digits.sum_of.Statement.{statement}
 use Rattle.hex.proofs.digits.sum_of.Tie as tie
@@ -27,7 +27,7 @@ add-sum c =
     let start = at-loop.before.before in
     let digits = start.args.digits.now in
     let more : at-loop.loop.k < length (bytes_of digits) = omega (arith, (pairs digits).1) in
-    omega (arith, c.byte-in.ensures, total-step digits at-loop.loop.k more, total_at_most digits, (pairs digits).0)
+    omega (arith, c.byte-in.ensures, total_step digits at-loop.loop.k more, total_at_most digits, (pairs digits).0)
 
 add-k : tie.Need-overflow-add-k invariant-loop decreases-loop
 add-k c = search rules
@@ -41,7 +41,7 @@ loop-again c =
     let start = at-loop.before.before in
     let digits = start.args.digits.now in
     let more : at-loop.loop.k < length (bytes_of digits) = omega (arith, (pairs digits).1) in
-    (omega arith, omega (arith, c.byte-in.ensures, total-step digits at-loop.loop.k more))
+    (omega arith, omega (arith, c.byte-in.ensures, total_step digits at-loop.loop.k more))
 
 returns : tie.Need-returns invariant-loop decreases-loop
 returns c =
@@ -50,7 +50,7 @@ returns c =
     let digits = start.args.digits.now in
     let loop = at-loop-head.loop in
     let over = drop_of_length-le (bytes_of digits) {i = loop.k} (omega (arith, (pairs digits).0)) in
-    omega (arith, loop.invariant.1, ap total over, total-none)
+    omega (arith, loop.invariant.1, ap total over, total_none)
 
 pub sum-of-spec : {M : Type 1} → statement M
 sum-of-spec =

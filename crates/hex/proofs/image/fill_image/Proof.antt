@@ -5,7 +5,7 @@ use mathlib.Core.Path.{◌≡◌, refl, sym, ◌∙◌}
 use mathlib.Core.List.{◌++◌}
 use lib.ListN.{length, take, drop, get_or, length-set}
 use Rattle.hex.specs.Image.{filled}
-use Rattle.hex.proofs.ImageLaws.{filled-length, filled_at, stored, stored-all}
+use Rattle.hex.proofs.ImageLaws.{filled_length, filled_at, stored, stored_all}
 use borrow.Author.Rules.{rules}
 use Rattle.hex.proofs.image.fill_image.Statement.{statement}
 use Rattle.hex.proofs.image.fill_image.Tie as tie
@@ -58,7 +58,7 @@ loop-again c =
       length-set loop.image loop.i c.value_of_lem.result ∙ loop.invariant.1,
       rw (here, loop.invariant.2)
           (stored new args.image.now loop.i
-          (rw (filled-length args.fill args.memory.now args.first size) less) less),
+          (rw (filled_length args.fill args.memory.now args.first size) less) less),
     )
 
 same_length : tie.Need-same-length invariant-loop decreases-loop
@@ -73,8 +73,8 @@ returns c =
     let size = length args.image.now in
     let all : loop.i ≡ size = omega (arith, loop.invariant.1) in
     loop.invariant.2
-    ∙ stored-all (filled args.fill args.memory.now args.first size) args.image.now loop.i all
-    (all ∙ sym (filled-length args.fill args.memory.now args.first size))
+    ∙ stored_all (filled args.fill args.memory.now args.first size) args.image.now loop.i all
+    (all ∙ sym (filled_length args.fill args.memory.now args.first size))
 
 pub fill-image-spec : {M : Type 1} → statement M
 fill-image-spec =

@@ -2,14 +2,14 @@
 use Prim.Native.Nat.{◌+◌, ◌-◌, ◌≤◌}
 use native.Mathlib.Omega.{arith}
 use mathlib.Core.Path.{◌≡◌, refl, sym, ◌∙◌}
-use Rattle.hex.specs.Image.{lowestFrom, lowestIn}
-use Rattle.hex.proofs.ImageLaws.{named_here, named-later, named_none}
+use Rattle.hex.specs.Image.{lowest_from, lowest_in}
+use Rattle.hex.proofs.ImageLaws.{named_here, named_later, named_none}
 use borrow.Author.Rules.{rules}
 use Rattle.hex.proofs.image.lowest_of.Statement.{statement}
 use Rattle.hex.proofs.image.lowest_of.Tie as tie
 
 abbrev invariant-loop : tie.invariant-loop
-invariant-loop memory i₀ i = (i ≤ 4096) × (lowestFrom memory i (4096 - i) ≡ lowestIn memory)
+invariant-loop memory i₀ i = (i ≤ 4096) × (lowest_from memory i (4096 - i) ≡ lowest_in memory)
 
 abbrev decreases-loop : tie.decreases-loop
 decreases-loop memory i₀ i = 4096 - i
@@ -45,7 +45,7 @@ loop-again c =
     let start = at-loop.before in
     let loop = at-loop.loop in
     let less : 4096 - (loop.i + 1) ≡ 4096 - loop.i - 1 = omega arith in
-    let later = named-later start.args.memory.now loop.i (4096 - loop.i) (omega arith) c.if1.false in
+    let later = named_later start.args.memory.now loop.i (4096 - loop.i) (omega arith) c.if1.false in
     (omega arith, rw less (later ∙ loop.invariant.1))
 
 returns-2 : tie.Need-returns-2 invariant-loop decreases-loop

@@ -3,14 +3,14 @@ use Prim.Native.Nat.{◌+◌, ◌-◌, ◌≤◌}
 use native.Mathlib.Omega.{arith}
 use mathlib.Core.Path.{◌≡◌, ap}
 use lib.ListN.{length, drop, drop_of_length-le}
-use Rattle.hex.specs.Lines.{lineSize}
-use Rattle.hex.proofs.LineLaws.{size-ends, size-more, size_none}
+use Rattle.hex.specs.Lines.{line_size}
+use Rattle.hex.proofs.LineLaws.{size_ends, size_more, size_none}
 use borrow.Author.Rules.{rules}
 use Rattle.hex.proofs.lines.line_size.Statement.{statement}
 use Rattle.hex.proofs.lines.line_size.Tie as tie
 
 abbrev invariant-loop : tie.invariant-loop
-invariant-loop text i₀ i = (i ≤ length text) × (i + lineSize (drop i text) ≡ lineSize text)
+invariant-loop text i₀ i = (i ≤ length text) × (i + line_size (drop i text) ≡ line_size text)
 
 abbrev decreases-loop : tie.decreases-loop
 decreases-loop text i₀ i = length text - i
@@ -31,7 +31,7 @@ returns c =
     let start = at-loop.before in
     let loop = at-loop.loop in
     omega
-    (arith, loop.invariant.1, size-ends start.args.text.now loop.i in-loop.loop-test.true c.if1.true)
+    (arith, loop.invariant.1, size_ends start.args.text.now loop.i in-loop.loop-test.true c.if1.true)
 
 add-i : tie.Need-overflow-add-i invariant-loop decreases-loop
 add-i c = search rules
@@ -45,7 +45,7 @@ loop-again c =
     let at-loop = in-loop.before in
     let start = at-loop.before in
     let loop = at-loop.loop in
-    let more = size-more start.args.text.now loop.i in-loop.loop-test.true c.if1.false in
+    let more = size_more start.args.text.now loop.i in-loop.loop-test.true c.if1.false in
     (omega arith, omega (arith, loop.invariant.1, more))
 
 returns-2 : tie.Need-returns-2 invariant-loop decreases-loop
@@ -54,7 +54,7 @@ returns-2 c =
     let start = at-loop-head.before in
     let loop = at-loop-head.loop in
     let over = drop_of_length-le start.args.text.now {i = loop.i} (omega arith) in
-    omega (arith, loop.invariant.1, ap lineSize over, size_none)
+    omega (arith, loop.invariant.1, ap line_size over, size_none)
 
 pub line-size-spec : {M : Type 1} → statement M
 line-size-spec =

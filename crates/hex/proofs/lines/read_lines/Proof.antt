@@ -7,17 +7,17 @@ use lib.ListN.{length, take}
 use lib.Seq.{length-take-le}
 use borrow.Author.Tests.{not-true, not-false}
 use Rattle.hex.specs.Lines.{lines_of}
-use Rattle.hex.specs.Read.{afterLines}
-use Rattle.hex.proofs.LineLaws.{size-within, rest-less}
-use Rattle.hex.proofs.ReadLaws.{line-faulty, line_on, turn-refused, turn_on, text-ends, text-breaks, number-next}
+use Rattle.hex.specs.Read.{after_lines}
+use Rattle.hex.proofs.LineLaws.{size_within, rest_less}
+use Rattle.hex.proofs.ReadLaws.{line_faulty, line_on, turn_refused, turn_on, text_ends, text_breaks, number_next}
 use borrow.Author.Rules.{rules}
 use Rattle.hex.proofs.lines.read_lines.Statement.{statement}
 use Rattle.hex.proofs.lines.read_lines.Tie as tie
 
 abbrev invariant-loop : tie.invariant-loop
 invariant-loop text first memory₀ rest₀ number₀ ended₀ memory rest number ended =
-    (number + length rest ≤ length text + 1) × (afterLines first ended number memory (lines_of rest)
-    ≡ afterLines first false 1 memory₀ (lines_of text))
+    (number + length rest ≤ length text + 1) × (after_lines first ended number memory (lines_of rest)
+    ≡ after_lines first false 1 memory₀ (lines_of text))
 
 abbrev decreases-loop : tie.decreases-loop
 decreases-loop text first memory₀ rest₀ number₀ ended₀ memory rest number ended = length rest
@@ -34,7 +34,7 @@ slice-aggregate-without-last c =
     let at-loop = at-line-size.before.before in
     let rest = at-loop.loop.rest.now in
     let within : at-line-size.line-size.result ≤ length rest = rw at-line-size.line-size.ensures
-    (size-within rest) in
+    (size_within rest) in
     sym (length-take-le at-line-size.line-size.result rest within)
 
 without-last-requires : tie.Need-without-last-requires invariant-loop decreases-loop
@@ -65,11 +65,11 @@ returns c =
     let called = at-take-line.take-line in
     let raw = take size.result loop.rest.now in
     let faulted =
-    line-faulty args.first loop.ended loop.memory raw at-without-last.without-last.result.now
+    line_faulty args.first loop.ended loop.memory raw at-without-last.without-last.result.now
     at-without-last2.without-last2.result.now at-without-last.without-last.ensures
     at-without-last2.without-last2.ensures called.result
     called.new.1.1.1.0 called.ensures at-taken.taken.given.0.0 at-taken.taken.given.1 in
-    turn-refused args.first loop.ended loop.number loop.memory loop.rest.now size.result
+    turn_refused args.first loop.ended loop.number loop.memory loop.rest.now size.result
     in-loop.loop-test.true size.ensures at-taken.taken.given.0.0 faulted
     ∙ loop.invariant.1
 
@@ -87,7 +87,7 @@ sub-rest : tie.Need-overflow-sub-rest invariant-loop decreases-loop
 sub-rest c =
     let at-line-size = c.before.before.before.before.before.before.before.before in
     let at-loop = at-line-size.before.before in
-    rw at-line-size.line-size.ensures (size-within at-loop.loop.rest.now)
+    rw at-line-size.line-size.ensures (size_within at-loop.loop.rest.now)
 
 part-rest-start : tie.Need-slice-bounds-rest-start invariant-loop decreases-loop
 part-rest-start c =
@@ -95,7 +95,7 @@ part-rest-start c =
     let at-loop = at-line-size.before.before in
     let rest = at-loop.loop.rest.now in
     let within : at-line-size.line-size.result ≤ length rest = rw at-line-size.line-size.ensures
-    (size-within rest) in
+    (size_within rest) in
     omega (arith, within)
 
 part-rest-end : tie.Need-slice-bounds-rest-end invariant-loop decreases-loop
@@ -108,7 +108,7 @@ loop-less c =
     let at-loop = in-loop.before in
     let rest = at-loop.loop.rest.now in
     let size = at-line-size.line-size in
-    rest-less rest size.result in-loop.loop-test.true size.ensures
+    rest_less rest size.result in-loop.loop-test.true size.ensures
 
 loop-again : tie.Need-loop-preserved invariant-loop decreases-loop
 loop-again c =
@@ -130,8 +130,8 @@ loop-again c =
     at-without-last2.without-last2.result.now at-without-last.without-last.ensures
     at-without-last2.without-last2.ensures called.result
     called.new.1.1.1.0 called.ensures at-taken2.taken2.given.0.0 at-taken2.taken2.given.1 in
-    let less = rest-less loop.rest.now size.result in-loop.loop-test.true size.ensures in (
-      number-next loop.number _ (length loop.rest.now) (length args.text.now) less loop.invariant.0,
+    let less = rest_less loop.rest.now size.result in-loop.loop-test.true size.ensures in (
+      number_next loop.number _ (length loop.rest.now) (length args.text.now) less loop.invariant.0,
       turn_on args.first loop.ended loop.number loop.memory loop.rest.now size.result
           in-loop.loop-test.true size.ensures at-taken2.taken2.given.0.0 called.new.1.1.1.0 passed
           ∙ loop.invariant.1,
@@ -143,7 +143,7 @@ returns-2 c =
     let start = at-loop-head.before.before in
     let args = start.args in
     let loop = at-loop-head.loop in
-    text-breaks args.first loop.number loop.memory loop.rest.now (omega arith)
+    text_breaks args.first loop.number loop.memory loop.rest.now (omega arith)
     ∙ (rw (not-true loop.ended c.if1.true) at loop.invariant.1)
 
 returns-3 : tie.Need-returns-3 invariant-loop decreases-loop
@@ -152,7 +152,7 @@ returns-3 c =
     let start = at-loop-head.before.before in
     let args = start.args in
     let loop = at-loop-head.loop in
-    text-ends args.first loop.number loop.memory loop.rest.now (omega arith)
+    text_ends args.first loop.number loop.memory loop.rest.now (omega arith)
     ∙ (rw (not-false loop.ended c.if1.false) at loop.invariant.1)
 
 pub read-lines-spec : {M : Type 1} → statement M

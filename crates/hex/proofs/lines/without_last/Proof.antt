@@ -1,7 +1,7 @@
 -- `lines::without_last` meets its contract.
 use native.Mathlib.Omega.{arith}
 use lib.ListN.{length-take}
-use Rattle.hex.proofs.LineLaws.{none-off, last_off, last-stays}
+use Rattle.hex.proofs.LineLaws.{none_off, last_off, last_stays}
 use borrow.Author.Rules.{rules}
 use Rattle.hex.proofs.lines.without_last.Statement.{statement}
 use Rattle.hex.proofs.lines.without_last.Tie as tie
@@ -9,7 +9,7 @@ use Rattle.hex.proofs.lines.without_last.Tie as tie
 returns : tie.Need-returns
 returns c =
     let start = c.before in
-    none-off start.args.last start.args.bytes.now c.if1.true
+    none_off start.args.last start.args.bytes.now c.if1.true
 
 sub-less : tie.Need-overflow-sub-less
 sub-less c = search rules
@@ -29,7 +29,7 @@ returns-2 c =
 returns-3 : tie.Need-returns-3
 returns-3 c =
     let start = c.before.before.before in
-    last-stays start.args.last start.args.bytes.now c.if2.false
+    last_stays start.args.last start.args.bytes.now c.if2.false
 
 pub without-last-spec : {M : Type 1} → statement M
 without-last-spec =

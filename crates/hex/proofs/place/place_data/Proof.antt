@@ -6,8 +6,8 @@ use lib.ListN.{drop}
 use borrow.Author.Tests.{not-true, not-false}
 use Rattle.hex.specs.Digits.{bytes_of}
 use Rattle.hex.specs.Place.{address_of, data_of, placed}
-use Rattle.hex.proofs.DigitLaws.{byte-at-most}
-use Rattle.hex.proofs.PlaceLaws.{turn-outside, turn-differs, turn-placed, turns-end, inside-below}
+use Rattle.hex.proofs.DigitLaws.{byte_at_most}
+use Rattle.hex.proofs.PlaceLaws.{turn_outside, turn_differs, turn_placed, turns_end, inside_below}
 use borrow.Author.Rules.{rules}
 use Rattle.hex.proofs.place.place_data.Statement.{statement}
 use Rattle.hex.proofs.place.place_data.Tie as tie
@@ -24,7 +24,7 @@ byte-in-requires : tie.Need-byte-in-requires invariant-loop decreases-loop
 byte-in-requires c κs = search rules
 
 mul-start : tie.Need-overflow-mul-start invariant-loop decreases-loop
-mul-start c = omega (arith, c.byte-in.ensures, byte-at-most c.before.before.args.digits.now 1)
+mul-start c = omega (arith, c.byte-in.ensures, byte_at_most c.before.before.args.digits.now 1)
 
 byte-in-requires-2 : tie.Need-byte-in-requires-2 invariant-loop decreases-loop
 byte-in-requires-2 c κs = search rules
@@ -34,7 +34,7 @@ add_start c =
     let at-byte-in = c.before in
     let start = at-byte-in.before.before in
     let digits = start.args.digits.now in
-    omega (arith, at-byte-in.byte-in.ensures, c.byte-in2.ensures, byte-at-most digits 1, byte-at-most digits 2)
+    omega (arith, at-byte-in.byte-in.ensures, c.byte-in2.ensures, byte_at_most digits 1, byte_at_most digits 2)
 
 loop-holds : tie.Need-loop-init invariant-loop decreases-loop
 loop-holds c =
@@ -57,8 +57,8 @@ add-address c =
       arith,
       at-byte-in.byte-in.ensures,
       at-byte-in2.byte-in2.ensures,
-      byte-at-most digits 1,
-      byte-at-most digits 2,
+      byte_at_most digits 1,
+      byte_at_most digits 2,
       start.requires,
       start.well-formed,
     )
@@ -75,7 +75,7 @@ returns c =
     let args = start.args in
     let loop = at-loop.loop in
     let asked = at-is-inside.is-inside in
-    sym (turn-outside args.first _ loop.memory args.digits.now args.count loop.k start.requires
+    sym (turn_outside args.first _ loop.memory args.digits.now args.count loop.k start.requires
     in-loop.loop-test.true (sym asked.ensures ∙ not-true asked.result c.if1.true)) ∙ loop.invariant.1
 
 add-byte-in : tie.Need-overflow-add-byte-in invariant-loop decreases-loop
@@ -96,7 +96,7 @@ mul-cell-agrees c =
     let address = at-byte-in.byte-in.result * 256 + at-byte-in2.byte-in2.result + at-loop.loop.k in
     omega (
       arith,
-      inside-below start.args.first address
+      inside_below start.args.first address
           (sym asked.ensures ∙ not-false asked.result at-if1.if1.false),
     )
 
@@ -105,7 +105,7 @@ element-copy-out-cell-agrees c =
     let at-if1 = c.before in
     let at-is-inside = at-if1.before in
     let asked = at-is-inside.is-inside in
-    inside-below _ _ (sym asked.ensures ∙ not-false asked.result at-if1.if1.false)
+    inside_below _ _ (sym asked.ensures ∙ not-false asked.result at-if1.if1.false)
 
 cell-agrees-requires : tie.Need-cell-agrees-requires invariant-loop decreases-loop
 cell-agrees-requires c κs = search rules
@@ -124,7 +124,7 @@ returns-2 c =
     let asked = at-is-inside.is-inside in
     let agreed = at-cell-agrees.cell-agrees in
     sym
-    (turn-differs args.first _ loop.memory args.digits.now args.count loop.k
+    (turn_differs args.first _ loop.memory args.digits.now args.count loop.k
     at-byte-in3.byte-in3.result
     start.requires in-loop.loop-test.true at-byte-in3.byte-in3.ensures
     (sym asked.ensures ∙ not-false asked.result at-if1.if1.false)
@@ -135,7 +135,7 @@ cast-memory c =
     let at-byte-in3 = c.before.before.before in
     let at-loop = at-byte-in3.before.before.before.before in
     let start = at-loop.before.before.before.before in
-    omega (arith, at-byte-in3.byte-in3.ensures, byte-at-most start.args.digits.now (4 + at-loop.loop.k))
+    omega (arith, at-byte-in3.byte-in3.ensures, byte_at_most start.args.digits.now (4 + at-loop.loop.k))
 
 mul-memory : tie.Need-overflow-mul-memory invariant-loop decreases-loop
 mul-memory c =
@@ -149,7 +149,7 @@ mul-memory c =
     let address = at-byte-in.byte-in.result * 256 + at-byte-in2.byte-in2.result + at-loop.loop.k in
     omega (
       arith,
-      inside-below start.args.first address
+      inside_below start.args.first address
           (sym asked.ensures ∙ not-false asked.result at-if1.if1.false),
     )
 
@@ -158,7 +158,7 @@ element-write-memory c =
     let at-if1 = c.before.before.before.before in
     let at-is-inside = at-if1.before in
     let asked = at-is-inside.is-inside in
-    inside-below _ _ (sym asked.ensures ∙ not-false asked.result at-if1.if1.false)
+    inside_below _ _ (sym asked.ensures ∙ not-false asked.result at-if1.if1.false)
 
 add-k : tie.Need-overflow-add-k invariant-loop decreases-loop
 add-k c = search rules
@@ -180,7 +180,7 @@ loop-again c =
     let asked = at-is-inside.is-inside in
     let agreed = at-cell-agrees.cell-agrees in
     let next =
-    turn-placed args.first _ loop.memory args.digits.now args.count loop.k
+    turn_placed args.first _ loop.memory args.digits.now args.count loop.k
     at-byte-in3.byte-in3.result
     start.requires in-loop.loop-test.true at-byte-in3.byte-in3.ensures
     (sym asked.ensures ∙ not-false asked.result at-if1.if1.false)
@@ -193,7 +193,7 @@ returns-3 c =
     let start = at-loop-head.before.before.before.before in
     let args = start.args in
     let loop = at-loop-head.loop in
-    turns-end args.first _ loop.memory args.digits.now args.count loop.k start.requires (omega arith)
+    turns_end args.first _ loop.memory args.digits.now args.count loop.k start.requires (omega arith)
     ∙ loop.invariant.1
 
 pub place-data-spec : {M : Type 1} → statement M

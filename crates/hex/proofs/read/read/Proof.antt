@@ -4,10 +4,10 @@ use mathlib.Core.Path.{◌≡◌, sym, ◌∙◌}
 use mathlib.Core.Bool.{true}
 use lib.ListN.{length}
 use borrow.Author.Tests.{not-true, not-false}
-use Rattle.isa.specs.Rom.{isSpace}
-use Rattle.hex.specs.Place.{noneNamed}
-use Rattle.isa.proofs.Halves.{space-most}
-use Rattle.hex.proofs.ReadLaws.{reads_nothing, reads-refused, reads_whole}
+use Rattle.isa.specs.Rom.{is_space}
+use Rattle.hex.specs.Place.{none_named}
+use Rattle.isa.proofs.Halves.{space_most}
+use Rattle.hex.proofs.ReadLaws.{reads_nothing, reads_refused, reads_whole}
 use borrow.Author.Rules.{rules}
 use Rattle.hex.proofs.read.read.Statement.{statement}
 use Rattle.hex.proofs.read.read.Tie as tie
@@ -27,7 +27,7 @@ returns c =
 sub-first : tie.Need-overflow-sub-first
 sub-first c =
     let asked = c.before.is-space-length in
-    space-most _ (sym asked.ensures ∙ not-false asked.result c.if1.false)
+    space_most _ (sym asked.ensures ∙ not-false asked.result c.if1.false)
 
 read-lines-requires : tie.Need-read-lines-requires
 read-lines-requires c κs = search rules
@@ -45,14 +45,14 @@ fill-image-requires c κs =
     let start = at-is-space-length.before.before.before in
     let asked = at-is-space-length.is-space-length in
     let size = length start.args.image.now in
-    let is : isSpace size ≡ true = sym asked.ensures ∙ not-false asked.result at-if1.if1.false in
-    omega (arith, space-most size is)
+    let is : is_space size ≡ true = sym asked.ensures ∙ not-false asked.result at-if1.if1.false in
+    omega (arith, space_most size is)
 
 lowest-of-requires : tie.Need-lowest-of-requires
 lowest-of-requires c κs = search rules
 
 returns-2 : tie.Need-returns-2
-unfolding noneNamed
+unfolding none_named
 returns-2 c =
     let at-reading = c.before in
     let at-read-lines = at-reading.before.before in
@@ -63,7 +63,7 @@ returns-2 c =
     let asked = at-is-space-length.is-space-length in
     let called = at-read-lines.read-lines in
     let given = at-reading.reading.given in
-    reads-refused args.text.now args.fill args.image.now
+    reads_refused args.text.now args.fill args.image.now
     (sym asked.ensures ∙ not-false asked.result at-if1.if1.false) called.result _ called.ensures
     given.0.0 given.0.1.0 given.1
 
@@ -71,7 +71,7 @@ same_length : tie.Need-same-length
 same_length c = search rules
 
 returns-3 : tie.Need-returns-3
-unfolding noneNamed
+unfolding none_named
 returns-3 c =
     let at-fill-image = c.before.before.before.before in
     let at-enum-told = at-fill-image.before.before.before in

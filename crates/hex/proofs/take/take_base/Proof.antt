@@ -1,13 +1,13 @@
 -- `take::take_base` meets its contract.
 use mathlib.Core.Path.{sym, ◌∙◌}
 use borrow.Author.Tests.{eq-eqb, ne_eqb}
-use Rattle.hex.specs.Take.{afterBase}
+use Rattle.hex.specs.Take.{after_base}
 use borrow.Author.Rules.{rules}
 use Rattle.hex.proofs.take.take_base.Statement.{statement}
 use Rattle.hex.proofs.take.take_base.Tie as tie
 
 returns : tie.Need-returns
-unfolding afterBase
+unfolding after_base
 returns c =
     let start = c.before.before in
     λ memory. rw (ne_eqb _ _ (λ e. c.if1.true (start.requires.1 ∙ e)))
@@ -16,7 +16,7 @@ byte-in-requires : tie.Need-byte-in-requires
 byte-in-requires c κs = search rules
 
 returns-2 : tie.Need-returns-2
-unfolding afterBase
+unfolding after_base
 returns-2 c =
     let at-byte-in = c.before in
     let at-if1 = at-byte-in.before in
@@ -28,7 +28,7 @@ byte-in-requires-2 : tie.Need-byte-in-requires-2
 byte-in-requires-2 c κs = search rules
 
 returns-3 : tie.Need-returns-3
-unfolding afterBase
+unfolding after_base
 returns-3 c =
     let at-byte-in2 = c.before in
     let at-if2 = at-byte-in2.before in
@@ -40,7 +40,7 @@ returns-3 c =
     λ memory. rw (eq-eqb _ _ two, eq-eqb _ _ high, ne_eqb _ _ (λ e. c.if3.true (at-byte-in2.byte-in2.ensures ∙ e)))
 
 returns-4 : tie.Need-returns-4
-unfolding afterBase
+unfolding after_base
 returns-4 c =
     let at-byte-in2 = c.before in
     let at-if2 = at-byte-in2.before in

@@ -4,8 +4,8 @@ use native.Mathlib.Omega.{arith}
 use borrow.Author.Tests.{eq-eqb, ne_eqb, not-true, not-false}
 use lib.ListN.{length, get_or}
 use Rattle.hex.specs.Digits.{bytes_of}
-use Rattle.hex.specs.Take.{afterDigits}
-use Rattle.hex.proofs.DigitLaws.{byte-at-most}
+use Rattle.hex.specs.Take.{after_digits}
+use Rattle.hex.proofs.DigitLaws.{byte_at_most}
 use borrow.Author.Rules.{rules}
 use Rattle.hex.proofs.take.take_digits.Statement.{statement}
 use Rattle.hex.proofs.take.take_digits.Tie as tie
@@ -14,13 +14,13 @@ is-digits-requires : tie.Need-is-digits-requires
 is-digits-requires c κs = search rules
 
 returns : tie.Need-returns
-unfolding afterDigits
+unfolding after_digits
 returns c =
     let asked = c.before.is-digits in
     rw (← asked.ensures, not-true asked.result c.if1.true)
 
 returns-2 : tie.Need-returns-2
-unfolding afterDigits
+unfolding after_digits
 returns-2 c =
     let at-if1 = c.before in
     let at-is-digits = at-if1.before in
@@ -37,15 +37,15 @@ byte-in-requires c κs = search rules
 mul-if3 : tie.Need-overflow-mul-if3
 mul-if3 c =
     let start = c.before.before.before.before.before in
-    omega (arith, c.byte-in.ensures, byte-at-most start.args.digits.now 0)
+    omega (arith, c.byte-in.ensures, byte_at_most start.args.digits.now 0)
 
 add-if3 : tie.Need-overflow-add-if3
 add-if3 c =
     let start = c.before.before.before.before.before in
-    omega (arith, c.byte-in.ensures, byte-at-most start.args.digits.now 0)
+    omega (arith, c.byte-in.ensures, byte_at_most start.args.digits.now 0)
 
 returns-3 : tie.Need-returns-3
-unfolding afterDigits
+unfolding after_digits
 returns-3 c =
     let at-byte-in = c.before in
     let at-if1 = at-byte-in.before.before in
@@ -67,11 +67,11 @@ sum-of-requires c κs =
     let start = at-byte-in.before.before.before.before.before in (
       omega (arith, c.if3.false),
       omega
-          (arith, at-byte-in.byte-in.ensures, byte-at-most start.args.digits.now 0),
+          (arith, at-byte-in.byte-in.ensures, byte_at_most start.args.digits.now 0),
     )
 
 returns-4 : tie.Need-returns-4
-unfolding afterDigits
+unfolding after_digits
 returns-4 c =
     let at-sum-of = c.before in
     let at-if3 = at-sum-of.before in
@@ -92,7 +92,7 @@ take-record-requires : tie.Need-take-record-requires
 take-record-requires c κs = search rules
 
 returns-5 : tie.Need-returns-5
-unfolding afterDigits
+unfolding after_digits
 returns-5 c =
     let at-if4 = c.before.before in
     let at-sum-of = at-if4.before in

@@ -2,7 +2,7 @@
 use native.Mathlib.Omega.{arith}
 use mathlib.Core.Path.{◌∙◌}
 use Rattle.hex.proofs.LineLaws.{to_end}
-use Rattle.hex.proofs.StepLaws.{empty-line, after-end, no-colon, colon}
+use Rattle.hex.proofs.StepLaws.{empty_line, after_end_lem, no_colon, colon}
 use borrow.Author.Rules.{rules}
 use Rattle.hex.proofs.take.take_line.Statement.{statement}
 use Rattle.hex.proofs.take.take_line.Tie as tie
@@ -10,14 +10,14 @@ use Rattle.hex.proofs.take.take_line.Tie as tie
 returns : tie.Need-returns
 returns c =
     let args = c.before.before.args in
-    empty-line args.first args.ended args.memory.now args.line.now c.if1.true
+    empty_line args.first args.ended args.memory.now args.line.now c.if1.true
 
 returns-2 : tie.Need-returns-2
 returns-2 c =
     let at-if1 = c.before in
     let start = at-if1.before.before in
     let args = start.args in
-    rw c.if2.true (after-end args.first args.memory.now args.line.now at-if1.if1.false)
+    rw c.if2.true (after_end_lem args.first args.memory.now args.line.now at-if1.if1.false)
 
 shared-slice-read-if3 : tie.Need-shared-slice-read-if3
 shared-slice-read-if3 c = search rules
@@ -29,7 +29,7 @@ returns-3 c =
     let start = at-if1.before.before in
     let args = start.args in
     rw at-if2.if2.false
-    (no-colon args.first args.memory.now args.line.now at-if1.if1.false c.if3.true)
+    (no_colon args.first args.memory.now args.line.now at-if1.if1.false c.if3.true)
 
 sub-take-digits : tie.Need-overflow-sub-take-digits
 sub-take-digits c = search rules

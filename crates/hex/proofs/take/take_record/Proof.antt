@@ -1,7 +1,7 @@
 -- `take::take_record` meets its contract: by the type.
 use mathlib.Core.Path.{sym, ◌∙◌}
 use borrow.Author.Tests.{ne_eqb}
-use Rattle.hex.specs.Take.{afterRecord}
+use Rattle.hex.specs.Take.{after_record}
 use borrow.Author.Rules.{rules}
 use Rattle.hex.proofs.take.take_record.Statement.{statement}
 use Rattle.hex.proofs.take.take_record.Tie as tie
@@ -13,7 +13,7 @@ place-data-requires : tie.Need-place-data-requires
 place-data-requires c κs = search rules
 
 returns : tie.Need-returns
-unfolding afterRecord
+unfolding after_record
 returns c =
     let at-if1 = c.before.before in
     let at-byte-in = at-if1.before in
@@ -22,7 +22,7 @@ returns c =
     rw (is, ← start.requires.1) c.place-data.ensures
 
 returns-2 : tie.Need-returns-2
-unfolding afterRecord
+unfolding after_record
 returns-2 c =
     let at-if2 = c.before in
     let at-byte-in = at-if2.before.before in
@@ -31,7 +31,7 @@ returns-2 c =
     rw (is, ← start.requires.1, ne_eqb _ _ c.if3.true)
 
 returns-3 : tie.Need-returns-3
-unfolding afterRecord
+unfolding after_record
 returns-3 c =
     let at-if2 = c.before in
     let at-byte-in = at-if2.before.before in
@@ -43,7 +43,7 @@ take-base-requires : tie.Need-take-base-requires
 take-base-requires c κs = search rules
 
 returns-4 : tie.Need-returns-4
-unfolding afterRecord
+unfolding after_record
 returns-4 c =
     let at-if4 = c.before in
     let at-byte-in = at-if4.before.before.before in
@@ -55,7 +55,7 @@ take-base-requires-2 : tie.Need-take-base-requires-2
 take-base-requires-2 c κs = search rules
 
 returns-5 : tie.Need-returns-5
-unfolding afterRecord
+unfolding after_record
 returns-5 c =
     let at-if5 = c.before in
     let at-byte-in = at-if5.before.before.before.before in
@@ -64,7 +64,7 @@ returns-5 c =
     rw is (c.take-base2.ensures start.args.memory.now)
 
 returns-6 : tie.Need-returns-6
-unfolding afterRecord
+unfolding after_record
 returns-6 c =
     let at-if4 = c.before in
     let at-if2 = at-if4.before in

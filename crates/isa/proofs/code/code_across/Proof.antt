@@ -3,7 +3,7 @@ use borrow.Author.Rules.{rules}
 use Prim.Native.Nat.{ℕ, ◌<◌}
 use mathlib.Core.Path.{◌≡◌, sym, ◌∙◌}
 use mathlib.Core.List.{◌++◌}
-use Rattle.isa.specs.Rom.{Halves, romAt, operand_at}
+use Rattle.isa.specs.Rom.{Halves, rom_at, operand_at}
 use Rattle.isa.specs.declared.rom.RomByte.{RomByte}
 use Rattle.isa.specs.declared.rom.RomByte.TheVariants.{Byte}
 use Rattle.isa.specs.Table.{bytes_of, Timings}
@@ -15,11 +15,11 @@ use Rattle.isa.proofs.code.code_across.Tie as tie
 abbrev start : tie.After-opcode → tie.Start
 start c = c.before.before.before.before.before
 
-abbrev opcode-before : tie.After-first → tie.After-opcode
-opcode-before c = c.before.before.before.before.before
+abbrev opcode_before : tie.After-first → tie.After-opcode
+opcode_before c = c.before.before.before.before.before
 
-abbrev first-before : tie.After-second → tie.After-first
-first-before c = c.before.before.before.before
+abbrev first_before : tie.After-second → tie.After-first
+first_before c = c.before.before.before.before
 
 -- the table is the map's; page and fixed half are halves
 abbrev Map : tie.After-opcode → Type 0
@@ -37,25 +37,25 @@ operand c offset =
     operand_at ((start c).args.page.now ++ (start c).args.fixed.now) (start c).args.address offset
     (bytes_of (entry_of c.opcode.given.0.0))
 
-opcode-is : (c : tie.After-opcode) → Parts c → Low c
-    → romAt ((start c).args.page.now ++ (start c).args.fixed.now) (start c).args.address
+opcode_is : (c : tie.After-opcode) → Parts c → Low c
+    → rom_at ((start c).args.page.now ++ (start c).args.fixed.now) (start c).args.address
     ≡ Byte c.opcode.given.0.0
-opcode-is c h low = sym (c.before.before.rom-byte.ensures h low) ∙ c.opcode.given.1
+opcode_is c h low = sym (c.before.before.rom-byte.ensures h low) ∙ c.opcode.given.1
 
-length-is : (c : tie.After-timing-of) → Map c.before.before
+length_is : (c : tie.After-timing-of) → Map c.before.before
     → c.timing-of.result.length ≡ bytes_of (entry_of c.before.before.opcode.given.0.0)
-length-is c map = c.timing-of.ensures.0 ∙ map.lengths _ (search rules)
+length_is c map = c.timing-of.ensures.0 ∙ map.lengths _ (search rules)
 
-first-is : (c : tie.After-first) → Parts (opcode-before c) → Map (opcode-before c)
-    → operand (opcode-before c) 1 ≡ Byte c.first.given.0.0
-first-is c h map =
-    rw (← length-is c.before.before.before map)
+first_is : (c : tie.After-first) → Parts (opcode_before c) → Map (opcode_before c)
+    → operand (opcode_before c) 1 ≡ Byte c.first.given.0.0
+first_is c h map =
+    rw (← length_is c.before.before.before map)
     (sym (c.before.before.operand-byte.ensures h) ∙ c.first.given.1)
 
-second_is : (c : tie.After-second) → Parts (opcode-before (first-before c)) → Map (opcode-before (first-before c))
-    → operand (opcode-before (first-before c)) 2 ≡ Byte c.second.given.0.0
+second_is : (c : tie.After-second) → Parts (opcode_before (first_before c)) → Map (opcode_before (first_before c))
+    → operand (opcode_before (first_before c)) 2 ≡ Byte c.second.given.0.0
 second_is c h map =
-    rw (← length-is (first-before c).before.before.before map)
+    rw (← length_is (first_before c).before.before.before map)
     (sym (c.before.before.operand-byte2.ensures h) ∙ c.second.given.1)
 
 rom-byte-requires : tie.Need-rom-byte-requires
@@ -90,8 +90,8 @@ returns-2 : tie.Need-returns-2
 returns-2 c h low map =
     let timing = c.before.before.before in
     rw (
-      opcode-is timing.before.before h low,
-      ← length-is timing map,
+      opcode_is timing.before.before h low,
+      ← length_is timing map,
       ← c.before.before.operand-byte.ensures h,
       c.enum-told2.given.1,
     )
@@ -109,9 +109,9 @@ returns-3 : tie.Need-returns-3
 returns-3 c h low map =
     let first = c.before.before.before.before in
     rw (
-      opcode-is (opcode-before first) h low,
-      first-is first h map,
-      ← length-is first.before.before.before map,
+      opcode_is (opcode_before first) h low,
+      first_is first h map,
+      ← length_is first.before.before.before map,
       ← c.before.before.operand-byte2.ensures h,
       c.enum-told3.given.1,
     )
@@ -119,8 +119,8 @@ returns-3 c h low map =
 returns-4 : tie.Need-returns-4
 returns-4 c h low map =
     let second = c.before in
-    let first = first-before second in
-    rw (opcode-is (opcode-before first) h low, first-is first h map, second_is second h map)
+    let first = first_before second in
+    rw (opcode_is (opcode_before first) h low, first_is first h map, second_is second h map)
 
 pub code-across-spec : {M : Type 1} → statement M
 code-across-spec =

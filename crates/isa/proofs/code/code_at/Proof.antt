@@ -4,8 +4,8 @@ use mathlib.Core.List.{◌++◌}
 use Prim.Native.Nat.{◌+◌, ◌%◌, ◌≤◌}
 use lib.ListN.{length}
 use Rattle.isa.specs.Rom.{half_of}
-use Rattle.isa.proofs.Halves.{rom-in, rom-on}
-use Rattle.isa.proofs.ThreeBytes.{read-three}
+use Rattle.isa.proofs.Halves.{rom_in_lem, rom_on}
+use Rattle.isa.proofs.ThreeBytes.{read_three}
 use borrow.Author.Rules.{rules}
 use Rattle.isa.proofs.code.code_at.Statement.{statement}
 use Rattle.isa.proofs.code.code_at.Tie as tie
@@ -46,10 +46,10 @@ returns-2 c h low map =
     let a = start.args.address in
     let fits : a % 2048 + 3 ≤ length (half_of page fixed a) = rw part.ensures at c.before.before.before.if1.false in
     rw part.ensures
-    (read-three (page ++ fixed) a _ _ _
-    (rom-in page fixed h a low (omega arith))
-    (rom-on page fixed h a 1 low (omega arith) (omega arith))
-    (rom-on page fixed h a 2 low (omega arith) (omega arith)))
+    (read_three (page ++ fixed) a _ _ _
+    (rom_in_lem page fixed h a low (omega arith))
+    (rom_on page fixed h a 1 low (omega arith) (omega arith))
+    (rom_on page fixed h a 2 low (omega arith) (omega arith)))
 
 pub code-at-spec : {M : Type 1} → statement M
 code-at-spec =

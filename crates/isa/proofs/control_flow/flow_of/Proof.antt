@@ -4,7 +4,7 @@ use mathlib.Core.Path.{sym}
 use borrow.Author.Rules.{rules}
 use Rattle.isa.specs.declared.Flow.TheVariants as flow
 use Rattle.isa.specs.ControlFlow.{flow_of}
-use Rattle.isa.proofs.GoesOn.{goes_on}
+use Rattle.isa.proofs.GoesOn.{goes_on_lem}
 use Rattle.isa.proofs.control_flow.flow_of.Statement.{statement}
 use Rattle.isa.proofs.control_flow.flow_of.Tie as tie
 
@@ -111,7 +111,7 @@ unfolding flow_of
 returns-12 c = rw c.enum-told4.given.1
 
 returns-13 : tie.Need-returns-13
-returns-13 c = sym (goes_on _ _ c.match.keys13)
+returns-13 c = sym (goes_on_lem _ _ c.match.keys13)
 
 pub flow-of-spec : {M : Type 1} → statement M
 flow-of-spec =

@@ -3,7 +3,7 @@ use borrow.Author.Rules.{rules}
 use mathlib.Core.Path.{◌∙◌, ap}
 use mir.Syntax.{w8}
 use mir.Val.{SFits}
-use Rattle.isa.specs.Encode.{encodeOf, shortJump, bitJump}
+use Rattle.isa.specs.Encode.{encode_of, short_jump, bit_jump}
 use Rattle.isa.proofs.Finite.{kept}
 use Rattle.isa.proofs.encode.encode.Statement.{statement}
 use Rattle.isa.proofs.encode.encode.Tie as tie
@@ -171,137 +171,137 @@ enum-told-6 : tie.Need-enum-told-6
 enum-told-6 c = search rules
 
 returns : tie.Need-returns
-unfolding encodeOf
+unfolding encode_of
 returns c =
     let fits : SFits w8 c.before.before.instruction.given.0.0 = search rules in
-    rw c.before.before.instruction.given.1 (c.short-jump.ensures ∙ ap (shortJump 0) (kept fits))
+    rw c.before.before.instruction.given.1 (c.short-jump.ensures ∙ ap (short_jump 0) (kept fits))
 
 returns-2 : tie.Need-returns-2
-unfolding encodeOf
+unfolding encode_of
 returns-2 c =
     let fits : SFits w8 c.before.before.instruction2.given.0.0 = search rules in
-    rw c.before.before.instruction2.given.1 (c.short-jump2.ensures ∙ ap (shortJump 2) (kept fits))
+    rw c.before.before.instruction2.given.1 (c.short-jump2.ensures ∙ ap (short_jump 2) (kept fits))
 
 returns-3 : tie.Need-returns-3
-unfolding encodeOf
+unfolding encode_of
 returns-3 c =
     let fits : SFits w8 c.before.before.instruction3.given.0.0 = search rules in
-    rw c.before.before.instruction3.given.1 (c.short-jump3.ensures ∙ ap (shortJump 4) (kept fits))
+    rw c.before.before.instruction3.given.1 (c.short-jump3.ensures ∙ ap (short_jump 4) (kept fits))
 
 returns-4 : tie.Need-returns-4
-unfolding encodeOf
+unfolding encode_of
 returns-4 c =
     let fits : SFits w8 c.before.before.instruction4.given.0.0 = search rules in
-    rw c.before.before.instruction4.given.1 (c.short-jump4.ensures ∙ ap (shortJump 6) (kept fits))
+    rw c.before.before.instruction4.given.1 (c.short-jump4.ensures ∙ ap (short_jump 6) (kept fits))
 
 returns-5 : tie.Need-returns-5
-unfolding encodeOf
+unfolding encode_of
 returns-5 c = rw c.before.before.instruction5.given.1 c.extended-jump.ensures
 
 returns-6 : tie.Need-returns-6
-unfolding encodeOf
+unfolding encode_of
 returns-6 c = rw c.before.before.instruction6.given.1 c.extended-jump2.ensures
 
 returns-7 : tie.Need-returns-7
-unfolding encodeOf
+unfolding encode_of
 returns-7 c =
     let jump = c.before.before.instruction7.given in
     let fits : SFits w8 jump.0.1.1.0 = search rules in
-    rw jump.1 (c.bit-jump.ensures ∙ ap (bitJump 3 jump.0.0 jump.0.1.0) (kept fits))
+    rw jump.1 (c.bit-jump.ensures ∙ ap (bit_jump 3 jump.0.0 jump.0.1.0) (kept fits))
 
 returns-8 : tie.Need-returns-8
-unfolding encodeOf
+unfolding encode_of
 returns-8 c =
     let jump = c.before.before.instruction8.given in
     let fits : SFits w8 jump.0.1.1.0 = search rules in
-    rw jump.1 (c.bit-jump2.ensures ∙ ap (bitJump 19 jump.0.0 jump.0.1.0) (kept fits))
+    rw jump.1 (c.bit-jump2.ensures ∙ ap (bit_jump 19 jump.0.0 jump.0.1.0) (kept fits))
 
 returns-9 : tie.Need-returns-9
-unfolding encodeOf
+unfolding encode_of
 returns-9 c = rw c.before.before.instruction9.given.1 c.bit-direct.ensures
 
 returns-10 : tie.Need-returns-10
-unfolding encodeOf
+unfolding encode_of
 returns-10 c = rw c.before.before.instruction10.given.1 c.bit-direct2.ensures
 
 returns-11 : tie.Need-returns-11
-unfolding encodeOf
+unfolding encode_of
 returns-11 c = rw c.before.before.instruction11.given.1 c.on-short.ensures
 
 returns-12 : tie.Need-returns-12
-unfolding encodeOf
+unfolding encode_of
 returns-12 c = rw c.before.before.instruction12.given.1 c.on-short2.ensures
 
 returns-13 : tie.Need-returns-13
-unfolding encodeOf
+unfolding encode_of
 returns-13 c = rw c.before.before.instruction13.given.1 c.with_byte.ensures
 
 returns-14 : tie.Need-returns-14
-unfolding encodeOf
+unfolding encode_of
 returns-14 c = rw c.before.before.instruction14.given.1 c.with-bytes.ensures
 
 returns-15 : tie.Need-returns-15
-unfolding encodeOf
+unfolding encode_of
 returns-15 c = rw c.before.before.instruction15.given.1 c.on-short3.ensures
 
 returns-16 : tie.Need-returns-16
-unfolding encodeOf
+unfolding encode_of
 returns-16 c = rw c.before.before.instruction16.given.1 c.on-short4.ensures
 
 returns-17 : tie.Need-returns-17
-unfolding encodeOf
+unfolding encode_of
 returns-17 c = rw c.before.before.instruction17.given.1 c.on-data.ensures
 
 returns-18 : tie.Need-returns-18
-unfolding encodeOf
+unfolding encode_of
 returns-18 c = rw c.before.before.instruction18.given.1 c.with-byte2.ensures
 
 returns-19 : tie.Need-returns-19
-unfolding encodeOf
+unfolding encode_of
 returns-19 c = rw c.before.before.instruction19.given.1 c.on-data2.ensures
 
 returns-20 : tie.Need-returns-20
-unfolding encodeOf
+unfolding encode_of
 returns-20 c = rw c.before.before.instruction20.given.1 c.with-byte3.ensures
 
 returns-21 : tie.Need-returns-21
-unfolding encodeOf
+unfolding encode_of
 returns-21 c = rw c.before.before.instruction21.given.1 c.on-data3.ensures
 
 returns-22 : tie.Need-returns-22
-unfolding encodeOf
+unfolding encode_of
 returns-22 c = rw c.before.before.instruction22.given.1 c.with-byte4.ensures
 
 returns-23 : tie.Need-returns-23
-unfolding encodeOf
+unfolding encode_of
 returns-23 c = rw c.before.before.instruction23.given.1 c.on-data4.ensures
 
 returns-24 : tie.Need-returns-24
-unfolding encodeOf
+unfolding encode_of
 returns-24 c = rw c.before.before.instruction24.given.1 c.with-byte5.ensures
 
 returns-25 : tie.Need-returns-25
-unfolding encodeOf
+unfolding encode_of
 returns-25 c = rw c.enum_told.given.1
 
 returns-26 : tie.Need-returns-26
-unfolding encodeOf
+unfolding encode_of
 returns-26 c = rw c.enum-told2.given.1
 
 returns-27 : tie.Need-returns-27
-unfolding encodeOf
+unfolding encode_of
 returns-27 c = rw c.enum-told3.given.1
 
 returns-28 : tie.Need-returns-28
-unfolding encodeOf
+unfolding encode_of
 returns-28 c = rw c.enum-told4.given.1
 
 returns-29 : tie.Need-returns-29
-unfolding encodeOf
+unfolding encode_of
 returns-29 c = rw c.enum-told5.given.1
 
 returns-30 : tie.Need-returns-30
-unfolding encodeOf
+unfolding encode_of
 returns-30 c = rw c.enum-told6.given.1
 
 pub encode-spec : {M : Type 1} → statement M

@@ -3,8 +3,8 @@ use borrow.Author.Rules.{rules}
 use mathlib.Core.Path.{◌∙◌, ap}
 use native.Mathlib.Omega.{arith}
 use Rattle.isa.specs.Displacement.{modulo}
-use Rattle.isa.specs.Encode.{inField}
-use Rattle.isa.proofs.Finite.{boundedOfSigned, kept}
+use Rattle.isa.specs.Encode.{in_field}
+use Rattle.isa.proofs.Finite.{bounded_of_signed, kept}
 use Rattle.isa.proofs.encode.short_jump.Statement.{statement}
 use Rattle.isa.proofs.encode.short_jump.Tie as tie
 
@@ -18,7 +18,7 @@ mul-t6 : tie.Need-overflow-mul-t6
 mul-t6 c = omega (
   arith,
   c.short-field.ensures ∙ ap (modulo 32) (kept c.before.before.before.ranges.displacement),
-  boundedOfSigned (modulo 32) 32 tt c.before.before.before.args.displacement
+  bounded_of_signed (modulo 32) 32 tt c.before.before.before.args.displacement
       c.before.before.before.ranges.displacement,
 )
 
@@ -26,7 +26,7 @@ add-t7 : tie.Need-overflow-add-t7
 add-t7 c = omega (
   arith,
   c.short-field.ensures ∙ ap (modulo 32) (kept c.before.before.before.ranges.displacement),
-  boundedOfSigned (modulo 32) 32 tt c.before.before.before.args.displacement
+  bounded_of_signed (modulo 32) 32 tt c.before.before.before.args.displacement
       c.before.before.before.ranges.displacement,
 )
 
@@ -34,14 +34,14 @@ returns : tie.Need-returns
 returns c = rw (
   c.short-field.ensures,
   kept c.before.before.before.ranges.displacement,
-  ← ap (inField 5) (kept c.before.before.before.ranges.displacement),
+  ← ap (in_field 5) (kept c.before.before.before.ranges.displacement),
   ← c.before.before.is-short.ensures,
   c.before.if1.true,
 )
 
 returns-2 : tie.Need-returns-2
 returns-2 c =
-    rw (← ap (inField 5) (kept c.before.before.ranges.displacement), ← c.before.is-short.ensures, c.if1.false)
+    rw (← ap (in_field 5) (kept c.before.before.ranges.displacement), ← c.before.is-short.ensures, c.if1.false)
 
 pub short-jump-spec : {M : Type 1} → statement M
 short-jump-spec =

@@ -7,10 +7,10 @@ use Prim.Native.Nat.{◌%◌}
 use native.Mathlib.Omega.{arith}
 use mir.Syntax.{w8}
 use mir.Val.{SFits}
-use Rattle.isa.specs.Map.{form_of, formAs, entry_of}
+use Rattle.isa.specs.Map.{form_of, form_as, entry_of}
 use Rattle.isa.specs.ControlFlow.{flow_of}
 use Rattle.isa.proofs.Finite.{kept}
-use Rattle.isa.proofs.PlainColumns.{by-digit}
+use Rattle.isa.proofs.PlainColumns.{by_digit}
 use Rattle.isa.proofs.flow_at.flow_as.Statement.{statement}
 use Rattle.isa.proofs.flow_at.flow_as.Tie as tie
 
@@ -51,7 +51,7 @@ column-d-requires : tie.Need-column-d-requires
 column-d-requires c κs = search rules
 
 returns : tie.Need-returns
-unfolding form_of formAs entry_of flow_of
+unfolding form_of form_as entry_of flow_of
 returns c =
     let fits : SFits w8 c.before.short-displacement.result = search rules in
     rw (
@@ -62,7 +62,7 @@ returns c =
     (⊎_elim (λ e. rw e) (λ e. rw e) c.before.before.match.keys1)
 
 returns-2 : tie.Need-returns-2
-unfolding form_of formAs entry_of flow_of
+unfolding form_of form_as entry_of flow_of
 returns-2 c =
     let fits : SFits w8 c.before.short-displacement2.result = search rules in
     rw (
@@ -73,7 +73,7 @@ returns-2 c =
     (⊎_elim (λ e. rw e) (λ e. rw e) c.before.before.match.keys2)
 
 returns-3 : tie.Need-returns-3
-unfolding form_of formAs entry_of flow_of
+unfolding form_of form_as entry_of flow_of
 returns-3 c =
     let fits : SFits w8 c.before.short-displacement3.result = search rules in
     rw (
@@ -84,7 +84,7 @@ returns-3 c =
     (⊎_elim (λ e. rw e) (λ e. rw e) c.before.before.match.keys3)
 
 returns-4 : tie.Need-returns-4
-unfolding form_of formAs entry_of flow_of
+unfolding form_of form_as entry_of flow_of
 returns-4 c =
     let fits : SFits w8 c.before.short-displacement4.result = search rules in
     rw (
@@ -95,11 +95,11 @@ returns-4 c =
     (⊎_elim (λ e. rw e) (λ e. rw e) c.before.before.match.keys4)
 
 returns-5 : tie.Need-returns-5
-unfolding form_of formAs entry_of flow_of
+unfolding form_of form_as entry_of flow_of
 returns-5 c = rw (c.extended-target.ensures, c.before.match.keys5)
 
 returns-6 : tie.Need-returns-6
-unfolding form_of formAs entry_of flow_of
+unfolding form_of form_as entry_of flow_of
 returns-6 c = rw (c.extended-target2.ensures, c.before.match.keys6)
 
 returns-7 : tie.Need-returns-7
@@ -110,7 +110,7 @@ returns-8 c = c.column-d.ensures _ _ _
 
 returns-9 : tie.Need-returns-9
 returns-9 c =
-    by-digit (c.before.args.opcode % 16) (omega arith) c.before.args.opcode c.before.ranges.opcode.fits refl
+    by_digit (c.before.args.opcode % 16) (omega arith) c.before.args.opcode c.before.ranges.opcode.fits refl
     c.match.rest _ _ _
 
 pub flow-as-spec : {M : Type 1} → statement M

@@ -11,9 +11,9 @@ use Rattle.isa.proofs.flow_at.flow_at.Tie as tie
 abbrev start : tie.After-opcode → tie.Start
 start c = c.before.before.before.before.before
 
-length-is : (c : tie.After-timing-of) → Timings (start c.before.before).args.table.now
+length_is : (c : tie.After-timing-of) → Timings (start c.before.before).args.table.now
     → c.timing-of.result.length ≡ bytes_of (entry_of c.before.before.opcode.given.0.0)
-length-is c map = c.timing-of.ensures.0 ∙ map.lengths _ (search rules)
+length_is c map = c.timing-of.ensures.0 ∙ map.lengths _ (search rules)
 
 code-at-requires : tie.Need-code-at-requires
 code-at-requires c κs = search rules
@@ -37,7 +37,7 @@ returns-2 c h low map =
     rw (
       ← bytes.before.before.code_at.ensures h low map,
       bytes.opcode.given.1,
-      undefined _ _ _ (sym (length-is timing map) ∙ c.if1.true),
+      undefined _ _ _ (sym (length_is timing map) ∙ c.if1.true),
     )
 
 flow-by-requires : tie.Need-flow-by-requires
@@ -50,7 +50,7 @@ returns-3 : tie.Need-returns-3
 returns-3 c h low map =
     let timing = c.before.before.before.before in
     let bytes = timing.before.before in
-    let length = length-is timing map in
+    let length = length_is timing map in
     rw (
       c.before.flow-by.ensures,
       c.forward.ensures,

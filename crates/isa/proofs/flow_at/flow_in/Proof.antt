@@ -8,7 +8,7 @@ use Rattle.isa.specs.Rom.{IsImage, space_of}
 use Rattle.isa.specs.Refusals.{Answer}
 use Rattle.isa.specs.Table.{bytes_of, Timings}
 use Rattle.isa.specs.Map.{entry_of}
-use Rattle.isa.specs.Decode.{Decoding, codeAs, decodeOf}
+use Rattle.isa.specs.Decode.{Decoding, code_as, decode_of}
 use Rattle.isa.specs.declared.code.Code.{Code}
 use Rattle.isa.proofs.Halves.{sized, halves}
 use Rattle.isa.proofs.EntryFlow.{undefined, continues}
@@ -17,8 +17,8 @@ use Rattle.isa.proofs.flow_at.flow_in.Statement.{statement}
 use Rattle.isa.proofs.flow_at.flow_in.Tie as tie
 
 -- the bytes by their case
-by_code : (a : ℕ) (code x : Code) (d : Answer Decoding) → codeAs a code ≡ d → code ≡ x → codeAs a x ≡ d
-by_code a code x d p q = rw q at p
+by_code_lem : (a : ℕ) (code x : Code) (d : Answer Decoding) → code_as a code ≡ d → code ≡ x → code_as a x ≡ d
+by_code_lem a code x d p q = rw q at p
 
 -- the start, from where the bytes are known
 abbrev start : tie.After-code-at → tie.Start
@@ -27,8 +27,8 @@ start c = c.before.before.before.before.before
 -- what decoding answers, by the bytes
 decoded : (c : tie.After-code-at) → IsImage (start c).args.image.now → (start c).args.address < 4096
     → Timings (start c).args.table.now
-    → codeAs (start c).args.address c.code_at.result
-    ≡ decodeOf (space_of (start c).args.image.now (start c).args.bank) (start c).args.address
+    → code_as (start c).args.address c.code_at.result
+    ≡ decode_of (space_of (start c).args.image.now (start c).args.bank) (start c).args.address
 unfolding space_of
 decoded c is low map =
     let page = c.before.before.page-in in
@@ -36,9 +36,9 @@ decoded c is low map =
     rw (← page.ensures, ← fixed.ensures)
     (c.code_at.ensures (rw (page.ensures, fixed.ensures) (halves _ _ is)) low map)
 
-length-is : (c : tie.After-timing-of) → Timings (start c.before.before.before.before).args.table.now
+length_is : (c : tie.After-timing-of) → Timings (start c.before.before.before.before).args.table.now
     → c.timing-of.result.length ≡ bytes_of (entry_of c.before.before.opcode.given.0.0)
-length-is c map = c.timing-of.ensures.0 ∙ map.lengths _ (search rules)
+length_is c map = c.timing-of.ensures.0 ∙ map.lengths _ (search rules)
 
 returns : tie.Need-returns
 returns c is low map = absurd (omega (arith, (sized (length c.before.before.args.image.now) is).least))
@@ -59,7 +59,7 @@ enum_told : tie.Need-enum-told
 enum_told c = search rules
 
 returns-2 : tie.Need-returns-2
-returns-2 c is low map = rw (← by_code _ _ _ _ (decoded c.before.before is low map) c.enum_told.given.1)
+returns-2 c is low map = rw (← by_code_lem _ _ _ _ (decoded c.before.before is low map) c.enum_told.given.1)
 
 timing-of-requires : tie.Need-timing-of-requires
 timing-of-requires c κs = search rules
@@ -69,8 +69,8 @@ returns-3 c is low map =
     let timing = c.before.before in
     let bytes = timing.before.before in
     rw (
-      ← by_code _ _ _ _ (decoded bytes.before.before is low map) bytes.opcode.given.1,
-      undefined _ _ _ (sym (length-is timing map) ∙ c.if2.true),
+      ← by_code_lem _ _ _ _ (decoded bytes.before.before is low map) bytes.opcode.given.1,
+      undefined _ _ _ (sym (length_is timing map) ∙ c.if2.true),
     )
 
 flow-as-requires : tie.Need-flow-as-requires
@@ -83,12 +83,12 @@ returns-4 : tie.Need-returns-4
 returns-4 c is low map =
     let timing = c.before.before.before.before in
     let bytes = timing.before.before in
-    let length = length-is timing map in
+    let length = length_is timing map in
     rw (
       c.before.flow-as.ensures,
       c.forward.ensures,
       length,
-      ← by_code _ _ _ _ (decoded bytes.before.before is low map) bytes.opcode.given.1,
+      ← by_code_lem _ _ _ _ (decoded bytes.before.before is low map) bytes.opcode.given.1,
     )
     (sym (continues _ _ _ _ (λ none. c.before.before.if2.false (length ∙ none))))
 

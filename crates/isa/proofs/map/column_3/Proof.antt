@@ -5,7 +5,7 @@ use Prim.Native.Nat.{◌/◌, ◌%◌}
 use native.Mathlib.Omega.{arith}
 use mir.Syntax.{w8}
 use mir.Val.{SFits}
-use Rattle.isa.specs.Map.{form_of, formAs, entry_of}
+use Rattle.isa.specs.Map.{form_of, form_as, entry_of}
 use Rattle.isa.proofs.Finite.{kept}
 use Rattle.isa.proofs.map.column_3.Statement.{statement}
 use Rattle.isa.proofs.map.column_3.Tie as tie
@@ -17,7 +17,7 @@ long-displacement-requires : tie.Need-long-displacement-requires
 long-displacement-requires c κs = search rules
 
 returns : tie.Need-returns
-unfolding form_of formAs entry_of
+unfolding form_of form_as entry_of
 returns c =
     let fits : SFits w8 c.before.long-displacement.result = search rules in
     rw (
@@ -29,7 +29,7 @@ returns c =
     )
 
 returns-2 : tie.Need-returns-2
-unfolding form_of formAs entry_of
+unfolding form_of form_as entry_of
 returns-2 c =
     let fits : SFits w8 c.before.long-displacement.result = search rules in
     let odd : c.before.before.before.args.opcode / 16 % 2 ≡ 1 = omega arith in

@@ -7,7 +7,7 @@ use Prim.Native.Nat.{ℕ, ◌%◌, ◌<◌}
 use types.Run.{OneOf}
 use Rattle.isa.specs.declared.Instruction.TheVariants as I
 use Rattle.isa.specs.declared.Form.TheVariants.{Is, Undefined}
-use Rattle.isa.specs.Map.{form_of, formAs, entry_of}
+use Rattle.isa.specs.Map.{form_of, form_as, entry_of}
 use Rattle.isa.proofs.Column.{rows}
 use Rattle.isa.proofs.map.column_5.Statement.{statement}
 use Rattle.isa.proofs.map.column_5.Tie as tie
@@ -17,7 +17,7 @@ abbrev Rest : ℕ → Type 0
 Rest k = (Unit × (OneOf (0x15 ∷ 0x55 ∷ 0x95 ∷ 0xD5 ∷ []) k → ⊥)) × (OneOf (0x35 ∷ 0x75 ∷ 0xB5 ∷ 0xF5 ∷ []) k → ⊥)
 
 none : (k : ℕ) → k < 256 → k % 16 ≡ 5 → Rest k → (first second : ℕ) → Undefined ≡ form_of k first second
-unfolding form_of formAs entry_of
+unfolding form_of form_as entry_of
 none = rows (λ k. Rest k → (first second : ℕ) → Undefined ≡ form_of k first second) 5
     (λ n first second. refl)
     (λ n. absurd (n.0.1 (inl refl)))
@@ -43,13 +43,13 @@ short-register-requires-2 : tie.Need-short-register-requires-2
 short-register-requires-2 c κs = search rules
 
 returns : tie.Need-returns
-unfolding form_of formAs entry_of
+unfolding form_of form_as entry_of
 returns c first second =
     ap (λ o. Is (I.Inc o)) c.short-register.ensures ∙ ⊎_elim (λ e. rw e)
     (⊎_elim (λ e. rw e) (⊎_elim (λ e. rw e) (λ e. rw e))) c.before.match.keys1
 
 returns-2 : tie.Need-returns-2
-unfolding form_of formAs entry_of
+unfolding form_of form_as entry_of
 returns-2 c first second =
     ap (λ o. Is (I.LoadA o)) c.short-register2.ensures ∙ ⊎_elim (λ e. rw e)
     (⊎_elim (λ e. rw e) (⊎_elim (λ e. rw e) (λ e. rw e))) c.before.match.keys2

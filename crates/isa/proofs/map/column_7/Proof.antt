@@ -7,7 +7,7 @@ use Prim.Native.Nat.{ℕ, ◌%◌, ◌<◌}
 use types.Run.{OneOf}
 use Rattle.isa.specs.declared.Operand.TheVariants.{ThroughX}
 use Rattle.isa.specs.declared.Form.TheVariants.{Is}
-use Rattle.isa.specs.Map.{form_of, formAs, entry_of, on_operand}
+use Rattle.isa.specs.Map.{form_of, form_as, entry_of, on_operand}
 use Rattle.isa.proofs.Column.{rows}
 use Rattle.isa.proofs.map.column_7.Statement.{statement}
 use Rattle.isa.proofs.map.column_7.Tie as tie
@@ -20,7 +20,7 @@ Rest k =
 
 through : (k : ℕ) → k < 256 → k % 16 ≡ 7 → Rest k → (first second : ℕ)
     → Is (on_operand k ThroughX) ≡ form_of k first second
-unfolding form_of formAs entry_of
+unfolding form_of form_as entry_of
 through = rows (λ k. Rest k → (first second : ℕ) → Is (on_operand k ThroughX) ≡ form_of k first second) 7
     (λ n first second. refl)
     (λ n. absurd (n.0.0.0.0.0.1 refl))
@@ -43,27 +43,27 @@ on-operand-requires : tie.Need-on-operand-requires
 on-operand-requires c κs = search rules
 
 returns : tie.Need-returns
-unfolding form_of formAs entry_of
+unfolding form_of form_as entry_of
 returns c second = rw c.match.keys1
 
 returns-2 : tie.Need-returns-2
-unfolding form_of formAs entry_of
+unfolding form_of form_as entry_of
 returns-2 c second = rw c.match.keys2
 
 returns-3 : tie.Need-returns-3
-unfolding form_of formAs entry_of
+unfolding form_of form_as entry_of
 returns-3 c second = rw c.match.keys3
 
 returns-4 : tie.Need-returns-4
-unfolding form_of formAs entry_of
+unfolding form_of form_as entry_of
 returns-4 c second = rw c.match.keys4
 
 returns-5 : tie.Need-returns-5
-unfolding form_of formAs entry_of
+unfolding form_of form_as entry_of
 returns-5 c second = rw c.match.keys5
 
 returns-6 : tie.Need-returns-6
-unfolding form_of formAs entry_of
+unfolding form_of form_as entry_of
 returns-6 c second = ⊎_elim (λ e. rw e) (⊎_elim (λ e. rw e) (λ e. rw e)) c.match.keys6
 
 returns-7 : tie.Need-returns-7

@@ -7,7 +7,7 @@ use Prim.Native.Nat.{ℕ, ◌%◌, ◌<◌}
 use types.Run.{OneOf}
 use Rattle.isa.specs.declared.Instruction.TheVariants as I
 use Rattle.isa.specs.declared.Form.TheVariants.{Is, Undefined}
-use Rattle.isa.specs.Map.{form_of, formAs, entry_of}
+use Rattle.isa.specs.Map.{form_of, form_as, entry_of}
 use Rattle.isa.proofs.Column.{rows}
 use Rattle.isa.proofs.map.column_d.Statement.{statement}
 use Rattle.isa.proofs.map.column_d.Tie as tie
@@ -20,7 +20,7 @@ Rest k =
     × (k ≡ 0xAD → ⊥)) × (k ≡ 0xCD → ⊥)) × (k ≡ 0xED → ⊥)
 
 none : (k : ℕ) → k < 256 → k % 16 ≡ 13 → Rest k → (first second : ℕ) → Undefined ≡ form_of k first second
-unfolding form_of formAs entry_of
+unfolding form_of form_as entry_of
 none = rows (λ k. Rest k → (first second : ℕ) → Undefined ≡ form_of k first second) 13
     (λ n. absurd (n.0.0.0.0.0.0.1 refl))
     (λ n. absurd (n.0.0.0.0.0.0.0.0.1 (inl refl)))
@@ -46,43 +46,43 @@ short-register-requires-2 : tie.Need-short-register-requires-2
 short-register-requires-2 c κs = search rules
 
 returns : tie.Need-returns
-unfolding form_of formAs entry_of
+unfolding form_of form_as entry_of
 returns c =
     ap (λ o. Is (I.Dec o)) c.short-register.ensures ∙ ⊎_elim (λ e. rw e)
     (⊎_elim (λ e. rw e) (⊎_elim (λ e. rw e) (λ e. rw e))) c.before.match.keys1
 
 returns-2 : tie.Need-returns-2
-unfolding form_of formAs entry_of
+unfolding form_of form_as entry_of
 returns-2 c =
     ap (λ o. Is (I.StoreA o)) c.short-register2.ensures ∙ ⊎_elim (λ e. rw e)
     (⊎_elim (λ e. rw e) (⊎_elim (λ e. rw e) (λ e. rw e))) c.before.match.keys2
 
 returns-3 : tie.Need-returns-3
-unfolding form_of formAs entry_of
+unfolding form_of form_as entry_of
 returns-3 c = rw c.match.keys3
 
 returns-4 : tie.Need-returns-4
-unfolding form_of formAs entry_of
+unfolding form_of form_as entry_of
 returns-4 c = rw c.match.keys4
 
 returns-5 : tie.Need-returns-5
-unfolding form_of formAs entry_of
+unfolding form_of form_as entry_of
 returns-5 c = rw c.match.keys5
 
 returns-6 : tie.Need-returns-6
-unfolding form_of formAs entry_of
+unfolding form_of form_as entry_of
 returns-6 c = rw c.match.keys6
 
 returns-7 : tie.Need-returns-7
-unfolding form_of formAs entry_of
+unfolding form_of form_as entry_of
 returns-7 c = rw c.match.keys7
 
 returns-8 : tie.Need-returns-8
-unfolding form_of formAs entry_of
+unfolding form_of form_as entry_of
 returns-8 c = rw c.match.keys8
 
 returns-9 : tie.Need-returns-9
-unfolding form_of formAs entry_of
+unfolding form_of form_as entry_of
 returns-9 c = rw c.match.keys9
 
 returns-10 : tie.Need-returns-10

@@ -7,7 +7,7 @@ use Prim.Native.Nat.{ℕ, ◌%◌, ◌<◌}
 use types.Run.{OneOf}
 use Rattle.isa.specs.declared.Operand.TheVariants.{Direct}
 use Rattle.isa.specs.declared.Form.TheVariants.{Is}
-use Rattle.isa.specs.Map.{form_of, formAs, entry_of, on_operand}
+use Rattle.isa.specs.Map.{form_of, form_as, entry_of, on_operand}
 use Rattle.isa.proofs.Column.{rows}
 use Rattle.isa.proofs.map.column_f.Statement.{statement}
 use Rattle.isa.proofs.map.column_f.Tie as tie
@@ -18,7 +18,7 @@ Rest k = Unit × (OneOf (0x0F ∷ 0x2F ∷ 0x4F ∷ 0x6F ∷ 0x8F ∷ 0xAF ∷ 0
 
 direct : (k : ℕ) → k < 256 → k % 16 ≡ 15 → Rest k → (first second : ℕ)
     → Is (on_operand k (Direct first)) ≡ form_of k first second
-unfolding form_of formAs entry_of
+unfolding form_of form_as entry_of
 direct = rows (λ k. Rest k → (first second : ℕ) → Is (on_operand k (Direct first)) ≡ form_of k first second) 15
     (λ n. absurd (n.1 (inl refl)))
     (λ n first second. refl)
@@ -44,7 +44,7 @@ on-operand-requires-2 : tie.Need-on-operand-requires-2
 on-operand-requires-2 c κs = search rules
 
 returns : tie.Need-returns
-unfolding form_of formAs entry_of
+unfolding form_of form_as entry_of
 returns c second =
     ap Is c.on-operand.ensures ∙ ⊎_elim (λ e. rw e) (⊎_elim (λ e. rw e) (⊎_elim (λ e. rw e) (⊎_elim (λ e. rw e)
     (⊎_elim (λ e. rw e) (⊎_elim (λ e. rw e) (⊎_elim (λ e. rw e) (λ e. rw e))))))) c.before.match.keys1

@@ -8,7 +8,7 @@ use types.Run.{OneOf}
 use native.Mathlib.Omega.{arith}
 use mir.Syntax.{w8}
 use mir.Val.{SFits}
-use Rattle.isa.specs.Map.{form_of, formAs, entry_of}
+use Rattle.isa.specs.Map.{form_of, form_as, entry_of}
 use Rattle.isa.proofs.Column.{pick16}
 use Rattle.isa.proofs.Finite.{kept}
 use Rattle.isa.proofs.map.form.Statement.{statement}
@@ -77,35 +77,35 @@ column-f-requires : tie.Need-column-f-requires
 column-f-requires c κs = last (c.before.args.opcode % 16) (omega arith) c.match.rest
 
 returns : tie.Need-returns
-unfolding form_of formAs entry_of
+unfolding form_of form_as entry_of
 returns c =
     let fits : SFits w8 c.short-displacement.result = search rules in
     rw (kept fits, c.short-displacement.ensures) (⊎_elim (λ e. rw e) (λ e. rw e) c.before.match.keys1)
 
 returns-2 : tie.Need-returns-2
-unfolding form_of formAs entry_of
+unfolding form_of form_as entry_of
 returns-2 c =
     let fits : SFits w8 c.short-displacement2.result = search rules in
     rw (kept fits, c.short-displacement2.ensures) (⊎_elim (λ e. rw e) (λ e. rw e) c.before.match.keys2)
 
 returns-3 : tie.Need-returns-3
-unfolding form_of formAs entry_of
+unfolding form_of form_as entry_of
 returns-3 c =
     let fits : SFits w8 c.short-displacement3.result = search rules in
     rw (kept fits, c.short-displacement3.ensures) (⊎_elim (λ e. rw e) (λ e. rw e) c.before.match.keys3)
 
 returns-4 : tie.Need-returns-4
-unfolding form_of formAs entry_of
+unfolding form_of form_as entry_of
 returns-4 c =
     let fits : SFits w8 c.short-displacement4.result = search rules in
     rw (kept fits, c.short-displacement4.ensures) (⊎_elim (λ e. rw e) (λ e. rw e) c.before.match.keys4)
 
 returns-5 : tie.Need-returns-5
-unfolding form_of formAs entry_of
+unfolding form_of form_as entry_of
 returns-5 c = rw (c.extended-target.ensures, c.before.match.keys5)
 
 returns-6 : tie.Need-returns-6
-unfolding form_of formAs entry_of
+unfolding form_of form_as entry_of
 returns-6 c = rw (c.extended-target2.ensures, c.before.match.keys6)
 
 returns-7 : tie.Need-returns-7

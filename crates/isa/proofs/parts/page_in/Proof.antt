@@ -3,8 +3,8 @@ use native.Mathlib.Omega.{arith}
 use Prim.Native.Nat.{◌+◌, ◌-◌, ◌*◌, ◌/◌, ◌%◌, ◌≤◌}
 use mathlib.Core.Path.{◌≡◌, sym}
 use lib.ListN.{length, length-take}
-use Rattle.isa.specs.Rom.{spacesIn}
-use Rattle.isa.proofs.Halves.{cancel, page-only, page-fits, page-picked}
+use Rattle.isa.specs.Rom.{spaces_in}
+use Rattle.isa.proofs.Halves.{cancel, page_only, page_fits, page_picked}
 use borrow.Author.Rules.{rules}
 use Rattle.isa.proofs.parts.page_in.Statement.{statement}
 use Rattle.isa.proofs.parts.page_in.Tie as tie
@@ -13,13 +13,13 @@ use Rattle.isa.proofs.parts.page_in.Tie as tie
 abbrev start : tie.Else1 → tie.Start
 start c = c.before
 
-pages : (c : tie.Else1) → (length (start c).args.image.now - 2048) / 2048 ≡ spacesIn (length (start c).args.image.now)
+pages : (c : tie.Else1) → (length (start c).args.image.now - 2048) / 2048 ≡ spaces_in (length (start c).args.image.now)
 pages c = omega arith
 
 -- the page that is picked lies before the fixed half
 fits : (c : tie.Else1) → (start c).args.bank % ((length (start c).args.image.now - 2048) / 2048) * 2048 + 2048
     ≤ length (start c).args.image.now - 2048
-fits c = rw (pages c) (page-fits (start c).args.image.now (start c).args.bank (omega arith))
+fits c = rw (pages c) (page_fits (start c).args.image.now (start c).args.bank (omega arith))
 
 sub-end : tie.Need-overflow-sub-end
 sub-end c = search rules
@@ -28,7 +28,7 @@ slice-aggregate-result : tie.Need-slice-aggregate-result
 slice-aggregate-result c = simp length-take (omega arith)
 
 returns : tie.Need-returns
-returns c = sym (page-only _ _ (omega (arith, c.before.if1.true)))
+returns c = sym (page_only _ _ (omega (arith, c.before.if1.true)))
 
 rem-start : tie.Need-nonzero-rem-start
 rem-start c = search rules
@@ -49,7 +49,7 @@ part-result-end : tie.Need-slice-bounds-result-end
 part-result-end c = omega (arith, fits c)
 
 returns-2 : tie.Need-returns-2
-returns-2 c = rw (cancel, pages c.before) (sym (page-picked _ _ (omega arith)))
+returns-2 c = rw (cancel, pages c.before) (sym (page_picked _ _ (omega arith)))
 
 pub page-in-spec : {M : Type 1} → statement M
 page-in-spec =

@@ -1,7 +1,7 @@
 -- `predecoded::predecode` meets its contract.
 use borrow.Author.Rules.{rules}
 use native.Mathlib.Omega.{arith}
-use Rattle.isa.proofs.Words.{predecoded-at}
+use Rattle.isa.proofs.Words.{predecoded_at}
 use Rattle.isa.proofs.predecoded.predecode.Statement.{statement}
 use Rattle.isa.proofs.predecoded.predecode.Tie as tie
 
@@ -18,7 +18,7 @@ add-result : tie.Need-overflow-add-result
 add-result c = search rules
 
 returns : tie.Need-returns
-returns c = rw c.before.tag.ensures.0 (predecoded-at _ _ _ _ _ c.word_of.ensures)
+returns c = rw c.before.tag.ensures.0 (predecoded_at _ _ _ _ _ c.word_of.ensures)
 
 pub predecode-spec : {M : Type 1} → statement M
 predecode-spec = tie.close (tie.spec tag-requires mul-result word-of-requires add-result returns)

@@ -5,7 +5,7 @@ use Prim.Native.Nat.{◌%◌, zero-le}
 use native.Mathlib.Omega.{arith}
 use mir.Syntax.{w8}
 use mir.Val.{SFits}
-use Rattle.isa.specs.Predecoded.{instructionByCode}
+use Rattle.isa.specs.Predecoded.{instruction_by_code}
 use Rattle.isa.proofs.Finite.{kept}
 use Rattle.isa.proofs.Words.{past}
 use Rattle.isa.proofs.predecoded.transfer_in.Statement.{statement}
@@ -45,63 +45,63 @@ long-displacement-requires-6 : tie.Need-long-displacement-requires-6
 long-displacement-requires-6 c κs = search rules
 
 returns : tie.Need-returns
-unfolding instructionByCode
+unfolding instruction_by_code
 returns c =
     let fits : SFits w8 c.long-displacement.result = search rules in
     λ h. rw (kept fits, c.long-displacement.ensures, c.before.match.keys1)
 
 returns-2 : tie.Need-returns-2
-unfolding instructionByCode
+unfolding instruction_by_code
 returns-2 c =
     let fits : SFits w8 c.long-displacement2.result = search rules in
     λ h. rw (kept fits, c.long-displacement2.ensures, c.before.match.keys2)
 
 returns-3 : tie.Need-returns-3
-unfolding instructionByCode
+unfolding instruction_by_code
 returns-3 c =
     let fits : SFits w8 c.long-displacement3.result = search rules in
     λ h. rw (kept fits, c.long-displacement3.ensures, c.before.match.keys3)
 
 returns-4 : tie.Need-returns-4
-unfolding instructionByCode
+unfolding instruction_by_code
 returns-4 c =
     let fits : SFits w8 c.long-displacement4.result = search rules in
     λ h. rw (kept fits, c.long-displacement4.ensures, c.before.match.keys4)
 
 returns-5 : tie.Need-returns-5
-unfolding instructionByCode
+unfolding instruction_by_code
 returns-5 c = λ h. rw (c.target.ensures, c.before.match.keys5)
 
 returns-6 : tie.Need-returns-6
-unfolding instructionByCode
+unfolding instruction_by_code
 returns-6 c = λ h. rw (c.target2.ensures, c.before.match.keys6)
 
 returns-7 : tie.Need-returns-7
-unfolding instructionByCode
+unfolding instruction_by_code
 returns-7 c =
     let fits : SFits w8 c.long-displacement5.result = search rules in
     λ h. rw (kept fits, c.long-displacement5.ensures, c.before.match.keys7)
 
 returns-8 : tie.Need-returns-8
-unfolding instructionByCode
+unfolding instruction_by_code
 returns-8 c =
     let fits : SFits w8 c.long-displacement6.result = search rules in
     λ h. rw (kept fits, c.long-displacement6.ensures, c.before.match.keys8)
 
 returns-9 : tie.Need-returns-9
-unfolding instructionByCode
+unfolding instruction_by_code
 returns-9 c = λ h. rw c.match.keys9
 
 returns-10 : tie.Need-returns-10
-unfolding instructionByCode
+unfolding instruction_by_code
 returns-10 c = λ h. rw c.match.keys10
 
 returns-11 : tie.Need-returns-11
-unfolding instructionByCode
+unfolding instruction_by_code
 returns-11 c = λ h. rw c.match.keys11
 
 returns-12 : tie.Need-returns-12
-unfolding instructionByCode
+unfolding instruction_by_code
 returns-12 c = λ h.
     let last : c.before.args.word % 256 ≡ 11 = omega
     (arith, past (c.before.args.word % 256) 0 11 zero-le c.match.rest, h) in

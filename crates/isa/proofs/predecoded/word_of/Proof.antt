@@ -4,9 +4,9 @@ use mathlib.Core.Path.{refl, sym, ◌∙◌}
 use Rattle.isa.specs.declared.Instruction.TheVariants as I
 use mir.Syntax.{w8}
 use mir.Val.{SFits}
-use Rattle.isa.specs.Predecoded.{instructionByCode}
+use Rattle.isa.specs.Predecoded.{instruction_by_code}
 use Rattle.isa.proofs.Finite.{kept}
-use Rattle.isa.proofs.Words.{equal, on-operand, displacement-back, target-back}
+use Rattle.isa.proofs.Words.{equal, on_operand_lem, displacement_back, target_back}
 use Rattle.isa.proofs.predecoded.word_of.Statement.{statement}
 use Rattle.isa.proofs.predecoded.word_of.Tie as tie
 
@@ -221,7 +221,7 @@ word-requires-22 : tie.Need-word-requires-22
 word-requires-22 c κs = search rules
 
 returns : tie.Need-returns
-unfolding instructionByCode
+unfolding instruction_by_code
 returns c =
     let d = c.before.before.before.instruction.given.0.0 in
     let fits : SFits w8 d = search rules in
@@ -230,11 +230,11 @@ returns c =
       c.before.before.before.instruction.given.1,
       c.before.long-byte.ensures,
       kept fits,
-      displacement-back d fits,
+      displacement_back d fits,
     ))
 
 returns-2 : tie.Need-returns-2
-unfolding instructionByCode
+unfolding instruction_by_code
 returns-2 c =
     let d = c.before.before.before.instruction2.given.0.0 in
     let fits : SFits w8 d = search rules in
@@ -243,11 +243,11 @@ returns-2 c =
       c.before.before.before.instruction2.given.1,
       c.before.long-byte2.ensures,
       kept fits,
-      displacement-back d fits,
+      displacement_back d fits,
     ))
 
 returns-3 : tie.Need-returns-3
-unfolding instructionByCode
+unfolding instruction_by_code
 returns-3 c =
     let d = c.before.before.before.instruction3.given.0.0 in
     let fits : SFits w8 d = search rules in
@@ -256,11 +256,11 @@ returns-3 c =
       c.before.before.before.instruction3.given.1,
       c.before.long-byte3.ensures,
       kept fits,
-      displacement-back d fits,
+      displacement_back d fits,
     ))
 
 returns-4 : tie.Need-returns-4
-unfolding instructionByCode
+unfolding instruction_by_code
 returns-4 c =
     let d = c.before.before.before.instruction4.given.0.0 in
     let fits : SFits w8 d = search rules in
@@ -269,19 +269,19 @@ returns-4 c =
       c.before.before.before.instruction4.given.1,
       c.before.long-byte4.ensures,
       kept fits,
-      displacement-back d fits,
+      displacement_back d fits,
     ))
 
 returns-5 : tie.Need-returns-5
-unfolding instructionByCode
-returns-5 c = equal c.word5.ensures (rw (c.before.before.instruction5.given.1, target-back _))
+unfolding instruction_by_code
+returns-5 c = equal c.word5.ensures (rw (c.before.before.instruction5.given.1, target_back _))
 
 returns-6 : tie.Need-returns-6
-unfolding instructionByCode
-returns-6 c = equal c.word6.ensures (rw (c.before.before.instruction6.given.1, target-back _))
+unfolding instruction_by_code
+returns-6 c = equal c.word6.ensures (rw (c.before.before.instruction6.given.1, target_back _))
 
 returns-7 : tie.Need-returns-7
-unfolding instructionByCode
+unfolding instruction_by_code
 returns-7 c =
     let d = c.before.before.before.instruction7.given.0.1.1.0 in
     let fits : SFits w8 d = search rules in
@@ -290,11 +290,11 @@ returns-7 c =
       c.before.before.before.instruction7.given.1,
       c.before.long-byte5.ensures,
       kept fits,
-      displacement-back d fits,
+      displacement_back d fits,
     ))
 
 returns-8 : tie.Need-returns-8
-unfolding instructionByCode
+unfolding instruction_by_code
 returns-8 c =
     let d = c.before.before.before.instruction8.given.0.1.1.0 in
     let fits : SFits w8 d = search rules in
@@ -303,118 +303,118 @@ returns-8 c =
       c.before.before.before.instruction8.given.1,
       c.before.long-byte6.ensures,
       kept fits,
-      displacement-back d fits,
+      displacement_back d fits,
     ))
 
 returns-9 : tie.Need-returns-9
-unfolding instructionByCode
+unfolding instruction_by_code
 returns-9 c = equal c.word9.ensures (rw c.before.before.instruction9.given.1)
 
 returns-10 : tie.Need-returns-10
-unfolding instructionByCode
+unfolding instruction_by_code
 returns-10 c = equal c.word10.ensures (rw c.before.before.instruction10.given.1)
 
 returns-11 : tie.Need-returns-11
-unfolding instructionByCode
+unfolding instruction_by_code
 returns-11 c =
     equal c.on.ensures
-    (on-operand 14 (λ o. I.LoadA o) (λ a. refl) (λ n. refl) refl refl _ ∙ sym
+    (on_operand_lem 14 (λ o. I.LoadA o) (λ a. refl) (λ n. refl) refl refl _ ∙ sym
     c.before.before.instruction11.given.1)
 
 returns-12 : tie.Need-returns-12
-unfolding instructionByCode
+unfolding instruction_by_code
 returns-12 c =
     equal c.on2.ensures
-    (on-operand 18 (λ o. I.StoreA o) (λ a. refl) (λ n. refl) refl refl _ ∙ sym
+    (on_operand_lem 18 (λ o. I.StoreA o) (λ a. refl) (λ n. refl) refl refl _ ∙ sym
     c.before.before.instruction12.given.1)
 
 returns-13 : tie.Need-returns-13
-unfolding instructionByCode
+unfolding instruction_by_code
 returns-13 c = equal c.word11.ensures (rw c.before.before.instruction13.given.1)
 
 returns-14 : tie.Need-returns-14
-unfolding instructionByCode
+unfolding instruction_by_code
 returns-14 c = equal c.word12.ensures (rw c.before.before.instruction14.given.1)
 
 returns-15 : tie.Need-returns-15
-unfolding instructionByCode
+unfolding instruction_by_code
 returns-15 c =
     equal c.on3.ensures
-    (on-operand 24 (λ o. I.Inc o) (λ a. refl) (λ n. refl) refl refl _ ∙ sym
+    (on_operand_lem 24 (λ o. I.Inc o) (λ a. refl) (λ n. refl) refl refl _ ∙ sym
     c.before.before.instruction15.given.1)
 
 returns-16 : tie.Need-returns-16
-unfolding instructionByCode
+unfolding instruction_by_code
 returns-16 c =
     equal c.on4.ensures
-    (on-operand 28 (λ o. I.Dec o) (λ a. refl) (λ n. refl) refl refl _ ∙ sym
+    (on_operand_lem 28 (λ o. I.Dec o) (λ a. refl) (λ n. refl) refl refl _ ∙ sym
     c.before.before.instruction16.given.1)
 
 returns-17 : tie.Need-returns-17
-unfolding instructionByCode
+unfolding instruction_by_code
 returns-17 c =
     equal c.on5.ensures
-    (on-operand 32 (λ o. I.Add o) (λ a. refl) (λ n. refl) refl refl _ ∙ sym
+    (on_operand_lem 32 (λ o. I.Add o) (λ a. refl) (λ n. refl) refl refl _ ∙ sym
     c.before.before.instruction17.given.1)
 
 returns-18 : tie.Need-returns-18
-unfolding instructionByCode
+unfolding instruction_by_code
 returns-18 c = equal c.word13.ensures (rw c.before.before.instruction18.given.1)
 
 returns-19 : tie.Need-returns-19
-unfolding instructionByCode
+unfolding instruction_by_code
 returns-19 c =
     equal c.on6.ensures
-    (on-operand 37 (λ o. I.Sub o) (λ a. refl) (λ n. refl) refl refl _ ∙ sym
+    (on_operand_lem 37 (λ o. I.Sub o) (λ a. refl) (λ n. refl) refl refl _ ∙ sym
     c.before.before.instruction19.given.1)
 
 returns-20 : tie.Need-returns-20
-unfolding instructionByCode
+unfolding instruction_by_code
 returns-20 c = equal c.word14.ensures (rw c.before.before.instruction20.given.1)
 
 returns-21 : tie.Need-returns-21
-unfolding instructionByCode
+unfolding instruction_by_code
 returns-21 c =
     equal c.on7.ensures
-    (on-operand 42 (λ o. I.And o) (λ a. refl) (λ n. refl) refl refl _ ∙ sym
+    (on_operand_lem 42 (λ o. I.And o) (λ a. refl) (λ n. refl) refl refl _ ∙ sym
     c.before.before.instruction21.given.1)
 
 returns-22 : tie.Need-returns-22
-unfolding instructionByCode
+unfolding instruction_by_code
 returns-22 c = equal c.word15.ensures (rw c.before.before.instruction22.given.1)
 
 returns-23 : tie.Need-returns-23
-unfolding instructionByCode
+unfolding instruction_by_code
 returns-23 c =
     equal c.on8.ensures
-    (on-operand 47 (λ o. I.Cp o) (λ a. refl) (λ n. refl) refl refl _ ∙ sym c.before.before.instruction23.given.1)
+    (on_operand_lem 47 (λ o. I.Cp o) (λ a. refl) (λ n. refl) refl refl _ ∙ sym c.before.before.instruction23.given.1)
 
 returns-24 : tie.Need-returns-24
-unfolding instructionByCode
+unfolding instruction_by_code
 returns-24 c = equal c.word16.ensures (rw c.before.before.instruction24.given.1)
 
 returns-25 : tie.Need-returns-25
-unfolding instructionByCode
+unfolding instruction_by_code
 returns-25 c = equal c.word17.ensures (rw c.before.enum_told.given.1)
 
 returns-26 : tie.Need-returns-26
-unfolding instructionByCode
+unfolding instruction_by_code
 returns-26 c = equal c.word18.ensures (rw c.before.enum-told2.given.1)
 
 returns-27 : tie.Need-returns-27
-unfolding instructionByCode
+unfolding instruction_by_code
 returns-27 c = equal c.word19.ensures (rw c.before.enum-told3.given.1)
 
 returns-28 : tie.Need-returns-28
-unfolding instructionByCode
+unfolding instruction_by_code
 returns-28 c = equal c.word20.ensures (rw c.before.enum-told4.given.1)
 
 returns-29 : tie.Need-returns-29
-unfolding instructionByCode
+unfolding instruction_by_code
 returns-29 c = equal c.word21.ensures (rw c.before.enum-told5.given.1)
 
 returns-30 : tie.Need-returns-30
-unfolding instructionByCode
+unfolding instruction_by_code
 returns-30 c = equal c.word22.ensures (rw c.before.enum-told6.given.1)
 
 pub word-of-spec : {M : Type 1} → statement M

@@ -3,7 +3,7 @@ use native.Mathlib.Omega.{arith}
 use native.Mathlib.Nat.{mod-one, mod-eq_of_lt}
 use mathlib.Core.Path.{◌≡◌, sym}
 use borrow.Author.Rules.{rules}
-use Rattle.isa.specs.Rom.{spacesIn}
+use Rattle.isa.specs.Rom.{spaces_in}
 use Rattle.isa.proofs.rom.page_number.Statement.{statement}
 use Rattle.isa.proofs.rom.page_number.Tie as tie
 
@@ -13,7 +13,7 @@ spaces-in-requires c κs = search rules
 returns : tie.Need-returns
 returns c is =
     let told = c.before.spaces-in.ensures is in
-    let one : spacesIn c.before.before.args.length ≡ 1 = omega (arith, told, c.if1.true) in
+    let one : spaces_in c.before.before.args.length ≡ 1 = omega (arith, told, c.if1.true) in
     rw (one, mod-one)
 
 returns-2 : tie.Need-returns-2

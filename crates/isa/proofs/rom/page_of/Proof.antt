@@ -3,7 +3,7 @@ use native.Mathlib.Omega.{arith}
 use Prim.Native.Nat.{◌-◌}
 use mathlib.Core.Path.{◌≡◌, sym, ◌∙◌}
 use lib.ListN.{length}
-use Rattle.isa.proofs.Halves.{page-only}
+use Rattle.isa.proofs.Halves.{page_only}
 use borrow.Author.Rules.{rules}
 use Rattle.isa.proofs.rom.page_of.Statement.{statement}
 use Rattle.isa.proofs.rom.page_of.Tie as tie
@@ -15,7 +15,7 @@ returns : tie.Need-returns
 returns c =
     let start = c.before.before.before in
     let none : length start.args.image.now - 2048 ≡ 0 = omega arith in
-    sym (page-only start.args.image.now start.args.bank (omega arith) ∙ rw none)
+    sym (page_only start.args.image.now start.args.bank (omega arith) ∙ rw none)
 
 page-in-requires : tie.Need-page-in-requires
 page-in-requires c κs = search rules

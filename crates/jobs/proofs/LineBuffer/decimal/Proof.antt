@@ -3,7 +3,7 @@ use Prim.Native.Nat.{◌/◌, ◌%◌}
 use native.Mathlib.Omega.{arith}
 use mathlib.Core.Path.{◌≡◌}
 use borrow.Author.Rules.{rules}
-use Rattle.jobs.proofs.Digits.{one-digit, two_digits, three-digits}
+use Rattle.jobs.proofs.Digits.{one_digit, two_digits_lem, three_digits_lem}
 use Rattle.jobs.proofs.LineLaws.{both}
 use Rattle.jobs.proofs.LineBuffer.decimal.Statement.{statement}
 use Rattle.jobs.proofs.LineBuffer.decimal.Tie as tie
@@ -18,7 +18,7 @@ returns : tie.Need-returns
 returns c =
     let n = c.before.before.before.args.number in
     let same : n % 10 ≡ n = omega (arith, c.before.if1.true) in
-    rw (one-digit n c.before.if1.true, ← same, ← c.before.before.glyph-of.ensures) c.letter.ensures
+    rw (one_digit n c.before.if1.true, ← same, ← c.before.before.glyph-of.ensures) c.letter.ensures
 
 glyph-of-requires-2 : tie.Need-glyph-of-requires-2
 glyph-of-requires-2 c κs = search rules
@@ -39,7 +39,7 @@ returns-2 c =
     let n = start.args.number in
     let same : n / 10 % 10 ≡ n / 10 = omega (arith, at-if2.if2.true) in
     rw (
-      two_digits n at-if1.if1.false at-if2.if2.true,
+      two_digits_lem n at-if1.if1.false at-if2.if2.true,
       ← same,
       ← at-glyph-of.glyph-of.ensures,
       ← at-glyph-of2.glyph-of2.ensures,
@@ -69,7 +69,7 @@ returns-3 c =
     let start = at-glyph-of.before in
     let n = start.args.number in
     rw (
-      three-digits n at-if1.if1.false at-if2.if2.false (search rules),
+      three_digits_lem n at-if1.if1.false at-if2.if2.false (search rules),
       ← at-glyph-of.glyph-of.ensures,
       ← at-glyph-of2.glyph-of2.ensures,
       ← at-glyph-of3.glyph-of3.ensures,

@@ -4,7 +4,7 @@ use mathlib.Core.Path.{◌≡◌, sym, ◌∙◌}
 use mathlib.Core.Bool.{true}
 use borrow.Author.Rules.{rules}
 use borrow.Author.Tests.{eq-eqb, ne_eqb, le-leb, lt-leb, not-true, not-false}
-use Rattle.jobs.specs.CheckJob.{isCount, job_of}
+use Rattle.jobs.specs.CheckJob.{is_count, job_of}
 use Rattle.jobs.proofs.CheckJob.{halves}
 use Rattle.jobs.proofs.check_job.check_job.Statement.{statement}
 use Rattle.jobs.proofs.check_job.check_job.Tie as tie
@@ -60,7 +60,7 @@ sub-check-parts : tie.Need-overflow-sub-check-parts
 sub-check-parts c =
     let n = c.before.before.before.count_of.result in
     let asked = c.before.before.is-count in
-    let is : isCount n ≡ true = sym asked.ensures ∙ not-false asked.result c.before.if3.false in
+    let is : is_count n ≡ true = sym asked.ensures ∙ not-false asked.result c.before.if3.false in
     omega (arith, halves n is)
 
 check-parts-requires : tie.Need-check-parts-requires
@@ -68,7 +68,7 @@ check-parts-requires c κs =
     let counted = c.before.before.before in
     let n = counted.count_of.result in
     let asked = c.before.before.is-count in
-    let is : isCount n ≡ true = sym asked.ensures ∙ not-false asked.result c.before.if3.false in
+    let is : is_count n ≡ true = sym asked.ensures ∙ not-false asked.result c.before.if3.false in
     omega (arith, halves n is, c.if4.false, counted.before.before.before.if1.false)
 
 returns-5 : tie.Need-returns-5

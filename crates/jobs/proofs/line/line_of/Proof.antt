@@ -2,7 +2,7 @@
 use native.Mathlib.Omega.{arith}
 use borrow.Author.Rules.{rules}
 use Rattle.jobs.specs.Line.{line_of}
-use Rattle.jobs.proofs.Digits.{at-most-three}
+use Rattle.jobs.proofs.Digits.{at_most_three}
 use Rattle.jobs.proofs.LineLaws.{then, both}
 use Rattle.jobs.proofs.line.line_of.Statement.{statement}
 use Rattle.jobs.proofs.line.line_of.Tie as tie
@@ -21,7 +21,7 @@ decimal-requires c κs = search rules
 
 letter-requires : tie.Need-letter-requires
 letter-requires c κs =
-    let digits = at-most-three c.before.before.before.before.checked.given.0.0 (search rules) in
+    let digits = at_most_three c.before.before.before.before.checked.given.0.0 (search rules) in
     omega (arith, digits, c.decimal.ensures.count, c.before.new.ensures.count)
 
 enum-known-checked-2 : tie.Need-enum-known-checked-2

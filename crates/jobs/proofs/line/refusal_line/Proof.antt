@@ -2,7 +2,7 @@
 use native.Mathlib.Omega.{arith}
 use borrow.Author.Rules.{rules}
 use Rattle.jobs.specs.Line.{line_of}
-use Rattle.jobs.proofs.Digits.{at-most-three}
+use Rattle.jobs.proofs.Digits.{at_most_three}
 use Rattle.jobs.proofs.LineLaws.{then, both}
 use Rattle.jobs.proofs.line.refusal_line.Statement.{statement}
 use Rattle.jobs.proofs.line.refusal_line.Tie as tie
@@ -21,7 +21,7 @@ decimal-requires c κs = search rules
 
 letter-requires : tie.Need-letter-requires
 letter-requires c κs =
-    let digits = at-most-three c.before.before.number.given.0.0 (search rules) in
+    let digits = at_most_three c.before.before.number.given.0.0 (search rules) in
     omega (arith, digits, c.decimal.ensures.count, c.before.before.before.before.new.ensures.count)
 
 enum-known-number-2 : tie.Need-enum-known-number-2
@@ -32,13 +32,13 @@ decimal-requires-2 c κs = search rules
 
 letter-requires-2 : tie.Need-letter-requires-2
 letter-requires-2 c κs =
-    let digits = at-most-three c.before.before.number2.given.0.0 (search rules) in
+    let digits = at_most_three c.before.before.number2.given.0.0 (search rules) in
     omega (arith, digits, c.decimal2.ensures.count, c.before.before.before.before.new.ensures.count)
 
 address-requires : tie.Need-address-requires
 address-requires c κs =
     let known = c.before.before.before in
-    let digits = at-most-three known.number2.given.0.0 (search rules) in
+    let digits = at_most_three known.number2.given.0.0 (search rules) in
     omega (
       arith,
       digits,
@@ -51,7 +51,7 @@ letter-requires-3 : tie.Need-letter-requires-3
 letter-requires-3 c κs =
     let numbered = c.before.before in
     let known = numbered.before.before in
-    let digits = at-most-three known.number2.given.0.0 (search rules) in
+    let digits = at_most_three known.number2.given.0.0 (search rules) in
     let begun = known.before.before.new.ensures.count in
     omega (
       arith,

@@ -5,8 +5,8 @@ use Prim.Native.Nat.{◌+◌, ◌-◌, ◌≤◌}
 use native.Mathlib.Omega.{arith}
 use mathlib.Core.Path.{◌≡◌}
 use borrow.Author.Rules.{rules}
-use Rattle.listing.specs.Pieces.{Adds, contentOf, spaces}
-use Rattle.listing.proofs.LineLaws.{space-more, full-of-spaces, same-content}
+use Rattle.listing.specs.Pieces.{Adds, content_of, spaces}
+use Rattle.listing.proofs.LineLaws.{space_more, full_of_spaces, same_content}
 use Rattle.listing.proofs.Line.spaces_to.Statement.{statement}
 use Rattle.listing.proofs.Line.spaces_to.Tie as tie
 
@@ -23,7 +23,7 @@ loop-holds : tie.Need-loop-init invariant-loop decreases-loop
 loop-holds c =
     let line = c.before.args.self in
     let none : c.length.result - c.length.result ≡ 0 = omega arith in
-    (rw none (record { content = same-content line.letters line.count (search rules) }), omega arith, omega arith)
+    (rw none (record { content = same_content line.letters line.count (search rules) }), omega arith, omega arith)
 
 letter-requires : tie.Need-letter-requires invariant-loop decreases-loop
 letter-requires c κs = search rules
@@ -38,7 +38,7 @@ loop-again : tie.Need-loop-preserved invariant-loop decreases-loop
 loop-again c =
     let loop = c.before.before.before.loop in
     let at₀ = c.before.before.before.before.length.result in
-    let more = space-more (loop.at - at₀) (loop.at + 1 - at₀) (omega arith) loop.invariant.0 c.letter.ensures in
+    let more = space_more (loop.at - at₀) (loop.at + 1 - at₀) (omega arith) loop.invariant.0 c.letter.ensures in
     (more, omega arith, omega arith)
 
 returns : tie.Need-returns invariant-loop decreases-loop
@@ -46,7 +46,7 @@ returns c =
     let loop = c.before.before.loop in
     let counted = c.before.before.before.length in
     let start = c.before.before.before.before in
-    full-of-spaces (loop.at - counted.result) (start.args.column - length (contentOf start.args.self))
+    full_of_spaces (loop.at - counted.result) (start.args.column - length (content_of start.args.self))
     (omega (arith, counted.ensures, ltb-false loop.at 128 c.if1.false))
     (omega (arith, counted.ensures, ltb-false loop.at 128 c.if1.false))
     loop.invariant.0
@@ -56,7 +56,7 @@ returns-2 c =
     let loop = c.before.loop in
     let counted = c.before.before.length in
     let start = c.before.before.before in
-    let same : start.args.column - length (contentOf start.args.self) ≡ loop.at - counted.result =
+    let same : start.args.column - length (content_of start.args.self) ≡ loop.at - counted.result =
     omega (arith, counted.ensures) in
     rw same loop.invariant.0
 

@@ -7,7 +7,7 @@ use lib.ListN.{length, take}
 use lib.Seq.{take-suc, take_all}
 use borrow.Author.Rules.{rules}
 use Rattle.listing.specs.Pieces.{Adds}
-use Rattle.listing.proofs.LineLaws.{both, same-content}
+use Rattle.listing.proofs.LineLaws.{both, same_content}
 use Rattle.listing.proofs.Line.word.Statement.{statement}
 use Rattle.listing.proofs.Line.word.Tie as tie
 
@@ -20,7 +20,7 @@ decreases-loop text line₀ i₀ line i = length text - i
 loop-holds : tie.Need-loop-init invariant-loop decreases-loop
 loop-holds c =
     let line = c.before.args.self in
-    (search rules, record { content = same-content line.letters line.count (search rules) })
+    (search rules, record { content = same_content line.letters line.count (search rules) })
 
 shared-slice-read-letter : tie.Need-shared-slice-read-letter invariant-loop decreases-loop
 shared-slice-read-letter c = search rules

@@ -4,11 +4,11 @@ use native.Mathlib.Omega.{arith}
 use mathlib.Core.Path.{◌≡◌, ap, ◌∙◌}
 use lib.ListN.{length}
 use Rattle.isa.specs.RoundTrip.{Bytes}
-use Rattle.listing.specs.AddressLine.{addressLine}
-use Rattle.listing.specs.Pages.{pageText}
+use Rattle.listing.specs.AddressLine.{address_line}
+use Rattle.listing.specs.Pages.{page_text}
 use Rattle.listing.specs.Pieces.{Holds}
-use Rattle.listing.proofs.Fits.{line-fits, page-fits}
-use Rattle.listing.proofs.LineLaws.{added-most, pads, then, whole}
+use Rattle.listing.proofs.Fits.{line_fits, page_fits}
+use Rattle.listing.proofs.LineLaws.{added_most, pads, then, whole}
 use borrow.Author.Rules.{rules}
 use Rattle.listing.proofs.address_line.address_line.Statement.{statement}
 use Rattle.listing.proofs.address_line.address_line.Tie as tie
@@ -43,7 +43,7 @@ code-requires c κs = search rules
 add-spaces-to : tie.Need-overflow-add-spaces-to
 add-spaces-to c =
     let at_length = c.before.before.before.before.before in
-    omega (arith, at_length.length.ensures, added-most at_length.before.page-text.ensures)
+    omega (arith, at_length.length.ensures, added_most at_length.before.page-text.ensures)
 
 spaces-to-requires : tie.Need-spaces-to-requires
 spaces-to-requires c κs = search rules
@@ -54,7 +54,7 @@ standing-text-requires c κs = search rules
 add-spaces-to-2 : tie.Need-overflow-add-spaces-to-2
 add-spaces-to-2 c =
     let at_length = c.before.before.before.before.before.before.before in
-    omega (arith, at_length.length.ensures, added-most at_length.before.page-text.ensures)
+    omega (arith, at_length.length.ensures, added_most at_length.before.page-text.ensures)
 
 spaces-to-requires-2 : tie.Need-spaces-to-requires-2
 spaces-to-requires-2 c κs = search rules
@@ -63,7 +63,7 @@ mark-text-requires : tie.Need-mark-text-requires
 mark-text-requires c κs = search rules
 
 returns : tie.Need-returns
-unfolding addressLine
+unfolding address_line
 returns c =
     let at-spaces = c.before.before.before in
     let at-length-of = at-spaces.before.before in
@@ -78,8 +78,8 @@ returns c =
     let bank = start.args.bank in
     let address = start.args.address in
     let paged = then at_new.new.ensures at_length.before.page-text.ensures in
-    let few = page-fits (length image) bank address in
-    let wide : at_length.length.result ≡ length (pageText (length image) bank address) =
+    let few = page_fits (length image) bank address in
+    let wide : at_length.length.result ≡ length (page_text (length image) bank address) =
     at_length.length.ensures ∙ ap length (whole paged (omega arith)) in
     let begun = then (then paged at_address.address.ensures) at-word.word.ensures in
     let coded = then begun at-spaces.before.code.ensures in
@@ -87,8 +87,8 @@ returns c =
     let text = then padded c.before.before.standing-text.ensures in
     let marked = then (pads (at_length.length.result + 33) (omega arith) text c.before.spaces-to2.ensures) c.mark-text.ensures in
     let bytes : Bytes image = λ j. (known.before.shared-slice-known.given j).fits in
-    let fits = line-fits image bytes bank certificate address in
-    let line : Holds (addressLine image bank certificate address) c.mark-text.result =
+    let fits = line_fits image bytes bank certificate address in
+    let line : Holds (address_line image bank certificate address) c.mark-text.result =
     rw (← at_new.before.decode.ensures, ← at-length-of.length-of.ensures, ← wide) marked in
     whole line (omega arith)
 

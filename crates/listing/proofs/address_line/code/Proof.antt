@@ -1,5 +1,5 @@
 -- `address_line::code` meets its contract.
-use Rattle.listing.specs.AddressLine.{codeText}
+use Rattle.listing.specs.AddressLine.{code_text}
 use Rattle.listing.proofs.LineLaws.{both}
 use borrow.Author.Rules.{rules}
 use Rattle.listing.proofs.address_line.code.Statement.{statement}
@@ -18,7 +18,7 @@ operand-text-requires-2 : tie.Need-operand-text-requires-2
 operand-text-requires-2 c κs = search rules
 
 returns : tie.Need-returns
-unfolding codeText
+unfolding code_text
 returns c =
     let at-rom-text = c.before.before in
     rw (← at-rom-text.before.rom-in.ensures)

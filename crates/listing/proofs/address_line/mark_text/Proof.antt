@@ -1,5 +1,5 @@
 -- `address_line::mark_text` meets its contract.
-use Rattle.listing.specs.AddressLine.{markText}
+use Rattle.listing.specs.AddressLine.{mark_text}
 use Rattle.listing.proofs.LineLaws.{both}
 use borrow.Author.Rules.{rules}
 use Rattle.listing.proofs.address_line.mark_text.Statement.{statement}
@@ -24,7 +24,7 @@ need-text-requires : tie.Need-need-text-requires
 need-text-requires c κs = search rules
 
 returns : tie.Need-returns
-unfolding markText
+unfolding mark_text
 returns c =
     let at_byte = c.before.before.before.before in
     let byte = both at_byte.byte.ensures c.before.before.word.ensures in

@@ -1,6 +1,6 @@
 -- `address_line::need_text` meets its contract.
 use borrow.Author.Tests.{eq-eqb, ne_eqb}
-use Rattle.listing.specs.AddressLine.{needText}
+use Rattle.listing.specs.AddressLine.{need_text}
 use Rattle.listing.proofs.LineLaws.{both, unchanged}
 use borrow.Author.Rules.{rules}
 use Rattle.listing.proofs.address_line.need_text.Statement.{statement}
@@ -10,7 +10,7 @@ kind-of-requires : tie.Need-kind-of-requires
 kind-of-requires c κs = search rules
 
 returns : tie.Need-returns
-unfolding needText
+unfolding need_text
 returns c =
     rw (← c.before.kind-of.ensures, eq-eqb _ _ c.if1.true)
     (unchanged c.before.before.before.args.line (search rules))
@@ -34,7 +34,7 @@ call-text-requires : tie.Need-call-text-requires
 call-text-requires c κs = search rules
 
 returns-2 : tie.Need-returns-2
-unfolding needText
+unfolding need_text
 returns-2 c =
     let at-need-of = c.before.before.before.before in
     let tested = at-need-of.before in

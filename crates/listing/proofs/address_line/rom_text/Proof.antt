@@ -1,5 +1,5 @@
 -- `address_line::rom_text` meets its contract.
-use Rattle.listing.specs.AddressLine.{byteText}
+use Rattle.listing.specs.AddressLine.{byte_text}
 use Rattle.listing.proofs.LineLaws.{unchanged}
 use borrow.Author.Rules.{rules}
 use Rattle.listing.proofs.address_line.rom_text.Statement.{statement}
@@ -15,11 +15,11 @@ enum_told : tie.Need-enum-told
 enum_told c = search rules
 
 returns : tie.Need-returns
-unfolding byteText
+unfolding byte_text
 returns c = rw c.before.before.byte.given.1 c.byte2.ensures
 
 returns-2 : tie.Need-returns-2
-unfolding byteText
+unfolding byte_text
 returns-2 c = rw c.enum_told.given.1 (unchanged c.before.before.args.line (search rules))
 
 pub rom-text-spec : {M : Type 1} → statement M

@@ -3,7 +3,7 @@ use native.Mathlib.Omega.{arith}
 use mathlib.Core.Path.{refl, sym}
 use Rattle.isa.specs.RoundTrip.{Bytes}
 use Rattle.listing.specs.Disassemble.{WritesText}
-use Rattle.listing.proofs.Fits.{text-fits}
+use Rattle.listing.proofs.Fits.{text_fits}
 use Rattle.listing.proofs.LineLaws.{then, whole}
 use borrow.Author.Rules.{rules}
 use Rattle.listing.proofs.disassemble.write_instruction.Statement.{statement}
@@ -41,7 +41,7 @@ returns c =
     let start = at-decode.before.before.before in
     let bytes : Bytes start.args.image.now = λ j. (at-decode.before.before.shared-slice-known.given j).fits in
     let decoded = rw known.decoded.given.1 at at-decode.decode.ensures in
-    let fits = text-fits start.args.image.now bytes start.args.bank start.args.address _ _ _ (sym decoded) in
+    let fits = text_fits start.args.image.now bytes start.args.bank start.args.address _ _ _ (sym decoded) in
     rw (← decoded) (rw (whole made (omega arith)) at at-write.write.ensures)
 
 returns-2 : tie.Need-returns-2

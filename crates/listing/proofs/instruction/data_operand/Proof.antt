@@ -1,5 +1,5 @@
 -- `instruction::data_operand` meets its contract.
-use Rattle.listing.specs.InstructionText.{operandText}
+use Rattle.listing.specs.InstructionText.{operand_text}
 use borrow.Author.Rules.{rules}
 use Rattle.listing.proofs.instruction.data_operand.Statement.{statement}
 use Rattle.listing.proofs.instruction.data_operand.Tie as tie
@@ -38,20 +38,20 @@ word-requires-2 : tie.Need-word-requires-2
 word-requires-2 c κs = search rules
 
 returns : tie.Need-returns
-unfolding operandText
+unfolding operand_text
 returns c = rw c.before.before.operand.given.1 c.data.ensures
 
 returns-2 : tie.Need-returns-2
-unfolding operandText
+unfolding operand_text
 returns-2 c =
     rw (c.before.before.before.operand2.given.1, ← c.before.register-letter.ensures) c.letter.ensures
 
 returns-3 : tie.Need-returns-3
-unfolding operandText
+unfolding operand_text
 returns-3 c = rw c.before.before.enum_told.given.1 c.word.ensures
 
 returns-4 : tie.Need-returns-4
-unfolding operandText
+unfolding operand_text
 returns-4 c = rw c.before.before.enum-told2.given.1 c.word2.ensures
 
 pub data-operand-spec : {M : Type 1} → statement M

@@ -2,9 +2,9 @@
 use mathlib.Core.Path.{◌∙◌, ap}
 use mir.Syntax.{w8}
 use mir.Val.{SFits}
-use Rattle.isa.specs.Displacement.{shortTarget, longTarget}
+use Rattle.isa.specs.Displacement.{short_target, long_target}
 use Rattle.isa.proofs.Finite.{kept}
-use Rattle.listing.specs.InstructionText.{instructionText}
+use Rattle.listing.specs.InstructionText.{instruction_text}
 use borrow.Author.Rules.{rules}
 use Rattle.listing.proofs.instruction.instruction.Statement.{statement}
 use Rattle.listing.proofs.instruction.instruction.Tie as tie
@@ -292,153 +292,153 @@ word-requires-6 : tie.Need-word-requires-6
 word-requires-6 c κs = search rules
 
 returns : tie.Need-returns
-unfolding instructionText
+unfolding instruction_text
 returns c =
     let jump = c.before.before.before.before.i.given in
     let fits : SFits w8 jump.0.0 = search rules in
     let at = c.before.before.before.before.before.before.args.at in
-    let target = c.before.short-target.ensures ∙ ap (shortTarget at) (kept fits) in
+    let target = c.before.short-target.ensures ∙ ap (short_target at) (kept fits) in
     rw jump.1 (rw target at c.jump.ensures)
 
 returns-2 : tie.Need-returns-2
-unfolding instructionText
+unfolding instruction_text
 returns-2 c =
     let jump = c.before.before.before.before.i2.given in
     let fits : SFits w8 jump.0.0 = search rules in
     let at = c.before.before.before.before.before.before.args.at in
-    let target = c.before.short-target2.ensures ∙ ap (shortTarget at) (kept fits) in
+    let target = c.before.short-target2.ensures ∙ ap (short_target at) (kept fits) in
     rw jump.1 (rw target at c.jump2.ensures)
 
 returns-3 : tie.Need-returns-3
-unfolding instructionText
+unfolding instruction_text
 returns-3 c =
     let jump = c.before.before.before.before.i3.given in
     let fits : SFits w8 jump.0.0 = search rules in
     let at = c.before.before.before.before.before.before.args.at in
-    let target = c.before.short-target3.ensures ∙ ap (shortTarget at) (kept fits) in
+    let target = c.before.short-target3.ensures ∙ ap (short_target at) (kept fits) in
     rw jump.1 (rw target at c.jump3.ensures)
 
 returns-4 : tie.Need-returns-4
-unfolding instructionText
+unfolding instruction_text
 returns-4 c =
     let jump = c.before.before.before.before.i4.given in
     let fits : SFits w8 jump.0.0 = search rules in
     let at = c.before.before.before.before.before.before.args.at in
-    let target = c.before.short-target4.ensures ∙ ap (shortTarget at) (kept fits) in
+    let target = c.before.short-target4.ensures ∙ ap (short_target at) (kept fits) in
     rw jump.1 (rw target at c.jump4.ensures)
 
 returns-5 : tie.Need-returns-5
-unfolding instructionText
+unfolding instruction_text
 returns-5 c = rw c.before.before.before.i5.given.1 c.jump5.ensures
 
 returns-6 : tie.Need-returns-6
-unfolding instructionText
+unfolding instruction_text
 returns-6 c = rw c.before.before.before.i6.given.1 c.jump6.ensures
 
 returns-7 : tie.Need-returns-7
-unfolding instructionText
+unfolding instruction_text
 returns-7 c =
     let jump = c.before.before.before.before.i7.given in
     let fits : SFits w8 jump.0.1.1.0 = search rules in
     let at = c.before.before.before.before.before.before.args.at in
-    let target = c.before.long-target.ensures ∙ ap (longTarget at) (kept fits) in
+    let target = c.before.long-target.ensures ∙ ap (long_target at) (kept fits) in
     rw jump.1 (rw target at c.bit-jump.ensures)
 
 returns-8 : tie.Need-returns-8
-unfolding instructionText
+unfolding instruction_text
 returns-8 c =
     let jump = c.before.before.before.before.i8.given in
     let fits : SFits w8 jump.0.1.1.0 = search rules in
     let at = c.before.before.before.before.before.before.args.at in
-    let target = c.before.long-target2.ensures ∙ ap (longTarget at) (kept fits) in
+    let target = c.before.long-target2.ensures ∙ ap (long_target at) (kept fits) in
     rw jump.1 (rw target at c.bit-jump2.ensures)
 
 returns-9 : tie.Need-returns-9
-unfolding instructionText
+unfolding instruction_text
 returns-9 c = rw c.before.before.before.i9.given.1 c.on_bit.ensures
 
 returns-10 : tie.Need-returns-10
-unfolding instructionText
+unfolding instruction_text
 returns-10 c = rw c.before.before.before.i10.given.1 c.on-bit2.ensures
 
 returns-11 : tie.Need-returns-11
-unfolding instructionText
+unfolding instruction_text
 returns-11 c = rw c.before.before.before.i11.given.1 c.on-operand.ensures
 
 returns-12 : tie.Need-returns-12
-unfolding instructionText
+unfolding instruction_text
 returns-12 c = rw c.before.before.i12.given.1 c.store.ensures
 
 returns-13 : tie.Need-returns-13
-unfolding instructionText
+unfolding instruction_text
 returns-13 c = rw c.before.before.before.i13.given.1 c.immediate.ensures
 
 returns-14 : tie.Need-returns-14
-unfolding instructionText
+unfolding instruction_text
 returns-14 c = rw c.before.before.i14.given.1 c.load-immediate.ensures
 
 returns-15 : tie.Need-returns-15
-unfolding instructionText
+unfolding instruction_text
 returns-15 c = rw c.before.before.before.i15.given.1 c.on-operand2.ensures
 
 returns-16 : tie.Need-returns-16
-unfolding instructionText
+unfolding instruction_text
 returns-16 c = rw c.before.before.before.i16.given.1 c.on-operand3.ensures
 
 returns-17 : tie.Need-returns-17
-unfolding instructionText
+unfolding instruction_text
 returns-17 c = rw c.before.before.before.i17.given.1 c.on-operand4.ensures
 
 returns-18 : tie.Need-returns-18
-unfolding instructionText
+unfolding instruction_text
 returns-18 c = rw c.before.before.before.i18.given.1 c.immediate2.ensures
 
 returns-19 : tie.Need-returns-19
-unfolding instructionText
+unfolding instruction_text
 returns-19 c = rw c.before.before.before.i19.given.1 c.on-operand5.ensures
 
 returns-20 : tie.Need-returns-20
-unfolding instructionText
+unfolding instruction_text
 returns-20 c = rw c.before.before.before.i20.given.1 c.immediate3.ensures
 
 returns-21 : tie.Need-returns-21
-unfolding instructionText
+unfolding instruction_text
 returns-21 c = rw c.before.before.before.i21.given.1 c.on-operand6.ensures
 
 returns-22 : tie.Need-returns-22
-unfolding instructionText
+unfolding instruction_text
 returns-22 c = rw c.before.before.before.i22.given.1 c.immediate4.ensures
 
 returns-23 : tie.Need-returns-23
-unfolding instructionText
+unfolding instruction_text
 returns-23 c = rw c.before.before.before.i23.given.1 c.on-operand7.ensures
 
 returns-24 : tie.Need-returns-24
-unfolding instructionText
+unfolding instruction_text
 returns-24 c = rw c.before.before.before.i24.given.1 c.immediate5.ensures
 
 returns-25 : tie.Need-returns-25
-unfolding instructionText
+unfolding instruction_text
 returns-25 c = rw c.before.before.enum_told.given.1 c.word.ensures
 
 returns-26 : tie.Need-returns-26
-unfolding instructionText
+unfolding instruction_text
 returns-26 c = rw c.before.before.enum-told2.given.1 c.word2.ensures
 
 returns-27 : tie.Need-returns-27
-unfolding instructionText
+unfolding instruction_text
 returns-27 c = rw c.before.before.enum-told3.given.1 c.word3.ensures
 
 returns-28 : tie.Need-returns-28
-unfolding instructionText
+unfolding instruction_text
 returns-28 c = rw c.before.before.enum-told4.given.1 c.word4.ensures
 
 returns-29 : tie.Need-returns-29
-unfolding instructionText
+unfolding instruction_text
 returns-29 c = rw c.before.before.enum-told5.given.1 c.word5.ensures
 
 returns-30 : tie.Need-returns-30
-unfolding instructionText
+unfolding instruction_text
 returns-30 c = rw c.before.before.enum-told6.given.1 c.word6.ensures
 
 pub instruction-spec : {M : Type 1} → statement M

@@ -1,6 +1,6 @@
 -- `kinds::kind_name` meets its contract.
 use borrow.Author.Tests.{eq-eqb, ne_eqb}
-use Rattle.listing.specs.Kinds.{kindName}
+use Rattle.listing.specs.Kinds.{kind_name}
 use borrow.Author.Rules.{rules}
 use Rattle.listing.proofs.kinds.kind_name.Statement.{statement}
 use Rattle.listing.proofs.kinds.kind_name.Tie as tie
@@ -12,7 +12,7 @@ word-requires : tie.Need-word-requires
 word-requires c κs = search rules
 
 returns : tie.Need-returns
-unfolding kindName
+unfolding kind_name
 returns c = rw (eq-eqb _ _ c.before.before.if1.true) c.word.ensures
 
 kind-of-requires : tie.Need-kind-of-requires
@@ -25,7 +25,7 @@ word-requires-2 : tie.Need-word-requires-2
 word-requires-2 c κs = search rules
 
 returns-2 : tie.Need-returns-2
-unfolding kindName
+unfolding kind_name
 returns-2 c =
     rw (
       ne_eqb _ _ c.before.before.before.before.if1.false,
@@ -41,7 +41,7 @@ word-requires-3 : tie.Need-word-requires-3
 word-requires-3 c κs = search rules
 
 returns-3 : tie.Need-returns-3
-unfolding kindName
+unfolding kind_name
 returns-3 c =
     rw (
       ne_eqb _ _ c.before.before.before.before.before.if1.false,
@@ -58,7 +58,7 @@ word-requires-4 : tie.Need-word-requires-4
 word-requires-4 c κs = search rules
 
 returns-4 : tie.Need-returns-4
-unfolding kindName
+unfolding kind_name
 returns-4 c =
     rw (
       ne_eqb _ _ c.before.before.before.before.before.before.if1.false,
@@ -76,7 +76,7 @@ word-requires-5 : tie.Need-word-requires-5
 word-requires-5 c κs = search rules
 
 returns-5 : tie.Need-returns-5
-unfolding kindName
+unfolding kind_name
 returns-5 c =
     rw (
       ne_eqb _ _ c.before.before.before.before.before.before.before.if1.false,
@@ -95,7 +95,7 @@ word-requires-6 : tie.Need-word-requires-6
 word-requires-6 c κs = search rules
 
 returns-6 : tie.Need-returns-6
-unfolding kindName
+unfolding kind_name
 returns-6 c =
     rw (
       ne_eqb _ _ c.before.before.before.before.before.before.before.if1.false,

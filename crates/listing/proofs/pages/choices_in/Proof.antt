@@ -1,7 +1,7 @@
 -- `pages::choices_in` meets its contract.
 use mathlib.Core.Path.{◌∙◌, sym}
 use borrow.Author.Tests.{not-true, not-false}
-use Rattle.listing.specs.Pages.{choicesIn}
+use Rattle.listing.specs.Pages.{choices_in}
 use borrow.Author.Rules.{rules}
 use Rattle.listing.proofs.pages.choices_in.Statement.{statement}
 use Rattle.listing.proofs.pages.choices_in.Tie as tie
@@ -10,7 +10,7 @@ is-image-length-requires : tie.Need-is-image-length-requires
 is-image-length-requires c κs = search rules
 
 returns : tie.Need-returns
-unfolding choicesIn
+unfolding choices_in
 returns c =
     let test = c.before.is-image-length in
     rw (← test.ensures, not-true test.result c.if1.true)
@@ -19,7 +19,7 @@ spaces-in-requires : tie.Need-spaces-in-requires
 spaces-in-requires c κs = search rules
 
 returns-2 : tie.Need-returns-2
-unfolding choicesIn
+unfolding choices_in
 returns-2 c =
     let test = c.before.before.is-image-length in
     let is = sym test.ensures ∙ not-false test.result c.before.if1.false in

@@ -3,7 +3,7 @@ use Prim.Native.Nat.{◌<◌}
 use native.Mathlib.Omega.{arith}
 use native.Mathlib.Nat.{mod-lt}
 use borrow.Author.Tests.{le-leb, lt-leb}
-use Rattle.listing.specs.Pages.{pageText}
+use Rattle.listing.specs.Pages.{page_text}
 use Rattle.listing.proofs.LineLaws.{both, unchanged}
 use borrow.Author.Rules.{rules}
 use Rattle.listing.proofs.pages.page_text.Statement.{statement}
@@ -13,13 +13,13 @@ choices-in-requires : tie.Need-choices-in-requires
 choices-in-requires c κs = search rules
 
 returns : tie.Need-returns
-unfolding pageText
+unfolding page_text
 returns c =
     rw (← c.before.choices-in.ensures, le-leb _ _ c.if1.true)
     (unchanged c.before.before.args.line (search rules))
 
 returns-2 : tie.Need-returns-2
-unfolding pageText
+unfolding page_text
 returns-2 c =
     let at-choices = c.before.before in
     rw (← at-choices.choices-in.ensures, lt-leb _ _ c.before.if1.false, le-leb _ _ c.if2.true)
@@ -41,7 +41,7 @@ letter-requires : tie.Need-letter-requires
 letter-requires c κs = search rules
 
 returns-3 : tie.Need-returns-3
-unfolding pageText
+unfolding page_text
 returns-3 c =
     let at-if2 = c.before.before in
     let at-if1 = at-if2.before in

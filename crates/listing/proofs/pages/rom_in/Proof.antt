@@ -3,8 +3,8 @@ use mathlib.Core.Path.{◌∙◌, sym}
 use borrow.Author.Tests.{not-true, not-false}
 use Rattle.isa.specs.Rom.{Halves, space_of}
 use Rattle.isa.proofs.Halves.{halves}
-use Rattle.listing.specs.Pages.{romIn}
-use Rattle.listing.proofs.PageLaws.{no-rom}
+use Rattle.listing.specs.Pages.{rom_in}
+use Rattle.listing.proofs.PageLaws.{no_rom}
 use borrow.Author.Rules.{rules}
 use Rattle.listing.proofs.pages.rom_in.Statement.{statement}
 use Rattle.listing.proofs.pages.rom_in.Tie as tie
@@ -13,13 +13,13 @@ is-image-length-requires : tie.Need-is-image-length-requires
 is-image-length-requires c κs = search rules
 
 returns : tie.Need-returns
-unfolding romIn
+unfolding rom_in
 returns c =
     let test = c.before.is-image-length in
     rw (← test.ensures, not-true test.result c.if1.true)
 
 returns-2 : tie.Need-returns-2
-returns-2 c = sym (no-rom c.before.before.before.before.args.image.now c.before.before.before.before.args.bank c.before.before.before.before.args.address c.if2.true)
+returns-2 c = sym (no_rom c.before.before.before.before.args.image.now c.before.before.before.before.args.bank c.before.before.before.before.args.address c.if2.true)
 
 page-of-requires : tie.Need-page-of-requires
 page-of-requires c κs = search rules
@@ -31,7 +31,7 @@ rom-byte-requires : tie.Need-rom-byte-requires
 rom-byte-requires c κs = search rules
 
 returns-3 : tie.Need-returns-3
-unfolding romIn space_of
+unfolding rom_in space_of
 returns-3 c =
     let at-if1 = c.before.before.before.before in
     let test = at-if1.before.is-image-length in

@@ -1,7 +1,7 @@
 use borrow.Author.Rules.{rules}
 use mathlib.Core.Path.{◌∙◌}
-use Rattle.isa.proofs.AtAddress.{in-range}
-use Rattle.isa.proofs.Halves.{is-space}
+use Rattle.isa.proofs.AtAddress.{in_range}
+use Rattle.isa.proofs.Halves.{is_space_lem}
 use Rattle.data.specs.Space.{program_of}
 use Rattle.machine.proofs.actions.at_pc.Statement.{statement}
 use Rattle.machine.proofs.actions.at_pc.Tie as tie
@@ -26,7 +26,7 @@ returns c =
     let program = program_of a.image.now a.bytes.now in
     let decoded =
     k.decode-in-range.ensures start.requires.0 start.requires.1 k.before.before.before.timings.ensures
-    ∙ in-range program _ (is-space a.image.now _ start.requires.0) start.requires.1 in
+    ∙ in_range program _ (is_space_lem a.image.now _ start.requires.0) start.requires.1 in
     rw (← decoded, c.before.reason.given.1)
 
 enum-known-instruction : tie.Need-enum-known-instruction
@@ -40,7 +40,7 @@ returns-2 c =
     let program = program_of a.image.now a.bytes.now in
     let decoded =
     k.decode-in-range.ensures start.requires.0 start.requires.1 k.before.before.before.timings.ensures
-    ∙ in-range program _ (is-space a.image.now _ start.requires.0) start.requires.1 in
+    ∙ in_range program _ (is_space_lem a.image.now _ start.requires.0) start.requires.1 in
     rw (← decoded, c.before.instruction.given.1)
 
 pub at-pc-spec : {M : Type 1} → statement M

@@ -1,5 +1,5 @@
 use borrow.Author.Rules.{rules}
-use Rattle.machine.specs.Actions.{unrequestedAction, dueOf}
+use Rattle.machine.specs.Actions.{unrequested_action, due_of}
 use Rattle.machine.proofs.actions.due.Statement.{statement}
 use Rattle.machine.proofs.actions.due.Tie as tie
 
@@ -16,7 +16,7 @@ enum_told : tie.Need-enum-told
 enum_told c = search rules
 
 returns : tie.Need-returns
-unfolding dueOf unrequestedAction
+unfolding due_of unrequested_action
 returns c =
     let k = c.before.before.before in
     λ stack flags. rw (
@@ -30,13 +30,13 @@ at-pc-requires : tie.Need-at-pc-requires
 at-pc-requires c κs = search rules
 
 returns-2 : tie.Need-returns-2
-unfolding dueOf
+unfolding due_of
 returns-2 c =
     let k = c.before.before.before in
     λ stack flags. rw (← k.before.is-enabled.ensures, ← k.requested.ensures, c.before.source.given.1)
 
 returns-3 : tie.Need-returns-3
-unfolding dueOf unrequestedAction
+unfolding due_of unrequested_action
 returns-3 c =
     let k = c.before.before.before.before in
     λ stack flags. rw (

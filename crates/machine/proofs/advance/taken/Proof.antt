@@ -1,8 +1,8 @@
 -- `advance::taken` meets its contract.
 use borrow.Author.Rules.{rules}
-use Rattle.control.proofs.Stopped.{take-stops}
+use Rattle.control.proofs.Stopped.{take_stops}
 use Rattle.machine.specs.Advance.{taken_of}
-use Rattle.machine.proofs.Stops.{taken-done, taken-full, taken-empty}
+use Rattle.machine.proofs.Stops.{taken_done, taken_full, taken_empty}
 use Rattle.machine.proofs.advance.taken.Statement.{statement}
 use Rattle.machine.proofs.advance.taken.Tie as tie
 
@@ -32,21 +32,21 @@ unfolding taken_of
 returns c = λ bytes pairs.
     (let k = c.before in
     rw (c.done.ensures bytes _ pairs _)
-    (taken-done _ _ _ _ k.before.before.before.take.ensures k.enum_told.given.1))
+    (taken_done _ _ _ _ k.before.before.before.take.ensures k.enum_told.given.1))
 
 returns-2 : tie.Need-returns-2
 unfolding taken_of
 returns-2 c = λ bytes pairs.
     (let k = c.before in
     rw (c.stopped.ensures bytes _ pairs _)
-    (taken-full _ _ _ _ k.before.before.before.take.ensures (take-stops _ _ _).kept k.enum-told2.given.1))
+    (taken_full _ _ _ _ k.before.before.before.take.ensures (take_stops _ _ _).kept k.enum-told2.given.1))
 
 returns-3 : tie.Need-returns-3
 unfolding taken_of
 returns-3 c = λ bytes pairs.
     (let k = c.before in
     rw (c.stopped2.ensures bytes _ pairs _)
-    (taken-empty _ _ _ _ k.before.before.before.take.ensures (take-stops _ _ _).kept k.enum-told3.given.1))
+    (taken_empty _ _ _ _ k.before.before.before.take.ensures (take_stops _ _ _).kept k.enum-told3.given.1))
 
 pub taken-spec : {M : Type 1} → statement M
 taken-spec =

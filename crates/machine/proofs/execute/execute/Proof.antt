@@ -3,10 +3,10 @@ use borrow.Author.Rules.{rules}
 use mathlib.Core.Path.{◌≡◌, ap, ◌∙◌}
 use Rattle.isa.specs.declared.Flow.TheVariants as flow
 use Rattle.isa.specs.ControlFlow.{flow_of}
-use Rattle.isa.proofs.GoesOn.{goes_on}
+use Rattle.isa.proofs.GoesOn.{goes_on_lem}
 use Rattle.data.specs.Effect.{data_of, effect_of}
-use Rattle.control.specs.Transfers.{advanceOf}
-use Rattle.machine.specs.Execute.{executionBy, executeOf}
+use Rattle.control.specs.Transfers.{advance_of}
+use Rattle.machine.specs.Execute.{execution_by, execute_of}
 use Rattle.machine.proofs.execute.execute.Statement.{statement}
 use Rattle.machine.proofs.execute.execute.Tie as tie
 
@@ -146,7 +146,7 @@ on-data-requires : tie.Need-on-data-requires
 on-data-requires c κs = search rules
 
 returns : tie.Need-returns
-unfolding executeOf advanceOf flow_of effect_of
+unfolding execute_of advance_of flow_of effect_of
 returns c =
     let k = c.before.before.before.before.before in
     rw (
@@ -158,7 +158,7 @@ returns c =
     (search rules)
 
 returns-2 : tie.Need-returns-2
-unfolding executeOf advanceOf flow_of effect_of
+unfolding execute_of advance_of flow_of effect_of
 returns-2 c =
     let k = c.before.before.before.before.before in
     rw (
@@ -170,7 +170,7 @@ returns-2 c =
     (search rules)
 
 returns-3 : tie.Need-returns-3
-unfolding executeOf advanceOf flow_of effect_of
+unfolding execute_of advance_of flow_of effect_of
 returns-3 c =
     let k = c.before.before.before.before in
     rw (
@@ -182,7 +182,7 @@ returns-3 c =
     (search rules)
 
 returns-4 : tie.Need-returns-4
-unfolding executeOf advanceOf flow_of effect_of
+unfolding execute_of advance_of flow_of effect_of
 returns-4 c =
     let k = c.before.before.before.before in
     rw (
@@ -194,19 +194,19 @@ returns-4 c =
     (search rules)
 
 returns-5 : tie.Need-returns-5
-unfolding executeOf advanceOf flow_of effect_of
+unfolding execute_of advance_of flow_of effect_of
 returns-5 c =
     let a = c.before.before.before.before.before.before.before.args in
-    c.transferred.ensures _ _ ∙ ap (executionBy (data_of a.bytes.now a.flags)) c.before.call.ensures
+    c.transferred.ensures _ _ ∙ ap (execution_by (data_of a.bytes.now a.flags)) c.before.call.ensures
     ∙ rw c.before.before.before.before.instruction5.given.1
 
 returns-6 : tie.Need-returns-6
-unfolding executeOf advanceOf flow_of effect_of
+unfolding execute_of advance_of flow_of effect_of
 returns-6 c =
     rw (c.goes-on5.ensures _ _, c.before.with-pc.ensures, c.before.before.before.instruction6.given.1)
 
 returns-7 : tie.Need-returns-7
-unfolding executeOf advanceOf flow_of effect_of
+unfolding execute_of advance_of flow_of effect_of
 returns-7 c =
     let k = c.before.before.before.before in
     let known = k.before.before in
@@ -220,7 +220,7 @@ returns-7 c =
     (rw known.before.instruction7.given.1 (search (rules, known.known-told7.given)))
 
 returns-8 : tie.Need-returns-8
-unfolding executeOf advanceOf flow_of effect_of
+unfolding execute_of advance_of flow_of effect_of
 returns-8 c =
     let k = c.before.before.before in
     let known = k.before.before in
@@ -234,33 +234,33 @@ returns-8 c =
     (rw known.before.instruction8.given.1 (search (rules, known.known-told8.given)))
 
 returns-9 : tie.Need-returns-9
-unfolding executeOf advanceOf flow_of effect_of
+unfolding execute_of advance_of flow_of effect_of
 returns-9 c =
     let a = c.before.before.before.before.before.before.args in
-    c.transferred2.ensures _ _ ∙ ap (executionBy (data_of a.bytes.now a.flags)) c.before.pop.ensures
+    c.transferred2.ensures _ _ ∙ ap (execution_by (data_of a.bytes.now a.flags)) c.before.pop.ensures
     ∙ rw c.before.before.before.enum_told.given.1
 
 returns-10 : tie.Need-returns-10
-unfolding executeOf advanceOf flow_of effect_of
+unfolding execute_of advance_of flow_of effect_of
 returns-10 c =
     let a = c.before.before.before.before.before.before.args in
     c.transferred3.ensures _ _
-    ∙ ap (executionBy (data_of a.bytes.now a.flags)) c.before.return-from-interrupt.ensures
+    ∙ ap (execution_by (data_of a.bytes.now a.flags)) c.before.return-from-interrupt.ensures
     ∙ rw c.before.before.before.enum-told2.given.1
 
 returns-11 : tie.Need-returns-11
-unfolding executeOf advanceOf flow_of effect_of
+unfolding execute_of advance_of flow_of effect_of
 returns-11 c = rw (c.goes-on8.ensures _ _, c.before.sleep.ensures, c.before.before.enum-told3.given.1)
 
 returns-12 : tie.Need-returns-12
-unfolding executeOf advanceOf flow_of effect_of
+unfolding execute_of advance_of flow_of effect_of
 returns-12 c = rw (c.goes-on9.ensures _ _, c.before.sleep2.ensures, c.before.before.enum-told4.given.1)
 
 returns-13 : tie.Need-returns-13
-unfolding executeOf advanceOf
+unfolding execute_of advance_of
 returns-13 c =
     let a = c.before.before.before.before.args in
-    let on : flow_of a.instruction a.c.pc ≡ flow.Next = goes_on _ _ c.before.before.match.keys13 in
+    let on : flow_of a.instruction a.c.pc ≡ flow.Next = goes_on_lem _ _ c.before.before.match.keys13 in
     rw on (c.on-data.ensures _)
 
 pub execute-spec : {M : Type 1} → statement M

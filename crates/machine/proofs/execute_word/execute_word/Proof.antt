@@ -4,10 +4,10 @@ use mathlib.Core.Path.{◌≡◌, sym, ◌∙◌}
 use borrow.Author.Tests.{ltb-true, ltb-false}
 use Rattle.isa.specs.declared.Flow.TheVariants as flow
 use Rattle.isa.specs.ControlFlow.{flow_of}
-use Rattle.isa.specs.Predecoded.{instructionOfWord}
+use Rattle.isa.specs.Predecoded.{instruction_of_word}
 use Rattle.isa.proofs.Words.{above}
-use Rattle.control.specs.Transfers.{advanceOf}
-use Rattle.machine.specs.Execute.{executeOf}
+use Rattle.control.specs.Transfers.{advance_of}
+use Rattle.machine.specs.Execute.{execute_of}
 use Rattle.machine.proofs.execute_word.execute_word.Statement.{statement}
 use Rattle.machine.proofs.execute_word.execute_word.Tie as tie
 
@@ -28,11 +28,11 @@ on-operation-requires c κs =
     (k.before.before.requires, ltb-false _ 12 (sym k.is-transfer.ensures ∙ c.before.if1.false))
 
 returns-2 : tie.Need-returns-2
-unfolding executeOf advanceOf
+unfolding execute_of advance_of
 returns-2 c =
     let k = c.before.before.before in
     let start = k.before.before in
-    let on : flow_of (instructionOfWord start.args.word) start.args.c.pc ≡ flow.Next =
+    let on : flow_of (instruction_of_word start.args.word) start.args.c.pc ≡ flow.Next =
     above _ _ _ _ _ (ltb-false _ 12 (sym k.is-transfer.ensures ∙ c.before.before.if1.false)) in
     rw on (c.on-operation.ensures _)
 

@@ -3,11 +3,11 @@ use borrow.Author.Rules.{rules}
 use mathlib.Core.Path.{ap, ◌∙◌}
 use Rattle.isa.specs.declared.Instruction.{Instruction}
 use Rattle.isa.specs.ControlFlow.{flow_of}
-use Rattle.isa.proofs.GoesOn.{goes_on}
-use Rattle.isa.proofs.Words.{isNext, below, never}
+use Rattle.isa.proofs.GoesOn.{goes_on_lem}
+use Rattle.isa.proofs.Words.{is_next, below, never}
 use Rattle.data.specs.Effect.{data_of, effect_of}
-use Rattle.control.specs.Transfers.{advanceOf}
-use Rattle.machine.specs.Execute.{executionBy, executeOf}
+use Rattle.control.specs.Transfers.{advance_of}
+use Rattle.machine.specs.Execute.{execution_by, execute_of}
 use Rattle.machine.proofs.execute_word.on_transfer.Statement.{statement}
 use Rattle.machine.proofs.execute_word.on_transfer.Tie as tie
 
@@ -126,7 +126,7 @@ goes-on-requires-4 : tie.Need-goes-on-requires-4
 goes-on-requires-4 c κs = search rules
 
 returns : tie.Need-returns
-unfolding executeOf advanceOf flow_of effect_of
+unfolding execute_of advance_of flow_of effect_of
 returns c =
     let from = c.before.before.before.before.before in
     let start = from.before.before in
@@ -134,7 +134,7 @@ returns c =
     (search rules)
 
 returns-2 : tie.Need-returns-2
-unfolding executeOf advanceOf flow_of effect_of
+unfolding execute_of advance_of flow_of effect_of
 returns-2 c =
     let from = c.before.before.before.before.before in
     let start = from.before.before in
@@ -142,7 +142,7 @@ returns-2 c =
     (search rules)
 
 returns-3 : tie.Need-returns-3
-unfolding executeOf advanceOf flow_of effect_of
+unfolding execute_of advance_of flow_of effect_of
 returns-3 c =
     let from = c.before.before.before.before in
     let start = from.before.before in
@@ -150,7 +150,7 @@ returns-3 c =
     (search rules)
 
 returns-4 : tie.Need-returns-4
-unfolding executeOf advanceOf flow_of effect_of
+unfolding execute_of advance_of flow_of effect_of
 returns-4 c =
     let from = c.before.before.before.before in
     let start = from.before.before in
@@ -158,12 +158,12 @@ returns-4 c =
     (search rules)
 
 returns-5 : tie.Need-returns-5
-unfolding executeOf advanceOf flow_of effect_of
+unfolding execute_of advance_of flow_of effect_of
 returns-5 c =
     let from = c.before.before.before.before.before.before.before in
     let start = from.before.before in
     c.transferred.ensures _ _
-    ∙ ap (executionBy (data_of start.args.bytes.now start.args.flags)) c.before.call.ensures
+    ∙ ap (execution_by (data_of start.args.bytes.now start.args.flags)) c.before.call.ensures
     ∙ rw (
       c.before.before.forward.ensures,
       ← from.transfer-in.ensures start.requires.1,
@@ -171,7 +171,7 @@ returns-5 c =
     )
 
 returns-6 : tie.Need-returns-6
-unfolding executeOf advanceOf flow_of effect_of
+unfolding execute_of advance_of flow_of effect_of
 returns-6 c =
     let from = c.before.before.before.before.before in
     let start = from.before.before in
@@ -183,7 +183,7 @@ returns-6 c =
     )
 
 returns-7 : tie.Need-returns-7
-unfolding executeOf advanceOf flow_of effect_of
+unfolding execute_of advance_of flow_of effect_of
 returns-7 c =
     let from = c.before.before.before.before.before.before in
     let start = from.before.before in
@@ -193,7 +193,7 @@ returns-7 c =
     (search (rules, told.known-told7.given)))
 
 returns-8 : tie.Need-returns-8
-unfolding executeOf advanceOf flow_of effect_of
+unfolding execute_of advance_of flow_of effect_of
 returns-8 c =
     let from = c.before.before.before.before.before in
     let start = from.before.before in
@@ -203,21 +203,21 @@ returns-8 c =
     (search (rules, told.known-told8.given)))
 
 returns-9 : tie.Need-returns-9
-unfolding executeOf advanceOf flow_of effect_of
+unfolding execute_of advance_of flow_of effect_of
 returns-9 c =
     let from = c.before.before.before.before.before in
     let start = from.before.before in
     c.transferred2.ensures _ _
-    ∙ ap (executionBy (data_of start.args.bytes.now start.args.flags)) c.before.pop.ensures
+    ∙ ap (execution_by (data_of start.args.bytes.now start.args.flags)) c.before.pop.ensures
     ∙ rw (← from.transfer-in.ensures start.requires.1, c.before.before.before.enum_told.given.1)
 
 returns-10 : tie.Need-returns-10
-unfolding executeOf advanceOf flow_of effect_of
+unfolding execute_of advance_of flow_of effect_of
 returns-10 c =
     let from = c.before.before.before.before.before.before in
     let start = from.before.before in
     c.transferred3.ensures _ _
-    ∙ ap (executionBy (data_of start.args.bytes.now start.args.flags))
+    ∙ ap (execution_by (data_of start.args.bytes.now start.args.flags))
     c.before.return-from-interrupt.ensures
     ∙ rw (
       c.before.before.forward2.ensures,
@@ -226,7 +226,7 @@ returns-10 c =
     )
 
 returns-11 : tie.Need-returns-11
-unfolding executeOf advanceOf flow_of effect_of
+unfolding execute_of advance_of flow_of effect_of
 returns-11 c =
     let from = c.before.before.before.before.before in
     let start = from.before.before in
@@ -239,7 +239,7 @@ returns-11 c =
     )
 
 returns-12 : tie.Need-returns-12
-unfolding executeOf advanceOf flow_of effect_of
+unfolding execute_of advance_of flow_of effect_of
 returns-12 c =
     let from = c.before.before.before.before.before in
     let start = from.before.before in
@@ -256,8 +256,8 @@ returns-13 c =
     let from = c.before.before in
     let start = from.before.before in
     absurd
-    (never (goes_on _ 0 c.before.match.keys13)
-    (ap (λ (i : Instruction). isNext (flow_of i 0)) (from.transfer-in.ensures start.requires.1)
+    (never (goes_on_lem _ 0 c.before.match.keys13)
+    (ap (λ (i : Instruction). is_next (flow_of i 0)) (from.transfer-in.ensures start.requires.1)
     ∙ below _ _ _ 0 _ start.requires.1))
 
 pub on-transfer-spec : {M : Type 1} → statement M

@@ -6,15 +6,15 @@ use Prim.Native.Nat.{◌%◌}
 use Rattle.isa.specs.Refusals.{done}
 use Rattle.isa.specs.Lengths.{length_of}
 use Rattle.isa.specs.Rom.{space_of}
-use Rattle.isa.specs.Decode.{decodeOf}
+use Rattle.isa.specs.Decode.{decode_of}
 use Rattle.isa.specs.Decode as decode
-use Rattle.isa.proofs.AtAddress.{in-range, in-space}
-use Rattle.isa.proofs.Halves.{is-space}
-use Rattle.isa.proofs.DecodedLength.{decoded-length}
-use Rattle.isa.proofs.CyclesFit.{cycles-fit}
+use Rattle.isa.proofs.AtAddress.{in_range, in_space}
+use Rattle.isa.proofs.Halves.{is_space_lem}
+use Rattle.isa.proofs.DecodedLength.{decoded_length}
+use Rattle.isa.proofs.CyclesFit.{cycles_fit}
 use Rattle.machine.specs.declared.Fetched.TheVariants.{Word}
-use Rattle.machine.specs.Fetch.{fetchedAs}
-use Rattle.machine.proofs.Store.{coherent-set}
+use Rattle.machine.specs.Fetch.{fetched_as}
+use Rattle.machine.proofs.Store.{coherent_set}
 use Rattle.machine.proofs.fetch.decoded.Statement.{statement}
 use Rattle.machine.proofs.fetch.decoded.Tie as tie
 
@@ -55,18 +55,18 @@ returns-2 c =
     let image = start.args.image.now in
     let space = space_of image start.args.bank in
     let d = c.before.before.instruction.given in
-    let decoded : done (decode.instruction d.0.0 d.0.1.0 d.0.1.1.0) ≡ decodeOf space
+    let decoded : done (decode.instruction d.0.0 d.0.1.0 d.0.1.1.0) ≡ decode_of space
     start.args.address =
     rw d.1 at (k.decode-in-range.ensures start.requires.1 start.requires.2 start.requires.0) in
-    let long : d.0.1.0 ≡ length_of d.0.0 = decoded-length image _ _ _ _ _
-    (in-space image _ _ start.requires.1 ∙ sym (in-range space _ (is-space image _ start.requires.1) start.requires.2)
+    let long : d.0.1.0 ≡ length_of d.0.0 = decoded_length image _ _ _ _ _
+    (in_space image _ _ start.requires.1 ∙ sym (in_range space _ (is_space_lem image _ start.requires.1) start.requires.2)
     ∙ sym decoded) in
-    let digit : d.0.1.1.0 % 16 ≡ d.0.1.1.0 = omega (arith, cycles-fit space _ _ _ _ decoded) in
+    let digit : d.0.1.1.0 % 16 ≡ d.0.1.1.0 = omega (arith, cycles_fit space _ _ _ _ decoded) in
     let made = c.predecode.ensures in
-    let whole : fetchedAs (Word c.predecode.result) ≡ decodeOf space start.args.address =
+    let whole : fetched_as (Word c.predecode.result) ≡ decode_of space start.args.address =
     rw (made.instruction, made.timed, digit, ← long) decoded in (
       whole,
-      coherent-set image start.args.store.now _ _ _ _ start.requires.3 start.requires.4 start.requires.2
+      coherent_set image start.args.store.now _ _ _ _ start.requires.3 start.requires.4 start.requires.2
           made.tagged whole,
     )
 

@@ -1,7 +1,7 @@
 -- `pairs::pair` meets its contract.
 use borrow.Author.Rules.{rules}
 use mathlib.Core.Path.{sym, ◌∙◌}
-use Rattle.machine.proofs.PairTests.{normal-is, interrupt-is, nmi-pair}
+use Rattle.machine.proofs.PairTests.{normal_is, interrupt_is, nmi_pair}
 use Rattle.machine.proofs.pairs.pair.Statement.{statement}
 use Rattle.machine.proofs.pairs.pair.Tie as tie
 
@@ -11,7 +11,7 @@ is-normal-requires c κs = search rules
 returns : tie.Need-returns
 returns c =
     let k = c.before.before in
-    rw (normal-is k.before.args.mode (sym k.is_normal.ensures ∙ c.before.if1.true))
+    rw (normal_is k.before.args.mode (sym k.is_normal.ensures ∙ c.before.if1.true))
 
 is-interrupt-requires : tie.Need-is-interrupt-requires
 is-interrupt-requires c κs = search rules
@@ -20,13 +20,13 @@ returns-2 : tie.Need-returns-2
 returns-2 c =
     let k = c.before.before in
     let start = k.before.before.before in
-    rw (interrupt-is start.args.mode (sym k.is-interrupt.ensures ∙ c.before.if2.true))
+    rw (interrupt_is start.args.mode (sym k.is-interrupt.ensures ∙ c.before.if2.true))
 
 returns-3 : tie.Need-returns-3
 returns-3 c =
     let k = c.before.before in
     let start = k.before.before.before in
-    nmi-pair start.args.pairs start.args.mode
+    nmi_pair start.args.pairs start.args.mode
     (sym k.before.before.is_normal.ensures ∙ k.before.if1.false)
     (sym k.is-interrupt.ensures ∙ c.before.if2.false)
 

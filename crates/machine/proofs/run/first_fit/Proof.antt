@@ -7,20 +7,20 @@ use native.Mathlib.Numerals.{add-one}
 use borrow.Author.Rules.{rules}
 use borrow.Author.Tests.{not-true, not-false}
 use lib.ListN.{get_or}
-use Rattle.isa.specs.Sources.{namesOnlySources}
-use Rattle.machine.specs.Steps.{requestsFit}
+use Rattle.isa.specs.Sources.{names_only_sources}
+use Rattle.machine.specs.Steps.{requests_fit}
 use Rattle.machine.proofs.StepByStep.{fits_not}
 use Rattle.machine.proofs.run.first_fit.Statement.{statement}
 use Rattle.machine.proofs.run.first_fit.Tie as tie
 
 abbrev invariant-loop : tie.invariant-loop
-invariant-loop requests n i₀ i = (i ≤ n) × (requestsFit requests i ≡ true)
+invariant-loop requests n i₀ i = (i ≤ n) × (requests_fit requests i ≡ true)
 
 abbrev decreases-loop : tie.decreases-loop
 decreases-loop requests n i₀ i = n - i
 
 loop-holds : tie.Need-loop-init invariant-loop decreases-loop
-unfolding requestsFit
+unfolding requests_fit
 loop-holds c = (search rules, refl)
 
 request-at-requires : tie.Need-request-at-requires invariant-loop decreases-loop
@@ -35,8 +35,8 @@ returns c =
     let at-loop = k.before.before.before in
     let start = at-loop.before.before in
     let named : k.names-only-sources.result
-    ≡ namesOnlySources (get_or start.args.requests.now at-loop.loop.i 0) =
-    k.names-only-sources.ensures ∙ ap namesOnlySources k.before.request-at.ensures in
+    ≡ names_only_sources (get_or start.args.requests.now at-loop.loop.i 0) =
+    k.names-only-sources.ensures ∙ ap names_only_sources k.before.request-at.ensures in
     sym (fits_not _ _ at-loop.loop.i (omega arith)
     (sym named ∙ not-true k.names-only-sources.result c.if1.true) _ refl)
 
@@ -47,14 +47,14 @@ loop-less : tie.Need-loop-smaller invariant-loop decreases-loop
 loop-less c = search rules
 
 loop-again : tie.Need-loop-preserved invariant-loop decreases-loop
-unfolding requestsFit
+unfolding requests_fit
 loop-again c =
     let k = c.before in
     let at-loop = k.before.before.before in
     let start = at-loop.before.before in
     let named : k.names-only-sources.result
-    ≡ namesOnlySources (get_or start.args.requests.now at-loop.loop.i 0) =
-    k.names-only-sources.ensures ∙ ap namesOnlySources k.before.request-at.ensures in (
+    ≡ names_only_sources (get_or start.args.requests.now at-loop.loop.i 0) =
+    k.names-only-sources.ensures ∙ ap names_only_sources k.before.request-at.ensures in (
       search rules,
       rw (add-one _, ← named, not-false k.names-only-sources.result c.if1.false) at-loop.loop.invariant.1,
     )

@@ -1,7 +1,7 @@
 -- `run_step::advance` meets its contract.
 use borrow.Author.Rules.{rules}
-use Rattle.machine.specs.Actions.{dueOf}
-use Rattle.machine.specs.Advance.{actedOf, advancedOf}
+use Rattle.machine.specs.Actions.{due_of}
+use Rattle.machine.specs.Advance.{acted_of, advanced_of}
 use Rattle.machine.proofs.run_step.advance.Statement.{statement}
 use Rattle.machine.proofs.run_step.advance.Tie as tie
 
@@ -24,7 +24,7 @@ uninterrupted-requires : tie.Need-uninterrupted-requires
 uninterrupted-requires c κs = search rules
 
 returns : tie.Need-returns
-unfolding dueOf actedOf advancedOf
+unfolding due_of acted_of advanced_of
 returns c =
     let k = c.before.before.before.before.before in (
       λ pairs. rw
@@ -37,7 +37,7 @@ same_length : tie.Need-same-length
 same_length c = search rules
 
 returns-2 : tie.Need-returns-2
-unfolding dueOf advancedOf
+unfolding due_of advanced_of
 returns-2 c =
     let u = c.before.before in
     let told = u.before.before.before.before in

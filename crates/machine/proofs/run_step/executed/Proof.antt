@@ -1,6 +1,6 @@
 -- `run_step::executed` meets its contract.
 use borrow.Author.Rules.{rules}
-use Rattle.machine.proofs.Stops.{executed-done, executed-full, executed-empty}
+use Rattle.machine.proofs.Stops.{executed_done, executed_full, executed_empty}
 use Rattle.machine.proofs.run_step.executed.Statement.{statement}
 use Rattle.machine.proofs.run_step.executed.Tie as tie
 
@@ -32,19 +32,19 @@ returns : tie.Need-returns
 returns c = λ pairs.
     (let k = c.before.before.before.before.before.before in
     rw (c.done.ensures _ _ pairs _, c.before.cycles-in.ensures)
-    (executed-done _ _ _ _ _ _ _ _ _ _ pairs _ k.execute-word.ensures c.before.before.enum_told.given.1))
+    (executed_done _ _ _ _ _ _ _ _ _ _ pairs _ k.execute-word.ensures c.before.before.enum_told.given.1))
 
 returns-2 : tie.Need-returns-2
 returns-2 c = λ pairs.
     (let k = c.before.before.before.before.before in
     rw (c.stopped.ensures _ _ pairs _)
-    (executed-full _ _ _ _ _ _ _ _ _ _ pairs _ k.execute-word.ensures c.before.enum-told2.given.1))
+    (executed_full _ _ _ _ _ _ _ _ _ _ pairs _ k.execute-word.ensures c.before.enum-told2.given.1))
 
 returns-3 : tie.Need-returns-3
 returns-3 c = λ pairs.
     (let k = c.before.before.before.before.before in
     rw (c.stopped2.ensures _ _ pairs _)
-    (executed-empty _ _ _ _ _ _ _ _ _ _ pairs _ k.execute-word.ensures c.before.enum-told3.given.1))
+    (executed_empty _ _ _ _ _ _ _ _ _ _ pairs _ k.execute-word.ensures c.before.enum-told3.given.1))
 
 pub executed-spec : {M : Type 1} → statement M
 executed-spec =

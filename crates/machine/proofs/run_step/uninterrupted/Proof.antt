@@ -3,13 +3,13 @@ use borrow.Author.Rules.{rules}
 use mathlib.Core.Path.{◌≡◌, sym, ◌∙◌}
 use Rattle.isa.specs.Refusals.{numbered, done, refused}
 use Rattle.isa.specs.Lengths.{length_of}
-use Rattle.isa.specs.Predecoded.{instructionOfWord, cyclesOfWord}
-use Rattle.isa.specs.Decode.{decodeAt}
+use Rattle.isa.specs.Predecoded.{instruction_of_word, cycles_of_word}
+use Rattle.isa.specs.Decode.{decode_at}
 use Rattle.isa.specs.Decode as decode
-use Rattle.isa.proofs.AtAddress.{in-range}
-use Rattle.isa.proofs.Halves.{is-space}
+use Rattle.isa.proofs.AtAddress.{in_range}
+use Rattle.isa.proofs.Halves.{is_space_lem}
 use Rattle.data.specs.Space.{program_of}
-use Rattle.machine.specs.Advance.{actedOf}
+use Rattle.machine.specs.Advance.{acted_of}
 use Rattle.machine.proofs.StepByStep.{idle, awake}
 use Rattle.machine.proofs.run_step.uninterrupted.Statement.{statement}
 use Rattle.machine.proofs.run_step.uninterrupted.Tie as tie
@@ -35,15 +35,15 @@ same_length : tie.Need-same-length
 same_length c = search rules
 
 returns-2 : tie.Need-returns-2
-unfolding actedOf
+unfolding acted_of
 returns-2 c =
     let k = c.before.before.before.before.before.before in
     let start = k.before.before.before.before.before in
     let program = program_of start.args.image.now start.args.bytes.now in
     let reason = c.before.before.reason.given in
-    let decoded : decodeAt program start.args.c.pc ≡ refused (numbered reason.0.0) =
+    let decoded : decode_at program start.args.c.pc ≡ refused (numbered reason.0.0) =
     sym (rw (reason.1, start.requires.5) at k.fetch.ensures.0
-    ∙ in-range program _ (is-space start.args.image.now _ start.requires.1) start.requires.2) in (
+    ∙ in_range program _ (is_space_lem start.args.image.now _ start.requires.1) start.requires.2) in (
       λ pairs. rw decoded (c.stopped.ensures _ _ pairs start.args.c.mode) ∙ awake program _
           k.before.before.if1.false,
       k.fetch.ensures.1,
@@ -59,17 +59,17 @@ same-length-2 : tie.Need-same-length-2
 same-length-2 c = search rules
 
 returns-3 : tie.Need-returns-3
-unfolding actedOf
+unfolding acted_of
 returns-3 c =
     let k = c.before.before.before.before.before.before.before.before in
     let start = k.before.before.before.before.before in
     let program = program_of start.args.image.now start.args.bytes.now in
     let word = c.before.before.before.before.word.given in
     let w = word.0.0 in
-    let decoded : decodeAt program start.args.c.pc
-    ≡ done (decode.instruction (instructionOfWord w) (length_of (instructionOfWord w)) (cyclesOfWord w)) =
+    let decoded : decode_at program start.args.c.pc
+    ≡ done (decode.instruction (instruction_of_word w) (length_of (instruction_of_word w)) (cycles_of_word w)) =
     sym (rw (word.1, start.requires.5) at k.fetch.ensures.0
-    ∙ in-range program _ (is-space start.args.image.now _ start.requires.1) start.requires.2) in (
+    ∙ in_range program _ (is_space_lem start.args.image.now _ start.requires.1) start.requires.2) in (
       λ pairs. rw decoded (c.executed.ensures pairs) ∙ awake program _ k.before.before.if1.false,
       k.fetch.ensures.1,
     )

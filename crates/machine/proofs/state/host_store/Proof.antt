@@ -1,7 +1,7 @@
 -- `state::host_store` meets its contract.
 use borrow.Author.Rules.{rules}
 use borrow.Author.Tests.{not-true, not-false}
-use Rattle.machine.specs.State.{hostStoreOf}
+use Rattle.machine.specs.State.{host_store_of}
 use Rattle.machine.proofs.state.host_store.Statement.{statement}
 use Rattle.machine.proofs.state.host_store.Tie as tie
 
@@ -12,7 +12,7 @@ refused-store-requires : tie.Need-refused-store-requires
 refused-store-requires c κs = search rules
 
 returns : tie.Need-returns
-unfolding hostStoreOf
+unfolding host_store_of
 returns c =
     let w = c.before.before.is-well-formed in
     rw (← w.ensures, not-true w.result c.before.if1.true) c.refused-store.ensures
@@ -24,7 +24,7 @@ refused-store-requires-2 : tie.Need-refused-store-requires-2
 refused-store-requires-2 c κs = search rules
 
 returns-2 : tie.Need-returns-2
-unfolding hostStoreOf
+unfolding host_store_of
 returns-2 c =
     let k = c.before.before in
     let w = k.before.before.is-well-formed in
@@ -35,7 +35,7 @@ stored-requires : tie.Need-stored-requires
 stored-requires c κs = search rules
 
 returns-3 : tie.Need-returns-3
-unfolding hostStoreOf
+unfolding host_store_of
 returns-3 c =
     let k = c.before.before in
     let w = k.before.before.is-well-formed in

@@ -1,6 +1,6 @@
 -- `state::reset` meets its contract.
 use borrow.Author.Rules.{rules}
-use Rattle.machine.specs.State.{resetOf}
+use Rattle.machine.specs.State.{reset_of}
 use Rattle.machine.proofs.state.reset.Statement.{statement}
 use Rattle.machine.proofs.state.reset.Tie as tie
 
@@ -20,7 +20,7 @@ cleared-pairs-requires : tie.Need-cleared-pairs-requires
 cleared-pairs-requires c κs = search rules
 
 returns : tie.Need-returns
-unfolding resetOf
+unfolding reset_of
 returns c = rw (c.cleared-pairs.ensures, c.before.reset-control.ensures)
 
 pub reset-spec : {M : Type 1} → statement M

@@ -1,6 +1,6 @@
 -- `step::executed` meets its contract.
 use borrow.Author.Rules.{rules}
-use Rattle.machine.proofs.Stops.{executed-done, executed-full, executed-empty}
+use Rattle.machine.proofs.Stops.{executed_done, executed_full, executed_empty}
 use Rattle.machine.proofs.step.executed.Statement.{statement}
 use Rattle.machine.proofs.step.executed.Tie as tie
 
@@ -33,21 +33,21 @@ returns c = λ pairs.
     (let k = c.before.before.before.before.before in
     let after = rw k.before.before.before.forward.ensures at k.execute.ensures in
     rw (c.done.ensures _ _ pairs _)
-    (executed-done _ _ _ _ _ _ _ _ _ _ pairs _ after c.before.enum_told.given.1))
+    (executed_done _ _ _ _ _ _ _ _ _ _ pairs _ after c.before.enum_told.given.1))
 
 returns-2 : tie.Need-returns-2
 returns-2 c = λ pairs.
     (let k = c.before.before.before.before.before in
     let after = rw k.before.before.before.forward.ensures at k.execute.ensures in
     rw (c.stopped.ensures _ _ pairs _)
-    (executed-full _ _ _ _ _ _ _ _ _ _ pairs _ after c.before.enum-told2.given.1))
+    (executed_full _ _ _ _ _ _ _ _ _ _ pairs _ after c.before.enum-told2.given.1))
 
 returns-3 : tie.Need-returns-3
 returns-3 c = λ pairs.
     (let k = c.before.before.before.before.before in
     let after = rw k.before.before.before.forward.ensures at k.execute.ensures in
     rw (c.stopped2.ensures _ _ pairs _)
-    (executed-empty _ _ _ _ _ _ _ _ _ _ pairs _ after c.before.enum-told3.given.1))
+    (executed_empty _ _ _ _ _ _ _ _ _ _ pairs _ after c.before.enum-told3.given.1))
 
 pub executed-spec : {M : Type 1} → statement M
 executed-spec =

@@ -2,12 +2,12 @@
 use borrow.Author.Rules.{rules}
 use mathlib.Core.Path.{sym, ap, ◌∙◌}
 use borrow.Author.Tests.{not-true, not-false}
-use Rattle.control.proofs.StaysWellFormed.{formed-exactly}
+use Rattle.control.proofs.StaysWellFormed.{formed_exactly}
 use Rattle.machine.specs.State.{machine_of}
-use Rattle.machine.specs.Actions.{actionOf}
-use Rattle.machine.specs.Step.{Step, actedOf, step_of}
-use Rattle.machine.specs.Operands.{stepReadOf}
-use Rattle.machine.proofs.Due.{action-due}
+use Rattle.machine.specs.Actions.{action_of}
+use Rattle.machine.specs.Step.{Step, acted_of, step_of}
+use Rattle.machine.specs.Operands.{step_read_of}
+use Rattle.machine.proofs.Due.{action_due}
 use Rattle.machine.proofs.step.step_lent.Statement.{statement}
 use Rattle.machine.proofs.step.step_lent.Tie as tie
 
@@ -18,7 +18,7 @@ refused-step-requires : tie.Need-refused-step-requires
 refused-step-requires c κs = search rules
 
 returns : tie.Need-returns
-unfolding step_of stepReadOf actionOf actedOf
+unfolding step_of step_read_of action_of acted_of
 returns c =
     let i = c.before.before in
     rw (← i.is-image-length.ensures, not-true i.is-image-length.result c.before.if1.true)
@@ -31,7 +31,7 @@ refused-step-requires-2 : tie.Need-refused-step-requires-2
 refused-step-requires-2 c κs = search rules
 
 returns-2 : tie.Need-returns-2
-unfolding step_of stepReadOf actionOf actedOf
+unfolding step_of step_read_of action_of acted_of
 returns-2 c =
     let w = c.before.before in
     let i = w.before.before.before in
@@ -46,7 +46,7 @@ refused-step-requires-3 : tie.Need-refused-step-requires-3
 refused-step-requires-3 c κs = search rules
 
 returns-3 : tie.Need-returns-3
-unfolding step_of stepReadOf actionOf actedOf
+unfolding step_of step_read_of action_of acted_of
 returns-3 c =
     let n = c.before.before in
     let w = n.before.before in
@@ -62,7 +62,7 @@ due-requires c κs =
     let w = n.before.before in
     let i = w.before.before.before in (
       sym i.is-image-length.ensures ∙ not-false _ w.before.before.if1.false,
-      (formed-exactly.facts _ _ (sym w.is-well-formed.ensures ∙ not-false _ n.before.if2.false)).pc,
+      (formed_exactly.facts _ _ (sym w.is-well-formed.ensures ∙ not-false _ n.before.if2.false)).pc,
     )
 
 act-requires : tie.Need-act-requires
@@ -71,7 +71,7 @@ act-requires c κs =
     sym w.before.before.before.is-image-length.ensures ∙ not-false _ w.before.before.if1.false
 
 returns-4 : tie.Need-returns-4
-unfolding step_of stepReadOf
+unfolding step_of step_read_of
 returns-4 c =
     let d = c.before.before.before in
     let n = d.before.before.before in
@@ -82,7 +82,7 @@ returns-4 c =
     let m = machine_of a.c a.stack.now a.flags a.bytes.now in
     let is-due =
     d.due.ensures a.stack.now a.flags
-    ∙ sym (action-due image m a.request
+    ∙ sym (action_due image m a.request
     (sym i.is-image-length.ensures ∙ not-false _ w.before.before.if1.false)
     (sym w.is-well-formed.ensures ∙ not-false _ n.before.if2.false)
     (sym n.names-only-sources.ensures ∙ not-false _ d.before.before.if3.false)) in

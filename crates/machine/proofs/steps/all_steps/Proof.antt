@@ -7,18 +7,18 @@ use native.Mathlib.Omega.{arith}
 use borrow.Author.Rules.{rules}
 use lib.ListN.{length}
 use Rattle.isa.specs.Refusals.{done}
-use Rattle.control.specs.WellFormed.{wellFormed}
+use Rattle.control.specs.WellFormed.{well_formed}
 use Rattle.machine.specs.Fetch.{Coherent}
-use Rattle.machine.specs.State.{machine_of, isWellFormed}
+use Rattle.machine.specs.State.{machine_of, is_well_formed}
 use Rattle.machine.specs.Steps.{Run, run_at, steps_of}
 use Rattle.machine.proofs.PairTests.{put_back}
-use Rattle.machine.proofs.StaysWellFormed.{stays-well-formed}
+use Rattle.machine.proofs.StaysWellFormed.{stays_well_formed}
 use Rattle.machine.proofs.steps.all_steps.Statement.{statement}
 use Rattle.machine.proofs.steps.all_steps.Tie as tie
 
 abbrev invariant-loop : tie.invariant-loop
 invariant-loop table image store₀ bytes₀ stack₀ requests n c₀ flags₀ cycles₀ i₀ store bytes stack c flags cycles i =
-    (i ≤ n) × (cycles ≤ 255 * i) × (wellFormed stack c ≡ true) × (length store ≡ length store₀) × Coherent image store
+    (i ≤ n) × (cycles ≤ 255 * i) × (well_formed stack c ≡ true) × (length store ≡ length store₀) × Coherent image store
     × (run_at (machine_of c stack flags bytes) i cycles (done tt)
     ≡ steps_of image requests (machine_of c₀ stack₀ flags₀ bytes₀) i)
 
@@ -81,8 +81,8 @@ loop-again c =
     let known = at_test.before.before.before.before.shared-slice-known in (
       rw told at part.steps-in-mode.ensures.2,
       rw told at part.steps-in-mode.ensures.3,
-      ap (λ (x : Run). isWellFormed x.machine) ran
-          ∙ stays-well-formed.by-steps a.image.now (λ j. (known.given j).fits) a.requests.now first
+      ap (λ (x : Run). is_well_formed x.machine) ran
+          ∙ stays_well_formed.by-steps a.image.now (λ j. (known.given j).fits) a.requests.now first
           start.requires.3 _,
       search rules,
       part.steps-in-mode.ensures.4,

@@ -1,6 +1,6 @@
 -- `steps::by_store` meets its contract.
 use borrow.Author.Rules.{rules}
-use Rattle.machine.proofs.Store.{coherent-none}
+use Rattle.machine.proofs.Store.{coherent_none}
 use Rattle.machine.proofs.steps.by_store.Statement.{statement}
 use Rattle.machine.proofs.steps.by_store.Tie as tie
 
@@ -19,7 +19,7 @@ all-steps-requires c κs =
       start.requires.2,
       start.requires.3,
       search rules,
-      coherent-none start.args.image.now 64,
+      coherent_none start.args.image.now 64,
     )
 
 returns : tie.Need-returns
@@ -37,7 +37,7 @@ all-steps-requires-2 c κs =
       start.requires.2,
       start.requires.3,
       search rules,
-      coherent-none start.args.image.now 4096,
+      coherent_none start.args.image.now 4096,
     )
 
 returns-2 : tie.Need-returns-2

@@ -2,18 +2,18 @@
 use borrow.Author.Rules.{rules}
 use mathlib.Core.Path.{sym, ◌∙◌}
 use borrow.Author.Tests.{eqb-true}
-use Rattle.machine.proofs.PairTests.{never-false}
+use Rattle.machine.proofs.PairTests.{never_false}
 use Rattle.machine.proofs.steps.stays.Statement.{statement}
 use Rattle.machine.proofs.steps.stays.Tie as tie
 
 returns : tie.Need-returns
-returns c = λ e. never-false e
+returns c = λ e. never_false e
 
 element-copy-out-if2 : tie.Need-element-copy-out-if2
 element-copy-out-if2 c = search rules
 
 returns-2 : tie.Need-returns-2
-returns-2 c = λ e. never-false e
+returns-2 c = λ e. never_false e
 
 mode-number-requires : tie.Need-mode-number-requires
 mode-number-requires c κs = search rules

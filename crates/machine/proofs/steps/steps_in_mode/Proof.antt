@@ -8,29 +8,29 @@ use native.Mathlib.Omega.{arith}
 use borrow.Author.Rules.{rules}
 use lib.ListN.{length, get_or}
 use Rattle.isa.specs.Refusals.{done}
-use Rattle.isa.proofs.Halves.{same-space}
-use Rattle.control.specs.WellFormed.{wellFormed}
-use Rattle.control.proofs.StaysWellFormed.{formed-exactly}
+use Rattle.isa.proofs.Halves.{same_space}
+use Rattle.control.specs.WellFormed.{well_formed}
+use Rattle.control.proofs.StaysWellFormed.{formed_exactly}
 use Rattle.machine.specs.declared.FlagPairs.{FlagPairs}
 use Rattle.machine.specs.declared.Machine.{Machine}
 use Rattle.machine.specs.Fetch.{Coherent}
-use Rattle.machine.specs.Pairs.{withPairOf}
-use Rattle.machine.specs.State.{machine_of, clearedPairs}
+use Rattle.machine.specs.Pairs.{with_pair_of}
+use Rattle.machine.specs.State.{machine_of, cleared_pairs}
 use Rattle.machine.specs.Steps.{run_at, settled, steps_of}
-use Rattle.machine.proofs.PairTests.{never, same-mode}
-use Rattle.machine.proofs.StaysWellFormed.{formed-step}
+use Rattle.machine.proofs.PairTests.{never, same_mode}
+use Rattle.machine.proofs.StaysWellFormed.{formed_step}
 use Rattle.machine.proofs.StepByStep.{stepped, one_more, stops_at}
 use Rattle.machine.proofs.steps.steps_in_mode.Statement.{statement}
 use Rattle.machine.proofs.steps.steps_in_mode.Tie as tie
 
 abbrev invariant-loop : tie.invariant-loop
 invariant-loop table image store₀ bytes₀ stack₀ requests first spent n bank page before c₀ flags₀ cycles₀ i₀ same₀ store bytes stack c flags cycles i same =
-    (first ≤ i) × (i ≤ n) × (cycles ≤ 255 * i) × (wellFormed stack c ≡ true) × (length store ≡ length store₀)
+    (first ≤ i) × (i ≤ n) × (cycles ≤ 255 * i) × (well_formed stack c ≡ true) × (length store ≡ length store₀)
     × Coherent image store × (same ≡ true → (i < n) × (c.mode ≡ c₀.mode) × (get_or bytes 0xCA 0 ≡ bank)) × (same ≡ false → first < i)
     × ((pairs : FlagPairs) (m : Machine) →
-    run_at (machine_of c₀ stack₀ (withPairOf pairs c₀.mode flags₀) bytes₀) first spent (done tt)
+    run_at (machine_of c₀ stack₀ (with_pair_of pairs c₀.mode flags₀) bytes₀) first spent (done tt)
     ≡ steps_of image requests m first →
-    run_at (machine_of c stack (withPairOf pairs c₀.mode flags) bytes) i cycles (done tt) ≡ steps_of image requests m i)
+    run_at (machine_of c stack (with_pair_of pairs c₀.mode flags) bytes) i cycles (done tt) ≡ steps_of image requests m i)
 
 abbrev decreases-loop : tie.decreases-loop
 decreases-loop table image store₀ bytes₀ stack₀ requests first spent n bank page before c₀ flags₀ cycles₀ i₀ same₀ store bytes stack c flags cycles i same = n - i
@@ -67,14 +67,14 @@ advance-requires c κs =
     let inv = c.before.before.before.before.before.loop.invariant in (
       start.requires.3,
       start.requires.4,
-      (formed-exactly.facts _ _ inv.3).pc,
+      (formed_exactly.facts _ _ inv.3).pc,
       omega (arith, inv.4, start.requires.7),
       inv.5,
       rw (
         (inv.6 c.before.before.before.before.loop-test.true).2,
         c.before.before.before.before.before.before.before.page-number.ensures start.requires.4,
       )
-          (same-space start.args.image.now _),
+          (same_space start.args.image.now _),
     )
 
 enum-known-answer : tie.Need-enum-known-answer invariant-loop decreases-loop
@@ -115,7 +115,7 @@ returns c =
           ∙ stops_at image requests m _ _ _ _ _ _ goes.0 (rw (← goes.1) at (loop.invariant.8 pairs m e))
           (rw c.before.before.answer2.given.1 at
           (stepped image requests
-          (machine_of loop.c loop.stack (withPairOf pairs loop.c.mode loop.flags) loop.bytes) n
+          (machine_of loop.c loop.stack (with_pair_of pairs loop.c.mode loop.flags) loop.bytes) n
           loop.i _ _ start.requires.4 loop.invariant.3 start.requires.6 goes.0
           at-advance.before.request-at.ensures
           (at-advance.advance.ensures.0 pairs)))
@@ -154,15 +154,15 @@ loop-again c =
       omega (arith, loop.invariant.0),
       omega (arith, goes.0),
       omega (arith, loop.invariant.2, c.before.before.known-told.given),
-      formed-step image (λ j. (known.given j).fits)
-          (machine_of loop.c loop.stack (withPairOf clearedPairs loop.c.mode loop.flags) loop.bytes)
+      formed_step image (λ j. (known.given j).fits)
+          (machine_of loop.c loop.stack (with_pair_of cleared_pairs loop.c.mode loop.flags) loop.bytes)
           loop.invariant.3 _ _
-          (at-advance.advance.ensures.0 clearedPairs),
+          (at-advance.advance.ensures.0 cleared_pairs),
       search rules,
       at-advance.advance.ensures.1,
       λ e. (
         (c.stays.ensures e).0,
-        same-mode _ _ ((c.stays.ensures e).1 ∙ at-mode.mode-number.ensures),
+        same_mode _ _ ((c.stays.ensures e).1 ∙ at-mode.mode-number.ensures),
         (c.stays.ensures e).2,
       ),
       λ e. omega (arith, loop.invariant.0),
@@ -171,7 +171,7 @@ loop-again c =
           (one_more image requests m _ _ _ _ _ (rw (← goes.1) at (loop.invariant.8 pairs m e))
           (rw c.before.before.before.answer.given.1 at
           (stepped image requests
-          (machine_of loop.c loop.stack (withPairOf pairs loop.c.mode loop.flags) loop.bytes) n
+          (machine_of loop.c loop.stack (with_pair_of pairs loop.c.mode loop.flags) loop.bytes) n
           loop.i _ _ start.requires.4 loop.invariant.3 start.requires.6 goes.0
           at-advance.before.request-at.ensures
           (at-advance.advance.ensures.0 pairs)))),

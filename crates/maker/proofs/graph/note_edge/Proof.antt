@@ -1,6 +1,6 @@
 -- `graph::note_edge` meets its contract.
 use native.Mathlib.Omega.{arith}
-use Rattle.maker.proofs.Edges.{recorded-one}
+use Rattle.maker.proofs.Edges.{recorded_one}
 use borrow.Author.Rules.{rules}
 use Rattle.maker.proofs.graph.note_edge.Statement.{statement}
 use Rattle.maker.proofs.graph.note_edge.Tie as tie
@@ -60,13 +60,13 @@ same_length : tie.Need-same-length
 same_length c = search rules
 
 returns-3 : tie.Need-returns-3
-returns-3 c = recorded-one _ _ _ _ _ _ (omega arith) c.before.before.before.entry_of.ensures
+returns-3 c = recorded_one _ _ _ _ _ _ (omega arith) c.before.before.before.entry_of.ensures
 
 same-length-2 : tie.Need-same-length-2
 same-length-2 c = search rules
 
 returns-4 : tie.Need-returns-4
-returns-4 c = recorded-one _ _ _ _ _ _ (omega arith) c.before.entry_of.ensures
+returns-4 c = recorded_one _ _ _ _ _ _ (omega arith) c.before.entry_of.ensures
 
 pub note-edge-spec : {M : Type 1} → statement M
 note-edge-spec =

@@ -1,5 +1,5 @@
 -- `graph::note_edges` meets its contract.
-use Rattle.maker.proofs.Edges.{recorded-two}
+use Rattle.maker.proofs.Edges.{recorded_two}
 use borrow.Author.Rules.{rules}
 use Rattle.maker.proofs.graph.note_edges.Statement.{statement}
 use Rattle.maker.proofs.graph.note_edges.Tie as tie
@@ -55,7 +55,7 @@ returns-4 c =
     let at-successors2 = at-note-edge2.before.before.before.before in
     let at-first-edge = at-successors2.before.before in
     rw at-successors2.successors2.given.1
-    (recorded-two (rw at-first-edge.first_edge.ensures.first at at-note-edge2.note-edge2.ensures)
+    (recorded_two (rw at-first-edge.first_edge.ensures.first at at-note-edge2.note-edge2.ensures)
     (rw at-first-edge.first_edge.ensures.second at at-note-edge3.note-edge3.ensures))
 
 pub note-edges-spec : {M : Type 1} → statement M

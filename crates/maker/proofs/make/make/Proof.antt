@@ -2,9 +2,9 @@
 use mathlib.Core.Path.{sym, ◌∙◌}
 use lib.ListN.{length}
 use borrow.Author.Tests.{not-true, not-false}
-use Rattle.certificate.proofs.Facts.{at-most-4096}
-use Rattle.maker.proofs.Answering.{answers-1, answers-11, answers-25, answers-26, answers-done}
-use Rattle.maker.proofs.Answering.{part_length, new-sound, made-length, made-fits, part-most, copied-least}
+use Rattle.certificate.proofs.Facts.{at_most_4096}
+use Rattle.maker.proofs.Answering.{answers_1, answers_11, answers_25, answers_26, answers_done}
+use Rattle.maker.proofs.Answering.{part_length, new_sound, made_length, made_fits, part_most, copied_least}
 use borrow.Author.Rules.{rules}
 use Rattle.maker.proofs.make.make.Statement.{statement}
 use Rattle.maker.proofs.make.make.Tie as tie
@@ -14,7 +14,7 @@ is-image-length-requires c κs = search rules
 
 returns : tie.Need-returns
 returns c =
-    answers-1 _ _ _
+    answers_1 _ _ _
     (sym c.before.is-image-length.ensures ∙ not-true c.before.is-image-length.result c.if1.true)
 
 names-only-sources-requires : tie.Need-names-only-sources-requires
@@ -23,7 +23,7 @@ names-only-sources-requires c κs = search rules
 returns-2 : tie.Need-returns-2
 returns-2 c =
     let at-is-image-length = c.before.before.before in
-    answers-11 _ _ _
+    answers_11 _ _ _
     (sym at-is-image-length.is-image-length.ensures
     ∙ not-false at-is-image-length.is-image-length.result c.before.before.if1.false)
     (sym c.before.names-only-sources.ensures
@@ -33,7 +33,7 @@ returns-3 : tie.Need-returns-3
 returns-3 c =
     let at-if1 = c.before.before.before.before in
     let at-is-image-length = at-if1.before in
-    answers-25 _ _ _
+    answers_25 _ _ _
     (sym at-is-image-length.is-image-length.ensures
     ∙ not-false at-is-image-length.is-image-length.result at-if1.if1.false)
     (sym c.before.before.before.names-only-sources.ensures
@@ -46,7 +46,7 @@ marks-in-requires c κs = search rules
 array-borrow-prefix-work : tie.Need-array-borrow-prefix-work
 array-borrow-prefix-work c =
     let entry = c.before.before.before.before.before.before.before.before in
-    rw c.before.marks-in.ensures (at-most-4096 (length entry.args.image.now))
+    rw c.before.marks-in.ensures (at_most_4096 (length entry.args.image.now))
 
 slice-aggregate-complete : tie.Need-slice-aggregate-complete
 slice-aggregate-complete c =
@@ -60,7 +60,7 @@ complete-requires c κs =
     let at-is-image-length = at-if1.before in
     let entry = at-is-image-length.before.before.before in
     rw c.before.before.marks-in.ensures (
-      new-sound entry.args.image.now _
+      new_sound entry.args.image.now _
           (sym at-is-image-length.is-image-length.ensures
           ∙ not-false at-is-image-length.is-image-length.result at-if1.if1.false),
       (sym at-names-only-sources.names-only-sources.ensures
@@ -74,13 +74,13 @@ array-share-prefix-work : tie.Need-array-share-prefix-work
 array-share-prefix-work c =
     let at-complete = c.before.before.before in
     rw at-complete.before.before.before.marks-in.ensures
-    (made-fits _ (rw c.enum_told.given.1 at at-complete.complete.ensures))
+    (made_fits _ (rw c.enum_told.given.1 at at-complete.complete.ensures))
 
 slice-aggregate-copy : tie.Need-slice-aggregate-copy
 slice-aggregate-copy c =
     let at-complete = c.before.before.before.before in
     rw at-complete.before.before.before.marks-in.ensures
-    (sym (made-length _ (rw c.before.enum_told.given.1 at at-complete.complete.ensures)))
+    (sym (made_length _ (rw c.before.enum_told.given.1 at at-complete.complete.ensures)))
 
 copy-requires : tie.Need-copy-requires
 copy-requires c κs =
@@ -88,7 +88,7 @@ copy-requires c κs =
     let at-if3 = at-complete.before.before in
     let entry = at-if3.before.before.before.before.before.before.before.before in
     rw at-if3.before.marks-in.ensures
-    (part-most _ (rw c.before.before.enum_told.given.1 at at-complete.complete.ensures)
+    (part_most _ (rw c.before.before.enum_told.given.1 at at-complete.complete.ensures)
     entry.args.buffer.now (at-if3.if3.false ∙ at-if3.before.marks-in.ensures))
 
 enum-told-2 : tie.Need-enum-told-2
@@ -109,13 +109,13 @@ returns-4 c =
     let at-is-image-length = at-if1.before in
     let entry = at-is-image-length.before.before.before in
     rw at-enum-told.enum_told.given.1
-    (answers-done entry.args.image.now _ entry.args.buffer.now
+    (answers_done entry.args.image.now _ entry.args.buffer.now
     (sym at-is-image-length.is-image-length.ensures
     ∙ not-false at-is-image-length.is-image-length.result at-if1.if1.false)
     (sym at-names-only-sources.names-only-sources.ensures
     ∙ not-false at-names-only-sources.names-only-sources.result at-if2.if2.false)
     (at-if3.if3.false ∙ at-marks-in.marks-in.ensures)
-    (copied-least _ (rw at-enum-told.enum_told.given.1 at at-complete.complete.ensures) _
+    (copied_least _ (rw at-enum-told.enum_told.given.1 at at-complete.complete.ensures) _
     (at-if3.if3.false ∙ at-marks-in.marks-in.ensures)
     (rw at-marks-in.marks-in.ensures at c.before.before.copy.ensures.1)))
 
@@ -130,7 +130,7 @@ returns-5 c =
     let at-is-image-length = at-if1.before in
     let entry = at-is-image-length.before.before.before in
     rw c.enum-told2.given.1
-    (answers-26 entry.args.image.now _ entry.args.buffer.now
+    (answers_26 entry.args.image.now _ entry.args.buffer.now
     (sym at-is-image-length.is-image-length.ensures
     ∙ not-false at-is-image-length.is-image-length.result at-if1.if1.false)
     (sym at-names-only-sources.names-only-sources.ensures

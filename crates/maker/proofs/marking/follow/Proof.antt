@@ -1,7 +1,7 @@
 -- `marking::follow` meets its contract.
 use native.Mathlib.Omega.{arith}
-use Rattle.maker.proofs.Following.{possible, stops, follows, follows-free}
-use Rattle.certificate.proofs.SourceLevels.{need-most}
+use Rattle.maker.proofs.Following.{possible, stops, follows, follows_free}
+use Rattle.certificate.proofs.SourceLevels.{need_most}
 use borrow.Author.Rules.{rules}
 use Rattle.maker.proofs.marking.follow.Statement.{statement}
 use Rattle.maker.proofs.marking.follow.Tie as tie
@@ -24,7 +24,7 @@ need-at-requires c κs = search rules
 add-need : tie.Need-overflow-add-need
 add-need c =
     let entry = c.before.before.before.before.before.before.before.before.before in
-    omega (arith, need-most _ _ c.before.need-at.ensures, entry.requires.1.levels-most)
+    omega (arith, need_most _ _ c.before.need-at.ensures, entry.requires.1.levels-most)
 
 same-length-2 : tie.Need-same-length-2
 same-length-2 c = search rules
@@ -34,7 +34,7 @@ returns-2 c =
     let at-need-at = c.before.before in
     let at-match = at-need-at.before.before in
     let at-demand = at-match.before.before.before in
-    follows-free at-demand.demand.ensures (possible _ at-match.match.keys2)
+    follows_free at-demand.demand.ensures (possible _ at-match.match.keys2)
     (rw at-need-at.need-at.ensures at c.if1.true)
 
 demand-requires-2 : tie.Need-demand-requires-2

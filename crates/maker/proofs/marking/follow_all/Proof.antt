@@ -1,5 +1,5 @@
 -- `marking::follow_all` meets its contract.
-use Rattle.maker.proofs.Following.{follows-none, follows-two}
+use Rattle.maker.proofs.Following.{follows_none, follows_two}
 use borrow.Author.Rules.{rules}
 use Rattle.maker.proofs.marking.follow_all.Statement.{statement}
 use Rattle.maker.proofs.marking.follow_all.Tie as tie
@@ -33,7 +33,7 @@ join-requires : tie.Need-join-requires
 join-requires c κs = search rules
 
 returns : tie.Need-returns
-returns c = rw c.enum_told.given.1 follows-none
+returns c = rw c.enum_told.given.1 follows_none
 
 same_length : tie.Need-same-length
 same_length c = search rules
@@ -52,7 +52,7 @@ returns-3 c =
     let at-follow2 = at-follow3.before.before.before.before in
     let at-successors2 = at-follow2.before.before.before in
     rw (at-successors2.successors2.given.1, c.join.ensures)
-    (follows-two at-follow2.follow2.ensures at-follow3.follow3.ensures)
+    (follows_two at-follow2.follow2.ensures at-follow3.follow3.ensures)
 
 pub follow-all-spec : {M : Type 1} → statement M
 follow-all-spec =

@@ -4,7 +4,7 @@ use native.Mathlib.Omega.{arith}
 use lib.ListN.{length}
 use mathlib.Core.Path.{refl}
 use mathlib.Core.Logic.{inl, inr}
-use Rattle.maker.proofs.Demands.{is-outside, is-too-deep, is-enough, is-lifted}
+use Rattle.maker.proofs.Demands.{is_outside, is_too_deep, is_enough, is_lifted}
 use borrow.Author.Rules.{rules}
 use Rattle.maker.proofs.marking.raise_at.Statement.{statement}
 use Rattle.maker.proofs.marking.raise_at.Tie as tie
@@ -19,19 +19,19 @@ add-end : tie.Need-overflow-add-end
 add-end c = search rules
 
 returns : tie.Need-returns
-returns c = is-outside _ _ _ _ (inl c.if1.true)
+returns c = is_outside _ _ _ _ (inl c.if1.true)
 
 returns-2 : tie.Need-returns-2
-returns-2 c = is-outside _ _ _ _ (inr c.if2.true)
+returns-2 c = is_outside _ _ _ _ (inr c.if2.true)
 
 slice-read-mark : tie.Need-slice-read-mark
 slice-read-mark c = search rules
 
 returns-3 : tie.Need-returns-3
-returns-3 c = is-enough _ _ _ _ _ (omega arith) (omega arith) refl refl c.if3.true
+returns-3 c = is_enough _ _ _ _ _ (omega arith) (omega arith) refl refl c.if3.true
 
 returns-4 : tie.Need-returns-4
-returns-4 c = is-too-deep _ _ _ _ c.if4.true
+returns-4 c = is_too_deep _ _ _ _ c.if4.true
 
 mul-certificate : tie.Need-overflow-mul-certificate
 mul-certificate c = omega (arith, c.before.before.slice-known.given (index c))
@@ -46,7 +46,7 @@ same_length : tie.Need-same-length
 same_length c = search rules
 
 returns-5 : tie.Need-returns-5
-returns-5 c = is-lifted _ _ _ _ _ (omega arith) (omega arith) refl refl c.before.if3.false c.if4.false
+returns-5 c = is_lifted _ _ _ _ _ (omega arith) (omega arith) refl refl c.before.if3.false c.if4.false
 
 pub raise-at-spec : {M : Type 1} → statement M
 raise-at-spec =

@@ -5,15 +5,15 @@ use mathlib.Core.List.{List}
 use borrow.Author.Tests.{not-true, not-false}
 use Rattle.isa.specs.Rom.{space_of}
 use Rattle.isa.specs.Refusals.{Answer}
-use Rattle.isa.specs.Decode.{decodeOf}
-use Rattle.isa.specs.FlowAt.{Continuing, continuationOf, continuationFrom}
+use Rattle.isa.specs.Decode.{decode_of}
+use Rattle.isa.specs.FlowAt.{Continuing, continuation_of, continuation_from}
 use Rattle.isa.specs.declared.Continuation.{Continuation}
 use Rattle.isa.specs.declared.Flow.{Flow}
 use Rattle.certificate.specs.declared.successors.Successor.{Successor}
-use Rattle.certificate.specs.Marks.{markAt, kind_of}
-use Rattle.certificate.specs.Successors.{successorsOf}
-use Rattle.maker.proofs.Following.{in-space, possible, successors-small, visits-none, visits-undecodable, visits-misplaced}
-use Rattle.maker.proofs.Following.{visits-ended, visits, Continued, continues, refused-by}
+use Rattle.certificate.specs.Marks.{mark_at, kind_of}
+use Rattle.certificate.specs.Successors.{successors_of}
+use Rattle.maker.proofs.Following.{in_space, possible, successors_small, visits_none, visits_undecodable, visits_misplaced}
+use Rattle.maker.proofs.Following.{visits_ended, visits, Continued, continues, refused_by}
 use borrow.Author.Rules.{rules}
 use Rattle.maker.proofs.marking.visit.Statement.{statement}
 use Rattle.maker.proofs.marking.visit.Tie as tie
@@ -23,33 +23,33 @@ abbrev start : tie.After-flow-in → tie.Start
 start c = c.before.before.before.before.before.before.before
 
 -- the kind is the mark's
-kind-is : (c : tie.After-flow-in)
-    → c.before.before.kind-of.result ≡ kind_of (markAt (start c).args.certificate.now (start c).args.address)
-kind-is c = rw c.before.before.before.mark-at.ensures at c.before.before.kind-of.ensures
+kind_is : (c : tie.After-flow-in)
+    → c.before.before.kind-of.result ≡ kind_of (mark_at (start c).args.certificate.now (start c).args.address)
+kind_is c = rw c.before.before.before.mark-at.ensures at c.before.before.kind-of.ensures
 
 -- an answer by its case
-by-case : (x y : Continuation) (d : Answer Continuing) → continuationOf x ≡ d → x ≡ y → continuationOf y ≡ d
-by-case x y d p q = rw q at p
+by_case : (x y : Continuation) (d : Answer Continuing) → continuation_of x ≡ d → x ≡ y → continuation_of y ≡ d
+by_case x y d p q = rw q at p
 
 flows : (c : tie.After-flow-in)
-    → continuationOf c.flow-in.result
-    ≡ continuationFrom (start c).args.address
-    (decodeOf (space_of (start c).args.image.now (start c).args.page) (start c).args.address)
+    → continuation_of c.flow-in.result
+    ≡ continuation_from (start c).args.address
+    (decode_of (space_of (start c).args.image.now (start c).args.page) (start c).args.address)
 flows c =
-    c.flow-in.ensures (start c).requires.1 (in-space _ _ _ (kind-is c) c.before.if1.false) (start c).requires.0
+    c.flow-in.ensures (start c).requires.1 (in_space _ _ _ (kind_is c) c.before.if1.false) (start c).requires.0
 
 -- what decoding answers, from where the instruction is known to continue
 decoded : (c : tie.After-flow)
     → Continued (start c.before.before).args.address
-    (decodeOf (space_of (start c.before.before).args.image.now (start c.before.before).args.page)
+    (decode_of (space_of (start c.before.before).args.image.now (start c.before.before).args.page)
     (start c.before.before).args.address)
     c.flow.given.0.0 c.flow.given.0.1.0
-decoded c = continues _ _ _ _ (by-case _ _ _ (flows c.before.before) c.flow.given.1)
+decoded c = continues _ _ _ _ (by_case _ _ _ (flows c.before.before) c.flow.given.1)
 
 -- the successors, by the instruction
-as-flow : (kind : ℕ) {n m : ℕ} {l : List Successor} {f g : Flow} → l ≡ successorsOf kind f n → f ≡ g → n ≡ m
-    → l ≡ successorsOf kind g m
-as-flow kind e p q = e ∙ rw (p, q)
+as_flow : (kind : ℕ) {n m : ℕ} {l : List Successor} {f g : Flow} → l ≡ successors_of kind f n → f ≡ g → n ≡ m
+    → l ≡ successors_of kind g m
+as_flow kind e p q = e ∙ rw (p, q)
 
 mark-at-requires : tie.Need-mark-at-requires
 mark-at-requires c κs = search rules
@@ -67,7 +67,7 @@ returns : tie.Need-returns
 returns c =
     let at-mark-at = c.before.before.before in
     rw (c.ended.ensures.0, c.ended.ensures.1)
-    (visits-none _ _ _ _ _ (rw at-mark-at.mark-at.ensures at c.before.before.kind-of.ensures)
+    (visits_none _ _ _ _ _ (rw at-mark-at.mark-at.ensures at c.before.before.kind-of.ensures)
     c.before.if1.true)
 
 flow-in-requires : tie.Need-flow-in-requires
@@ -89,8 +89,8 @@ returns-2 : tie.Need-returns-2
 returns-2 c =
     let at-flow-in = c.before.before.before in
     rw (c.ended2.ensures.0, c.ended2.ensures.1)
-    (visits-undecodable _ _ _ _ _ (kind-is at-flow-in) at-flow-in.before.if1.false
-    (refused-by _ _ (by-case _ _ _ (flows at-flow-in) c.before.enum_told.given.1)))
+    (visits_undecodable _ _ _ _ _ (kind_is at-flow-in) at-flow-in.before.if1.false
+    (refused_by _ _ (by_case _ _ _ (flows at-flow-in) c.before.enum_told.given.1)))
 
 is-placed-requires : tie.Need-is-placed-requires
 is-placed-requires c κs = search rules
@@ -108,7 +108,7 @@ returns-3 c =
     let at-flow-in = at-flow.before.before in
     let d = decoded at-flow in
     rw (c.ended3.ensures.0, c.ended3.ensures.1)
-    (visits-misplaced _ _ _ _ _ (kind-is at-flow-in) at-flow-in.before.if1.false d.decodes
+    (visits_misplaced _ _ _ _ _ (kind_is at-flow-in) at-flow-in.before.if1.false d.decodes
     (rw (← d.flow-is)
     (sym at-is-placed.is-placed.ensures ∙ not-true at-is-placed.is-placed.result c.before.if2.true)))
 
@@ -118,8 +118,8 @@ successors-of-requires c κs = search rules
 follow-all-requires : tie.Need-follow-all-requires
 follow-all-requires c κs =
     let at-flow-in = c.before.before.before.before.before.before.before in
-    successors-small (markAt (start at-flow-in).args.certificate.now (start at-flow-in).args.address)
-    (kind-is at-flow-in) at-flow-in.before.if1.false _ _ c.before.successors-of.ensures
+    successors_small (mark_at (start at-flow-in).args.certificate.now (start at-flow-in).args.address)
+    (kind_is at-flow-in) at-flow-in.before.if1.false _ _ c.before.successors-of.ensures
 
 enum-told-2 : tie.Need-enum-told-2
 enum-told-2 c = search rules
@@ -140,10 +140,10 @@ returns-4 c =
     let at-flow-in = at-flow.before.before in
     let d = decoded at-flow in
     rw (c.ended4.ensures.0, c.ended4.ensures.1)
-    (visits-ended _ _ _ _ _ (kind-is at-flow-in) at-flow-in.before.if1.false d.decodes
+    (visits_ended _ _ _ _ _ (kind_is at-flow-in) at-flow-in.before.if1.false d.decodes
     (rw (← d.flow-is)
     (sym at-is-placed.is-placed.ensures ∙ not-false at-is-placed.is-placed.result at-if2.if2.false))
-    (rw (as-flow _ at-successors-of.successors-of.ensures d.flow-is d.next-is, c.before.enum-told2.given.1)
+    (rw (as_flow _ at-successors-of.successors-of.ensures d.flow-is d.next-is, c.before.enum-told2.given.1)
     at at-follow-all.follow-all.ensures))
 
 same-length-5 : tie.Need-same-length-5
@@ -158,9 +158,9 @@ returns-5 c =
     let at-flow = at-is-placed.before.before in
     let at-flow-in = at-flow.before.before in
     let d = decoded at-flow in
-    let listed-is = as-flow _ at-successors-of.successors-of.ensures d.flow-is d.next-is in
+    let listed-is = as_flow _ at-successors-of.successors-of.ensures d.flow-is d.next-is in
     rw listed-is
-    (visits _ _ _ _ _ (kind-is at-flow-in) at-flow-in.before.if1.false d.decodes
+    (visits _ _ _ _ _ (kind_is at-flow-in) at-flow-in.before.if1.false d.decodes
     (rw (← d.flow-is)
     (sym at-is-placed.is-placed.ensures ∙ not-false at-is-placed.is-placed.result at-if2.if2.false))
     (rw listed-is at at-follow-all.follow-all.ensures)

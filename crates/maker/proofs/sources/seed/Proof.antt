@@ -1,5 +1,5 @@
 -- `sources::seed` meets its contract: the vectors one after the other.
-use Rattle.maker.proofs.Sweeps.{seeds-all}
+use Rattle.maker.proofs.Sweeps.{seeds_all}
 use borrow.Author.Rules.{rules}
 use Rattle.maker.proofs.sources.seed.Statement.{statement}
 use Rattle.maker.proofs.sources.seed.Tie as tie
@@ -57,7 +57,7 @@ returns c =
       at-join2.join2.ensures,
       at_join.join.ensures,
     )
-    (seeds-all _ at-demand.demand.ensures at-seed-source.seed-source.ensures
+    (seeds_all _ at-demand.demand.ensures at-seed-source.seed-source.ensures
     at-seed-source2.seed-source2.ensures at-seed-source3.seed-source3.ensures
     at-seed-source4.seed-source4.ensures at-seed-source5.seed-source5.ensures)
 

@@ -1,6 +1,6 @@
 -- `sources::seed_source` meets its contract.
 use mathlib.Core.Path.{sym, ◌∙◌}
-use Rattle.maker.proofs.Sweeps.{seeds, seeds-none}
+use Rattle.maker.proofs.Sweeps.{seeds, seeds_none}
 use borrow.Author.Rules.{rules}
 use Rattle.maker.proofs.sources.seed_source.Statement.{statement}
 use Rattle.maker.proofs.sources.seed_source.Tie as tie
@@ -29,7 +29,7 @@ returns c =
 returns-2 : tie.Need-returns-2
 returns-2 c =
     let entry = c.before.before.before in
-    seeds-none _ entry.args.source (sym c.before.names.ensures ∙ c.if1.false)
+    seeds_none _ entry.args.source (sym c.before.names.ensures ∙ c.if1.false)
 
 pub seed-source-spec : {M : Type 1} → statement M
 seed-source-spec =

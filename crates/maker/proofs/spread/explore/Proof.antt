@@ -2,7 +2,7 @@
 use mathlib.Core.Path.{◌≡◌}
 use lib.ListN.{length}
 use Rattle.maker.specs.Making.{Explored}
-use Rattle.maker.proofs.Edges.{explored-none, explored-more}
+use Rattle.maker.proofs.Edges.{explored_none, explored_more}
 use borrow.Author.Rules.{rules}
 use Rattle.maker.proofs.spread.explore.Statement.{statement}
 use Rattle.maker.proofs.spread.explore.Tie as tie
@@ -17,7 +17,7 @@ abbrev decreases-loop : tie.decreases-loop
 decreases-loop table image spaces certificate₀ edges₀ notes₀ progress₀ left₀ certificate edges notes change left = left
 
 loop-holds : tie.Need-loop-init invariant-loop decreases-loop
-loop-holds c = (search rules, search rules, explored-none)
+loop-holds c = (search rules, search rules, explored_none)
 
 is-empty-requires : tie.Need-is-empty-requires invariant-loop decreases-loop
 is-empty-requires c κs = search rules
@@ -49,7 +49,7 @@ loop-again c =
     let at-loop = at-explore-one.before.before.before.before.before.before.before.before in (
       search rules,
       search rules,
-      rw c.join.ensures (explored-more at-loop.loop.invariant.2 at-explore-one.explore-one.ensures),
+      rw c.join.ensures (explored_more at-loop.loop.invariant.2 at-explore-one.explore-one.ensures),
     )
 
 same-length-3 : tie.Need-same-length-3 invariant-loop decreases-loop

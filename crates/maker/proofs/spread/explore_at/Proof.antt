@@ -3,7 +3,7 @@ use Prim.Native.Nat.{◌-◌}
 use mathlib.Core.Path.{◌≡◌}
 use lib.ListN.{length}
 use Rattle.maker.specs.Making.{Explored}
-use Rattle.maker.proofs.Edges.{explored-none, explored-one, explored-more}
+use Rattle.maker.proofs.Edges.{explored_none, explored_one, explored_more}
 use borrow.Author.Rules.{rules}
 use Rattle.maker.proofs.spread.explore_at.Statement.{statement}
 use Rattle.maker.proofs.spread.explore_at.Tie as tie
@@ -19,7 +19,7 @@ decreases-loop table image pages certificate₀ edges₀ notes₀ address progre
     pages - page
 
 loop-holds : tie.Need-loop-init invariant-loop decreases-loop
-loop-holds c = (search rules, search rules, explored-none)
+loop-holds c = (search rules, search rules, explored_none)
 
 visit-requires : tie.Need-visit-requires invariant-loop decreases-loop
 visit-requires c κs = search rules
@@ -44,8 +44,8 @@ loop-again c =
       search rules,
       search rules,
       rw c.join.ensures
-          (explored-more at-loop.loop.invariant.2
-          (explored-one at-note-edges.note-edges.ensures at-visit.visit.ensures)),
+          (explored_more at-loop.loop.invariant.2
+          (explored_one at-note-edges.note-edges.ensures at-visit.visit.ensures)),
     )
 
 same_length : tie.Need-same-length invariant-loop decreases-loop

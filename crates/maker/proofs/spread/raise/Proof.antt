@@ -2,7 +2,7 @@
 use mathlib.Core.Path.{◌≡◌}
 use lib.ListN.{length}
 use Rattle.maker.specs.Making.{Raised}
-use Rattle.maker.proofs.Edges.{raised-none, raised-more}
+use Rattle.maker.proofs.Edges.{raised_none, raised_more}
 use borrow.Author.Rules.{rules}
 use Rattle.maker.proofs.spread.raise.Statement.{statement}
 use Rattle.maker.proofs.spread.raise.Tie as tie
@@ -16,7 +16,7 @@ abbrev decreases-loop : tie.decreases-loop
 decreases-loop certificate₀ edges notes₀ progress₀ left₀ certificate notes change left = left
 
 loop-holds : tie.Need-loop-init invariant-loop decreases-loop
-loop-holds c = (search rules, raised-none)
+loop-holds c = (search rules, raised_none)
 
 is-empty-requires : tie.Need-is-empty-requires invariant-loop decreases-loop
 is-empty-requires c κs = search rules
@@ -47,7 +47,7 @@ loop-again c =
     let at-raise-into = c.before.before.before in
     let at-loop = at-raise-into.before.before.before.before.before.before.before.before.before in (
       search rules,
-      rw c.join.ensures (raised-more at-loop.loop.invariant.1 at-raise-into.raise-into.ensures),
+      rw c.join.ensures (raised_more at-loop.loop.invariant.1 at-raise-into.raise-into.ensures),
     )
 
 same-length-2 : tie.Need-same-length-2 invariant-loop decreases-loop

@@ -2,7 +2,7 @@
 use mathlib.Core.Path.{◌≡◌}
 use lib.ListN.{length}
 use Rattle.maker.specs.Making.{Raised}
-use Rattle.maker.proofs.Edges.{raised-none, raised-more}
+use Rattle.maker.proofs.Edges.{raised_none, raised_more}
 use borrow.Author.Rules.{rules}
 use Rattle.maker.proofs.spread.raise_into.Statement.{statement}
 use Rattle.maker.proofs.spread.raise_into.Tie as tie
@@ -19,7 +19,7 @@ last-edge-requires : tie.Need-last-edge-requires invariant-loop decreases-loop
 last-edge-requires c κs = search rules
 
 loop-holds : tie.Need-loop-init invariant-loop decreases-loop
-loop-holds c = (search rules, raised-none)
+loop-holds c = (search rules, raised_none)
 
 same_length : tie.Need-same-length invariant-loop decreases-loop
 same_length c = search rules
@@ -51,7 +51,7 @@ loop-again c =
     let at-loop = at-raise-one.before.before.before.before.before.before in (
       search rules,
       rw c.before.join.ensures
-          (raised-more at-loop.loop.invariant.1 at-raise-one.raise-one.ensures),
+          (raised_more at-loop.loop.invariant.1 at-raise-one.raise-one.ensures),
     )
 
 same-length-2 : tie.Need-same-length-2 invariant-loop decreases-loop

@@ -1,7 +1,7 @@
 -- `spread::raise_one` meets its contract.
 use native.Mathlib.Omega.{arith}
-use Rattle.certificate.proofs.SourceLevels.{need-most}
-use Rattle.maker.proofs.Edges.{raised-one}
+use Rattle.certificate.proofs.SourceLevels.{need_most}
+use Rattle.maker.proofs.Edges.{raised_one}
 use borrow.Author.Rules.{rules}
 use Rattle.maker.proofs.spread.raise_one.Statement.{statement}
 use Rattle.maker.proofs.spread.raise_one.Tie as tie
@@ -28,7 +28,7 @@ cast-need : tie.Need-overflow-cast-need
 cast-need c = search rules
 
 add-need : tie.Need-overflow-add-need
-add-need c = omega (arith, need-most _ _ c.need-at.ensures)
+add-need c = omega (arith, need_most _ _ c.need-at.ensures)
 
 raise-at-requires : tie.Need-raise-at-requires
 raise-at-requires c κs = search rules
@@ -48,7 +48,7 @@ returns-2 c =
     let at-need-at = at-raise-at.before.before in
     let at-from-of = at-need-at.before.before in
     let at-if1 = at-from-of.before in
-    raised-one _ _ at-if1.before.link_at.ensures at-if1.if1.false
+    raised_one _ _ at-if1.before.link_at.ensures at-if1.if1.false
     (rw (at-from-of.from-of.ensures, at-need-at.need-at.ensures) at at-raise-at.raise-at.ensures)
 
 same-length-2 : tie.Need-same-length-2
@@ -60,7 +60,7 @@ returns-3 c =
     let at-need-at = at-raise-at.before.before in
     let at-from-of = at-need-at.before.before in
     let at-if1 = at-from-of.before in
-    raised-one _ _ at-if1.before.link_at.ensures at-if1.if1.false
+    raised_one _ _ at-if1.before.link_at.ensures at-if1.if1.false
     (rw (at-from-of.from-of.ensures, at-need-at.need-at.ensures) at at-raise-at.raise-at.ensures)
 
 pub raise-one-spec : {M : Type 1} → statement M

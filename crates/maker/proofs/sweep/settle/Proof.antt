@@ -1,7 +1,7 @@
 -- `sweep::settle` meets its contract: every mark is forced, and each pass that changes them leaves less room.
 use mathlib.Core.Path.{refl}
 use Rattle.maker.specs.Making.{Sound, room}
-use Rattle.maker.proofs.Final.{accepted-least, none_left}
+use Rattle.maker.proofs.Final.{accepted_least, none_left}
 use borrow.Author.Rules.{rules}
 use Rattle.maker.proofs.sweep.settle.Statement.{statement}
 use Rattle.maker.proofs.sweep.settle.Tie as tie
@@ -28,7 +28,7 @@ returns : tie.Need-returns invariant-loop decreases-loop
 returns c =
     let at-check = c.before.before.before in
     let at-loop = at-check.before.before in
-    accepted-least at-loop.loop.invariant (rw c.before.levels.given.1 at at-check.check.ensures)
+    accepted_least at-loop.loop.invariant (rw c.before.levels.given.1 at at-check.check.ensures)
 
 enum_told : tie.Need-enum-told invariant-loop decreases-loop
 enum_told c = search rules

@@ -3,7 +3,7 @@ use Prim.Native.Nat.{◌-◌, ◌≤◌}
 use native.Mathlib.Omega.{arith}
 use mathlib.Core.Path.{◌≡◌, refl}
 use lib.ListN.{length}
-use Rattle.maker.proofs.Sweeps.{Passed, passed_none, passed-more, passed-all}
+use Rattle.maker.proofs.Sweeps.{Passed, passed_none, passed_more, passed_all}
 use borrow.Author.Rules.{rules}
 use Rattle.maker.proofs.sweep.sweep.Statement.{statement}
 use Rattle.maker.proofs.sweep.sweep.Tie as tie
@@ -44,14 +44,14 @@ loop-again c =
     let at-loop = at-visit.before.before.before in (
       search rules,
       search rules,
-      rw c.join.ensures (passed-more at-loop.loop.invariant.2 at-visit.visit-each.ensures),
+      rw c.join.ensures (passed_more at-loop.loop.invariant.2 at-visit.visit-each.ensures),
     )
 
 same_length : tie.Need-same-length invariant-loop decreases-loop
 same_length c = search rules
 
 returns : tie.Need-returns invariant-loop decreases-loop
-returns c = passed-all (omega arith) c.before.loop.invariant.2
+returns c = passed_all (omega arith) c.before.loop.invariant.2
 
 pub sweep-spec : {M : Type 1} → statement M
 sweep-spec =

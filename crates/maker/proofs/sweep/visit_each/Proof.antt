@@ -3,8 +3,8 @@ use Prim.Native.Nat.{◌-◌, ◌≤◌}
 use native.Mathlib.Omega.{arith}
 use mathlib.Core.Path.{◌≡◌}
 use lib.ListN.{length}
-use Rattle.isa.specs.Rom.{spacesIn}
-use Rattle.maker.proofs.Sweeps.{PassedPages, pages-none, pages-more, pages-all}
+use Rattle.isa.specs.Rom.{spaces_in}
+use Rattle.maker.proofs.Sweeps.{PassedPages, pages_none, pages_more, pages_all}
 use borrow.Author.Rules.{rules}
 use Rattle.maker.proofs.sweep.visit_each.Statement.{statement}
 use Rattle.maker.proofs.sweep.visit_each.Tie as tie
@@ -21,7 +21,7 @@ spaces-in-requires : tie.Need-spaces-in-requires invariant-loop decreases-loop
 spaces-in-requires c κs = search rules
 
 loop-holds : tie.Need-loop-init invariant-loop decreases-loop
-loop-holds c = (search rules, search rules, pages-none)
+loop-holds c = (search rules, search rules, pages_none)
 
 visit-requires : tie.Need-visit-requires invariant-loop decreases-loop
 visit-requires c κs = search rules
@@ -41,7 +41,7 @@ loop-again c =
     let at-loop = at-visit.before.before.before in (
       search rules,
       search rules,
-      rw c.join.ensures (pages-more at-loop.loop.invariant.2 (λ w s. (at-visit.visit.ensures w s).0)),
+      rw c.join.ensures (pages_more at-loop.loop.invariant.2 (λ w s. (at-visit.visit.ensures w s).0)),
     )
 
 same_length : tie.Need-same-length invariant-loop decreases-loop
@@ -51,9 +51,9 @@ returns : tie.Need-returns invariant-loop decreases-loop
 returns c =
     let loop = c.before.loop in
     let start = c.before.before.before.before.before in
-    let all : loop.page ≡ spacesIn (length start.args.image.now) =
+    let all : loop.page ≡ spaces_in (length start.args.image.now) =
     omega (arith, loop.invariant.0, c.before.before.spaces-in.ensures start.requires.1) in
-    pages-all start.requires.1 (rw all at loop.invariant.2)
+    pages_all start.requires.1 (rw all at loop.invariant.2)
 
 pub visit-each-spec : {M : Type 1} → statement M
 visit-each-spec =

@@ -1,12 +1,12 @@
 -- `command_line::bad_value` meets its contract.
 use borrow.Author.Tests.{lt-ltb, le-ltb}
-use Rattle.options.specs.CommandLine.{badValueOf}
+use Rattle.options.specs.CommandLine.{bad_value_of}
 use borrow.Author.Rules.{rules}
 use Rattle.options.proofs.command_line.bad_value.Statement.{statement}
 use Rattle.options.proofs.command_line.bad_value.Tie as tie
 
 returns : tie.Need-returns
-unfolding badValueOf
+unfolding bad_value_of
 returns c = rw (le-ltb _ _ c.if1.true)
 
 mul-t4 : tie.Need-overflow-mul-t4
@@ -16,7 +16,7 @@ element-copy-out-t7 : tie.Need-element-copy-out-t7
 element-copy-out-t7 c = search rules
 
 returns-2 : tie.Need-returns-2
-unfolding badValueOf
+unfolding bad_value_of
 returns-2 c = rw (lt-ltb _ _ c.before.if1.false)
 
 pub bad-value-spec : {M : Type 1} → statement M

@@ -1,26 +1,26 @@
 -- `command_line::is_common` meets its contract: place by place.
 use borrow.Author.Tests.{eq-eqb, ne_eqb}
-use Rattle.options.specs.CommandLine.{commonOptions}
-use Rattle.options.proofs.WordLaws.{or-false}
+use Rattle.options.specs.CommandLine.{common_options}
+use Rattle.options.proofs.WordLaws.{or_false}
 use Rattle.options.proofs.command_line.is_common.Statement.{statement}
 use Rattle.options.proofs.command_line.is_common.Tie as tie
 
 returns : tie.Need-returns
-unfolding commonOptions
+unfolding common_options
 returns c = rw (eq-eqb _ _ c.if1.true)
 
 returns-2 : tie.Need-returns-2
-unfolding commonOptions
+unfolding common_options
 returns-2 c = rw (ne_eqb _ _ c.before.if1.false, eq-eqb _ _ c.if2.true)
 
 returns-3 : tie.Need-returns-3
-unfolding commonOptions
+unfolding common_options
 returns-3 c =
     let at-if2 = c.before in
     rw (ne_eqb _ _ at-if2.before.if1.false, ne_eqb _ _ at-if2.if2.false, eq-eqb _ _ c.if3.true)
 
 returns-4 : tie.Need-returns-4
-unfolding commonOptions
+unfolding common_options
 returns-4 c =
     let at-if3 = c.before in
     let at-if2 = at-if3.before in
@@ -32,7 +32,7 @@ returns-4 c =
     )
 
 returns-5 : tie.Need-returns-5
-unfolding commonOptions
+unfolding common_options
 returns-5 c =
     let at-if3 = c.before in
     let at-if2 = at-if3.before in
@@ -41,7 +41,7 @@ returns-5 c =
       ne_eqb _ _ at-if2.if2.false,
       ne_eqb _ _ at-if3.if3.false,
       ne_eqb _ _ c.if4.false,
-      or-false,
+      or_false,
     )
 
 pub is-common-spec : {M : Type 1} → statement M

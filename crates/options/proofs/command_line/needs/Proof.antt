@@ -1,6 +1,6 @@
 -- `command_line::needs` meets its contract: the image, then by the command.
 use borrow.Author.Tests.{eq-eqb, ne_eqb}
-use Rattle.options.proofs.Commands.{no-needs}
+use Rattle.options.proofs.Commands.{no_needs_lem}
 use borrow.Author.Rules.{rules}
 use Rattle.options.proofs.command_line.needs.Statement.{statement}
 use Rattle.options.proofs.command_line.needs.Tie as tie
@@ -86,7 +86,7 @@ returns-8 : tie.Need-returns-8
 returns-8 c =
     let at-if1 = c.before in
     let start = at-if1.before.before in
-    rw (no-needs start.args.command c.match.keys6, ne_eqb _ _ at-if1.if1.false)
+    rw (no_needs_lem start.args.command c.match.keys6, ne_eqb _ _ at-if1.if1.false)
 
 pub needs-spec : {M : Type 1} → statement M
 needs-spec =

@@ -1,6 +1,6 @@
 -- `command_line::note_file` meets its contract.
 use borrow.Author.Tests.{eq-eqb, ne_eqb}
-use Rattle.options.proofs.Commands.{no-files}
+use Rattle.options.proofs.Commands.{no_files_lem}
 use borrow.Author.Rules.{rules}
 use Rattle.options.proofs.command_line.note_file.Statement.{statement}
 use Rattle.options.proofs.command_line.note_file.Tie as tie
@@ -39,7 +39,7 @@ returns-4 : tie.Need-returns-4
 returns-4 c =
     let at-if1 = c.before in
     let start = at-if1.before.before in
-    rw (no-files start.args.command c.match.keys2, ne_eqb _ _ at-if1.if1.false)
+    rw (no_files_lem start.args.command c.match.keys2, ne_eqb _ _ at-if1.if1.false)
 
 pub note-file-spec : {M : Type 1} → statement M
 note-file-spec =

@@ -1,6 +1,6 @@
 -- `command_line::note_option` meets its contract.
 use borrow.Author.Tests.{not-true, not-false}
-use Rattle.options.specs.CommandLine.{notedOption}
+use Rattle.options.specs.CommandLine.{noted_option}
 use borrow.Author.Rules.{rules}
 use Rattle.options.proofs.command_line.note_option.Statement.{statement}
 use Rattle.options.proofs.command_line.note_option.Tie as tie
@@ -9,7 +9,7 @@ takes-requires : tie.Need-takes-requires
 takes-requires c κs = search rules
 
 returns : tie.Need-returns
-unfolding notedOption
+unfolding noted_option
 returns c =
     let asked = c.before.takes in
     rw (← asked.ensures, not-true asked.result c.if1.true)
@@ -18,7 +18,7 @@ element-write-places : tie.Need-element-write-places
 element-write-places c = search rules
 
 returns-2 : tie.Need-returns-2
-unfolding notedOption
+unfolding noted_option
 returns-2 c =
     let at-if1 = c.before in
     let asked = at-if1.before.takes in
@@ -28,7 +28,7 @@ note-requires : tie.Need-note-requires
 note-requires c κs = search rules
 
 returns-3 : tie.Need-returns-3
-unfolding notedOption
+unfolding noted_option
 returns-3 c =
     let at-if2 = c.before.before in
     let at-if1 = at-if2.before in

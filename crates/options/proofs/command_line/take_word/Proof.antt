@@ -1,7 +1,7 @@
 -- `command_line::take_word` meets its contract: the awaited value, or by what the word is.
 use borrow.Author.Rules.{rules}
 use borrow.Author.Tests.{eq-eqb, ne_eqb}
-use Rattle.options.specs.CommandLine.{afterWord}
+use Rattle.options.specs.CommandLine.{after_word}
 use Rattle.options.proofs.command_line.take_word.Statement.{statement}
 use Rattle.options.proofs.command_line.take_word.Tie as tie
 
@@ -15,7 +15,7 @@ note-requires : tie.Need-note-requires
 note-requires c κs = search rules
 
 returns : tie.Need-returns
-unfolding afterWord
+unfolding after_word
 returns c = rw (ne_eqb _ _ c.before.before.if1.true) c.note.ensures
 
 word-of-requires : tie.Need-word-of-requires
@@ -43,7 +43,7 @@ note-file-requires : tie.Need-note-file-requires
 note-file-requires c κs = search rules
 
 returns-2 : tie.Need-returns-2
-unfolding afterWord
+unfolding after_word
 returns-2 c =
     let known = c.before.before.before in
     let at-word-of = known.before.before in
@@ -55,7 +55,7 @@ returns-2 c =
     c.note-option.ensures
 
 returns-3 : tie.Need-returns-3
-unfolding afterWord
+unfolding after_word
 returns-3 c =
     let known = c.before.before.before in
     let at-word-of = known.before.before in
@@ -67,13 +67,13 @@ returns-3 c =
     c.note-option2.ensures
 
 returns-4 : tie.Need-returns-4
-unfolding afterWord
+unfolding after_word
 returns-4 c =
     let at-word-of = c.before.before in
     rw (eq-eqb _ _ at-word-of.before.if1.false, ← at-word-of.word_of.ensures, c.enum_told.given.1)
 
 returns-5 : tie.Need-returns-5
-unfolding afterWord
+unfolding after_word
 returns-5 c =
     let told = c.before.before in
     let at-word-of = told.before.before in

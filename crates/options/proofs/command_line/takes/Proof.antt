@@ -1,9 +1,9 @@
 -- `command_line::takes` meets its contract: a common option, then by the command.
 use mathlib.Core.Path.{sym, ◌∙◌}
 use borrow.Author.Tests.{eq-eqb, ne_eqb}
-use Rattle.options.proofs.Commands.{no-options}
-use Rattle.options.proofs.WordLaws.{or-false}
-use Rattle.options.specs.CommandLine.{hasOption}
+use Rattle.options.proofs.Commands.{no_options_lem}
+use Rattle.options.proofs.WordLaws.{or_false}
+use Rattle.options.specs.CommandLine.{has_option}
 use borrow.Author.Rules.{rules}
 use Rattle.options.proofs.command_line.takes.Statement.{statement}
 use Rattle.options.proofs.command_line.takes.Tie as tie
@@ -12,7 +12,7 @@ is-common-requires : tie.Need-is-common-requires
 is-common-requires c κs = search rules
 
 returns : tie.Need-returns
-unfolding hasOption
+unfolding has_option
 returns c = rw (← c.before.is-common.ensures, c.if1.true)
 
 enum_told : tie.Need-enum-told
@@ -31,7 +31,7 @@ enum-told-5 : tie.Need-enum-told-5
 enum-told-5 c = search rules
 
 returns-2 : tie.Need-returns-2
-unfolding hasOption
+unfolding has_option
 returns-2 c =
     let at-if1 = c.before.before.before in
     rw (
@@ -42,7 +42,7 @@ returns-2 c =
     )
 
 returns-3 : tie.Need-returns-3
-unfolding hasOption
+unfolding has_option
 returns-3 c =
     let at-if1 = c.before.before.before in
     rw (
@@ -50,11 +50,11 @@ returns-3 c =
       at-if1.if1.false,
       c.before.enum_told.given.1,
       ne_eqb _ _ c.if2.false,
-      or-false,
+      or_false,
     )
 
 returns-4 : tie.Need-returns-4
-unfolding hasOption
+unfolding has_option
 returns-4 c =
     let at-if1 = c.before.before.before in
     rw (
@@ -65,7 +65,7 @@ returns-4 c =
     )
 
 returns-5 : tie.Need-returns-5
-unfolding hasOption
+unfolding has_option
 returns-5 c =
     let at-if1 = c.before.before.before in
     rw (
@@ -73,11 +73,11 @@ returns-5 c =
       at-if1.if1.false,
       c.before.enum-told2.given.1,
       ne_eqb _ _ c.if3.false,
-      or-false,
+      or_false,
     )
 
 returns-6 : tie.Need-returns-6
-unfolding hasOption
+unfolding has_option
 returns-6 c =
     let at-if1 = c.before.before.before in
     rw (
@@ -88,7 +88,7 @@ returns-6 c =
     )
 
 returns-7 : tie.Need-returns-7
-unfolding hasOption
+unfolding has_option
 returns-7 c =
     let at-if1 = c.before.before.before in
     rw (
@@ -96,11 +96,11 @@ returns-7 c =
       at-if1.if1.false,
       c.before.enum-told3.given.1,
       ne_eqb _ _ c.if4.false,
-      or-false,
+      or_false,
     )
 
 returns-8 : tie.Need-returns-8
-unfolding hasOption
+unfolding has_option
 returns-8 c =
     let at-if1 = c.before.before.before in
     rw (
@@ -111,7 +111,7 @@ returns-8 c =
     )
 
 returns-9 : tie.Need-returns-9
-unfolding hasOption
+unfolding has_option
 returns-9 c =
     let at-if1 = c.before.before.before in
     rw (
@@ -119,11 +119,11 @@ returns-9 c =
       at-if1.if1.false,
       c.before.enum-told4.given.1,
       ne_eqb _ _ c.if5.false,
-      or-false,
+      or_false,
     )
 
 returns-10 : tie.Need-returns-10
-unfolding hasOption
+unfolding has_option
 returns-10 c =
     let at-if1 = c.before.before.before in
     rw (
@@ -134,7 +134,7 @@ returns-10 c =
     )
 
 returns-11 : tie.Need-returns-11
-unfolding hasOption
+unfolding has_option
 returns-11 c =
     let at-if1 = c.before.before.before in
     rw (
@@ -142,15 +142,15 @@ returns-11 c =
       at-if1.if1.false,
       c.before.enum-told5.given.1,
       ne_eqb _ _ c.if6.false,
-      or-false,
+      or_false,
     )
 
 returns-12 : tie.Need-returns-12
-unfolding hasOption
+unfolding has_option
 returns-12 c =
     let at-if1 = c.before in
     let args = at-if1.before.before.args in
-    rw (← at-if1.before.is-common.ensures, at-if1.if1.false, no-options args.command c.match.keys6)
+    rw (← at-if1.before.is-common.ensures, at-if1.if1.false, no_options_lem args.command c.match.keys6)
 
 pub takes-spec : {M : Type 1} → statement M
 takes-spec =

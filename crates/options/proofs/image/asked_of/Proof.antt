@@ -1,6 +1,6 @@
 -- `image::asked_of` meets its contract: name by name.
 use mathlib.Core.Path.{sym, ◌∙◌}
-use Rattle.options.specs.Image.{sizeNamed}
+use Rattle.options.specs.Image.{size_named}
 use borrow.Author.Rules.{rules}
 use Rattle.options.proofs.image.asked_of.Statement.{statement}
 use Rattle.options.proofs.image.asked_of.Tie as tie
@@ -12,7 +12,7 @@ is-requires : tie.Need-is-requires
 is-requires c κs = search rules
 
 returns : tie.Need-returns
-unfolding sizeNamed
+unfolding size_named
 returns c =
     rw (sym c.before.is.ensures ∙ c.if1.true)
 
@@ -23,7 +23,7 @@ is-requires-2 : tie.Need-is-requires-2
 is-requires-2 c κs = search rules
 
 returns-2 : tie.Need-returns-2
-unfolding sizeNamed
+unfolding size_named
 returns-2 c =
     let at-if1 = c.before.before.before in
     rw (
@@ -32,7 +32,7 @@ returns-2 c =
     )
 
 returns-3 : tie.Need-returns-3
-unfolding sizeNamed
+unfolding size_named
 returns-3 c =
     let at-if1 = c.before.before.before in
     rw (

@@ -1,6 +1,6 @@
 -- `image::hex_image` meets its contract: by the size that is asked for.
 use mathlib.Core.Path.{◌∙◌}
-use Rattle.options.proofs.ImageLaws.{as_none, large-read, lowest-read, small-read}
+use Rattle.options.proofs.ImageLaws.{as_none, large_read, lowest_read, small_read}
 use borrow.Author.Rules.{rules}
 use Rattle.options.proofs.image.hex_image.Statement.{statement}
 use Rattle.options.proofs.image.hex_image.Tie as tie
@@ -66,7 +66,7 @@ returns c =
     let start = told.before.before.before.before in
     let args = start.args in
     rw told.enum_told.given.1
-    (small-read args.space.now start.requires args.file.now args.fill _ at_read.read.result _
+    (small_read args.space.now start.requires args.file.now args.fill _ at_read.read.result _
     at_read.read.ensures c.sized.ensures)
 
 same-length-2 : tie.Need-same-length-2
@@ -79,7 +79,7 @@ returns-2 c =
     let start = told.before.before.before.before in
     let args = start.args in
     rw told.enum-told2.given.1
-    (large-read args.space.now start.requires args.file.now args.fill _ at_read.read2.result _
+    (large_read args.space.now start.requires args.file.now args.fill _ at_read.read2.result _
     at_read.read2.ensures c.sized2.ensures)
 
 same-length-3 : tie.Need-same-length-3
@@ -91,7 +91,7 @@ returns-3 c =
     let keys = at_read.before.before in
     let start = keys.before.before.before in
     let args = start.args in
-    lowest-read args.space.now start.requires args.file.now args.fill _ at_read.read3.result _
+    lowest_read args.space.now start.requires args.file.now args.fill _ at_read.read3.result _
     at_read.read3.ensures c.by-lowest.ensures
     ∙ as_none args.file.now args.fill args.space.now args.asked keys.match.keys3
 

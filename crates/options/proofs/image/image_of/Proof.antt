@@ -1,12 +1,12 @@
 -- `image::image_of` meets its contract.
 use borrow.Author.Tests.{eq-eqb, ne_eqb}
-use Rattle.options.specs.Image.{imageGot}
+use Rattle.options.specs.Image.{image_got}
 use borrow.Author.Rules.{rules}
 use Rattle.options.proofs.image.image_of.Statement.{statement}
 use Rattle.options.proofs.image.image_of.Tie as tie
 
 returns : tie.Need-returns
-unfolding imageGot
+unfolding image_got
 returns c = rw (ne_eqb _ _ c.if1.true)
 
 is-hex-requires : tie.Need-is-hex-requires
@@ -19,7 +19,7 @@ same_length : tie.Need-same-length
 same_length c = search rules
 
 returns-2 : tie.Need-returns-2
-unfolding imageGot
+unfolding image_got
 returns-2 c =
     let called = c.before.before in
     let at-if2 = called.before.before in
@@ -34,7 +34,7 @@ same-length-2 : tie.Need-same-length-2
 same-length-2 c = search rules
 
 returns-3 : tie.Need-returns-3
-unfolding imageGot
+unfolding image_got
 returns-3 c =
     let called = c.before.before in
     let at-if2 = called.before.before in

@@ -5,7 +5,7 @@ use mathlib.Core.Path.{◌∙◌, sym}
 use borrow.Author.Tests.{not-true, not-false}
 use lib.ListN.{length}
 use Rattle.isa.proofs.Halves.{sized}
-use Rattle.options.specs.Image.{rawGot}
+use Rattle.options.specs.Image.{raw_got}
 use Rattle.options.proofs.ImageLaws.{part_filled, part_room}
 use borrow.Author.Rules.{rules}
 use Rattle.options.proofs.image.raw_image.Statement.{statement}
@@ -15,7 +15,7 @@ is-image-length-requires : tie.Need-is-image-length-requires
 is-image-length-requires c κs = search rules
 
 returns : tie.Need-returns
-unfolding rawGot
+unfolding raw_got
 returns c =
     let test = c.before.is-image-length in
     rw (← test.ensures, not-true test.result c.if1.true)
@@ -29,7 +29,7 @@ may-be-requires : tie.Need-may-be-requires
 may-be-requires c κs = search rules
 
 returns-2 : tie.Need-returns-2
-unfolding rawGot
+unfolding raw_got
 returns-2 c =
     let at_size = c.before.before in
     let asked = c.before.may-be in
@@ -72,7 +72,7 @@ same_length : tie.Need-same-length
 same_length c = search rules
 
 returns-3 : tie.Need-returns-3
-unfolding rawGot
+unfolding raw_got
 returns-3 c =
     let at_copy = c.before.before in
     let at-if2 = at_copy.before.before in

@@ -2,14 +2,14 @@
 use native.Mathlib.Omega.{arith}
 use lib.ListN.{get_or}
 use borrow.Author.Tests.{eq-eqb, ne_eqb}
-use Rattle.hex.proofs.DigitLaws.{digit-at-most}
-use Rattle.options.specs.Numbers.{byteNamed}
+use Rattle.hex.proofs.DigitLaws.{digit_at_most}
+use Rattle.options.specs.Numbers.{byte_named}
 use borrow.Author.Rules.{rules}
 use Rattle.options.proofs.numbers.byte_of.Statement.{statement}
 use Rattle.options.proofs.numbers.byte_of.Tie as tie
 
 returns : tie.Need-returns
-unfolding byteNamed
+unfolding byte_named
 returns c = rw (ne_eqb _ _ c.if1.true)
 
 shared-slice-read-digit-of : tie.Need-shared-slice-read-digit-of
@@ -19,7 +19,7 @@ digit-of-requires : tie.Need-digit-of-requires
 digit-of-requires c κs = search rules
 
 returns-2 : tie.Need-returns-2
-unfolding byteNamed
+unfolding byte_named
 returns-2 c =
     let high = c.before in
     rw (eq-eqb _ _ high.before.before.if1.false, ← high.digit-of.ensures, eq-eqb _ _ c.if2.true)
@@ -31,7 +31,7 @@ digit-of-requires-2 : tie.Need-digit-of-requires-2
 digit-of-requires-2 c κs = search rules
 
 returns-3 : tie.Need-returns-3
-unfolding byteNamed
+unfolding byte_named
 returns-3 c =
     let low = c.before in
     let tested = low.before.before in
@@ -53,8 +53,8 @@ mul-t4 c =
       arith,
       high.digit-of.ensures,
       low.digit-of2.ensures,
-      digit-at-most (get_or text 0 0),
-      digit-at-most (get_or text 1 0),
+      digit_at_most (get_or text 0 0),
+      digit_at_most (get_or text 1 0),
     )
 
 add-t9 : tie.Need-overflow-add-t9
@@ -66,8 +66,8 @@ add-t9 c =
       arith,
       high.digit-of.ensures,
       low.digit-of2.ensures,
-      digit-at-most (get_or text 0 0),
-      digit-at-most (get_or text 1 0),
+      digit_at_most (get_or text 0 0),
+      digit_at_most (get_or text 1 0),
     )
 
 cast-t10 : tie.Need-overflow-cast-t10
@@ -79,12 +79,12 @@ cast-t10 c =
       arith,
       high.digit-of.ensures,
       low.digit-of2.ensures,
-      digit-at-most (get_or text 0 0),
-      digit-at-most (get_or text 1 0),
+      digit_at_most (get_or text 0 0),
+      digit_at_most (get_or text 1 0),
     )
 
 returns-4 : tie.Need-returns-4
-unfolding byteNamed
+unfolding byte_named
 returns-4 c =
     let low = c.before in
     let tested = low.before.before in

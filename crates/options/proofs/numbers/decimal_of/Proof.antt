@@ -3,8 +3,8 @@ use Prim.Native.Nat.{◌≤◌, ◌-◌}
 use native.Mathlib.Omega.{arith}
 use mathlib.Core.Path.{◌≡◌, refl, sym, ◌∙◌}
 use lib.ListN.{length, drop}
-use Rattle.options.specs.Numbers.{parsedAfter}
-use Rattle.options.proofs.NumberLaws.{above-digits, all_digits, below-digits, no_text, one_more, some-text}
+use Rattle.options.specs.Numbers.{parsed_after}
+use Rattle.options.proofs.NumberLaws.{above_digits, all_digits, below_digits, no_text, one_more, some_text}
 use Rattle.options.proofs.NumberLaws.{too_large}
 use borrow.Author.Rules.{rules}
 use Rattle.options.proofs.numbers.decimal_of.Statement.{statement}
@@ -12,7 +12,7 @@ use Rattle.options.proofs.numbers.decimal_of.Tie as tie
 
 abbrev invariant-loop : tie.invariant-loop
 invariant-loop text value₀ i₀ value i =
-    (i ≤ length text) × (value ≤ 65535) × (parsedAfter value (drop i text) ≡ parsedAfter 0 text)
+    (i ≤ length text) × (value ≤ 65535) × (parsed_after value (drop i text) ≡ parsed_after 0 text)
 
 abbrev decreases-loop : tie.decreases-loop
 decreases-loop text value₀ i₀ value i = length text - i
@@ -33,8 +33,8 @@ returns-2 c =
     let at-if1 = at-loop.before in
     let text = at-if1.before.args.text.now in
     let loop = at-loop.loop in
-    let wrong = below-digits text loop.i in-loop.loop-test.true loop.value c.if2.true in
-    sym (some-text text at-if1.if1.false ∙ sym loop.invariant.2 ∙ wrong)
+    let wrong = below_digits text loop.i in-loop.loop-test.true loop.value c.if2.true in
+    sym (some_text text at-if1.if1.false ∙ sym loop.invariant.2 ∙ wrong)
 
 returns-3 : tie.Need-returns-3 invariant-loop decreases-loop
 returns-3 c =
@@ -43,8 +43,8 @@ returns-3 c =
     let at-if1 = at-loop.before in
     let text = at-if1.before.args.text.now in
     let loop = at-loop.loop in
-    let wrong = above-digits text loop.i in-loop.loop-test.true loop.value c.if3.true in
-    sym (some-text text at-if1.if1.false ∙ sym loop.invariant.2 ∙ wrong)
+    let wrong = above_digits text loop.i in-loop.loop-test.true loop.value c.if3.true in
+    sym (some_text text at-if1.if1.false ∙ sym loop.invariant.2 ∙ wrong)
 
 mul-value : tie.Need-overflow-mul-value invariant-loop decreases-loop
 mul-value c = search rules
@@ -65,7 +65,7 @@ returns-4 c =
     let wrong =
     too_large text loop.i in-loop.loop-test.true loop.value c.before.before.if2.false
     c.before.if3.false c.if4.true in
-    sym (some-text text at-if1.if1.false ∙ sym loop.invariant.2 ∙ wrong)
+    sym (some_text text at-if1.if1.false ∙ sym loop.invariant.2 ∙ wrong)
 
 add-i : tie.Need-overflow-add-i invariant-loop decreases-loop
 add-i c = search rules
@@ -94,7 +94,7 @@ returns-5 c =
     let text = at-if1.before.args.text.now in
     let loop = at-loop.loop in
     let all = all_digits text loop.i loop.value (omega arith) loop.invariant.1 in
-    sym (some-text text at-if1.if1.false ∙ sym loop.invariant.2 ∙ all)
+    sym (some_text text at-if1.if1.false ∙ sym loop.invariant.2 ∙ all)
 
 pub decimal-of-spec : {M : Type 1} → statement M
 decimal-of-spec =

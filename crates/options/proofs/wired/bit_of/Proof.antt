@@ -1,6 +1,6 @@
 -- `wired::bit_of` meets its contract: name by name.
 use mathlib.Core.Path.{sym, ◌∙◌}
-use Rattle.options.specs.Wired.{bitNamed}
+use Rattle.options.specs.Wired.{bit_named}
 use borrow.Author.Rules.{rules}
 use Rattle.options.proofs.wired.bit_of.Statement.{statement}
 use Rattle.options.proofs.wired.bit_of.Tie as tie
@@ -12,7 +12,7 @@ is-requires : tie.Need-is-requires
 is-requires c κs = search rules
 
 returns : tie.Need-returns
-unfolding bitNamed
+unfolding bit_named
 returns c =
     rw (sym c.before.is.ensures ∙ c.if1.true)
 
@@ -23,7 +23,7 @@ is-requires-2 : tie.Need-is-requires-2
 is-requires-2 c κs = search rules
 
 returns-2 : tie.Need-returns-2
-unfolding bitNamed
+unfolding bit_named
 returns-2 c =
     let at-if1 = c.before.before.before in
     rw (
@@ -38,7 +38,7 @@ is-requires-3 : tie.Need-is-requires-3
 is-requires-3 c κs = search rules
 
 returns-3 : tie.Need-returns-3
-unfolding bitNamed
+unfolding bit_named
 returns-3 c =
     let at-if2 = c.before.before.before in
     let at-if1 = at-if2.before.before.before in
@@ -55,7 +55,7 @@ is-requires-4 : tie.Need-is-requires-4
 is-requires-4 c κs = search rules
 
 returns-4 : tie.Need-returns-4
-unfolding bitNamed
+unfolding bit_named
 returns-4 c =
     let at-if3 = c.before.before.before in
     let at-if2 = at-if3.before.before.before in
@@ -74,7 +74,7 @@ is-requires-5 : tie.Need-is-requires-5
 is-requires-5 c κs = search rules
 
 returns-5 : tie.Need-returns-5
-unfolding bitNamed
+unfolding bit_named
 returns-5 c =
     let at-if4 = c.before.before.before in
     let at-if3 = at-if4.before.before.before in
@@ -89,7 +89,7 @@ returns-5 c =
     )
 
 returns-6 : tie.Need-returns-6
-unfolding bitNamed
+unfolding bit_named
 returns-6 c =
     let at-if4 = c.before.before.before in
     let at-if3 = at-if4.before.before.before in

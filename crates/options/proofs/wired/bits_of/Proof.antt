@@ -3,15 +3,15 @@ use Prim.Native.Nat.{◌≤◌}
 use native.Mathlib.Omega.{arith}
 use mathlib.Core.Path.{◌≡◌, refl, sym, ◌∙◌}
 use lib.ListN.{length}
-use Rattle.options.specs.Wired.{parts_of, wiredAfter}
-use Rattle.options.proofs.WiredLaws.{last-source, no_source, one-source}
+use Rattle.options.specs.Wired.{parts_of, wired_after}
+use Rattle.options.proofs.WiredLaws.{last_source, no_source, one_source}
 use borrow.Author.Rules.{rules}
 use Rattle.options.proofs.wired.bits_of.Statement.{statement}
 use Rattle.options.proofs.wired.bits_of.Tie as tie
 
 abbrev invariant-loop : tie.invariant-loop
 invariant-loop names rest₀ byte₀ rest byte =
-    (length rest ≤ length names) × (wiredAfter byte (parts_of 44 rest) ≡ wiredAfter 0 (parts_of 44 names))
+    (length rest ≤ length names) × (wired_after byte (parts_of 44 rest) ≡ wired_after 0 (parts_of 44 names))
 
 abbrev decreases-loop : tie.decreases-loop
 decreases-loop names rest₀ byte₀ rest byte = length rest
@@ -43,7 +43,7 @@ returns-2 c =
     let at-bit-of = at-if1.before in
     let at_before = at-bit-of.before.before in
     let loop = at_before.before.loop in
-    let last = last-source loop.byte _ at_before.before2.result at_before.before2.ensures.1
+    let last = last_source loop.byte _ at_before.before2.result at_before.before2.ensures.1
     at-bit-of.bit-of.result at-bit-of.bit-of.ensures at-if1.if1.false c.if2.true in
     sym (sym loop.invariant.1 ∙ last)
 
@@ -69,7 +69,7 @@ loop-again c =
     let at-bit-of = at-if1.before in
     let at_before = at-bit-of.before.before in
     let loop = at_before.before.loop in
-    let one = one-source loop.byte _ at_before.before2.result at_before.before2.ensures.1
+    let one = one_source loop.byte _ at_before.before2.result at_before.before2.ensures.1
     at-bit-of.bit-of.result at-bit-of.bit-of.ensures at-if1.if1.false (search rules) in
     (search rules, one ∙ loop.invariant.1)
 

@@ -2,8 +2,8 @@
 use mathlib.Core.Path.{refl, sym, ◌∙◌}
 use lib.ListN.{take}
 use borrow.Author.Tests.{ne_eqb}
-use Rattle.options.specs.Numbers.{decimalNamed}
-use Rattle.options.proofs.WiredLaws.{no_middle, no-request, request-of}
+use Rattle.options.specs.Numbers.{decimal_named}
+use Rattle.options.proofs.WiredLaws.{no_middle, no_request, request_of_lem}
 use borrow.Author.Rules.{rules}
 use Rattle.options.proofs.wired.request_of.Statement.{statement}
 use Rattle.options.proofs.wired.request_of.Tie as tie
@@ -39,10 +39,10 @@ returns-2 c =
     let at_before = at-if1.before in
     let start = at_before.before.before in
     let text = start.args.text.now in
-    let step = decimalNamed (take at_before.before2.result text) in
-    let is = request-of text _ at-bit-of.bit-of.result step at_before.before2.ensures.1 (search rules)
+    let step = decimal_named (take at_before.before2.result text) in
+    let is = request_of_lem text _ at-bit-of.bit-of.result step at_before.before2.ensures.1 (search rules)
     at-bit-of.bit-of.ensures refl in
-    sym (is ∙ rw c.if2.true (no-request step))
+    sym (is ∙ rw c.if2.true (no_request step))
 
 slice-aggregate-decimal-of : tie.Need-slice-aggregate-decimal-of
 slice-aggregate-decimal-of c = search rules
@@ -65,7 +65,7 @@ returns-3 c =
     let at-if1 = at-bit-of.before.before in
     let at_before = at-if1.before in
     let start = at_before.before.before in
-    let is = request-of start.args.text.now _ at-bit-of.bit-of.result at-decimal-of.decimal-of.result
+    let is = request_of_lem start.args.text.now _ at-bit-of.bit-of.result at-decimal-of.decimal-of.result
     at_before.before2.ensures.1 (search rules) at-bit-of.bit-of.ensures at-decimal-of.decimal-of.ensures in
     sym (is ∙ rw (known.step.given.1, ne_eqb _ _ at-if2.if2.false))
 
@@ -78,7 +78,7 @@ returns-4 c =
     let at-if1 = at-bit-of.before.before in
     let at_before = at-if1.before in
     let start = at_before.before.before in
-    let is = request-of start.args.text.now _ at-bit-of.bit-of.result at-decimal-of.decimal-of.result
+    let is = request_of_lem start.args.text.now _ at-bit-of.bit-of.result at-decimal-of.decimal-of.result
     at_before.before2.ensures.1 (search rules) at-bit-of.bit-of.ensures at-decimal-of.decimal-of.ensures in
     sym (is ∙ rw known.enum_told.given.1)
 

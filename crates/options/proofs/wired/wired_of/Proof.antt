@@ -1,6 +1,6 @@
 -- `wired::wired_of` meets its contract.
 use mathlib.Core.Path.{sym, ◌∙◌}
-use Rattle.options.specs.Wired.{wiredNamed}
+use Rattle.options.specs.Wired.{wired_named}
 use borrow.Author.Rules.{rules}
 use Rattle.options.proofs.wired.wired_of.Statement.{statement}
 use Rattle.options.proofs.wired.wired_of.Tie as tie
@@ -12,14 +12,14 @@ is-requires : tie.Need-is-requires
 is-requires c κs = search rules
 
 returns : tie.Need-returns
-unfolding wiredNamed
+unfolding wired_named
 returns c = rw (sym c.before.is.ensures ∙ c.if1.true)
 
 bits-of-requires : tie.Need-bits-of-requires
 bits-of-requires c κs = search rules
 
 returns-2 : tie.Need-returns-2
-unfolding wiredNamed
+unfolding wired_named
 returns-2 c =
     let at-if1 = c.before in
     rw (sym at-if1.before.is.ensures ∙ at-if1.if1.false) c.bits_of.ensures

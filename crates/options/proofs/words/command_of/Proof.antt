@@ -1,6 +1,6 @@
 -- `words::command_of` meets its contract: name by name.
 use mathlib.Core.Path.{sym, ◌∙◌}
-use Rattle.options.specs.Words.{commandNamed}
+use Rattle.options.specs.Words.{command_named}
 use borrow.Author.Rules.{rules}
 use Rattle.options.proofs.words.command_of.Statement.{statement}
 use Rattle.options.proofs.words.command_of.Tie as tie
@@ -12,7 +12,7 @@ is-requires : tie.Need-is-requires
 is-requires c κs = search rules
 
 returns : tie.Need-returns
-unfolding commandNamed
+unfolding command_named
 returns c =
     rw (sym c.before.is.ensures ∙ c.if1.true)
 
@@ -23,7 +23,7 @@ is-requires-2 : tie.Need-is-requires-2
 is-requires-2 c κs = search rules
 
 returns-2 : tie.Need-returns-2
-unfolding commandNamed
+unfolding command_named
 returns-2 c =
     let at-if1 = c.before.before.before in
     rw (
@@ -38,7 +38,7 @@ is-requires-3 : tie.Need-is-requires-3
 is-requires-3 c κs = search rules
 
 returns-3 : tie.Need-returns-3
-unfolding commandNamed
+unfolding command_named
 returns-3 c =
     let at-if2 = c.before.before.before in
     let at-if1 = at-if2.before.before.before in
@@ -55,7 +55,7 @@ is-requires-4 : tie.Need-is-requires-4
 is-requires-4 c κs = search rules
 
 returns-4 : tie.Need-returns-4
-unfolding commandNamed
+unfolding command_named
 returns-4 c =
     let at-if3 = c.before.before.before in
     let at-if2 = at-if3.before.before.before in
@@ -74,7 +74,7 @@ is-requires-5 : tie.Need-is-requires-5
 is-requires-5 c κs = search rules
 
 returns-5 : tie.Need-returns-5
-unfolding commandNamed
+unfolding command_named
 returns-5 c =
     let at-if4 = c.before.before.before in
     let at-if3 = at-if4.before.before.before in
@@ -95,7 +95,7 @@ is-requires-6 : tie.Need-is-requires-6
 is-requires-6 c κs = search rules
 
 returns-6 : tie.Need-returns-6
-unfolding commandNamed
+unfolding command_named
 returns-6 c =
     let at-if5 = c.before.before.before in
     let at-if4 = at-if5.before.before.before in
@@ -118,7 +118,7 @@ is-requires-7 : tie.Need-is-requires-7
 is-requires-7 c κs = search rules
 
 returns-7 : tie.Need-returns-7
-unfolding commandNamed
+unfolding command_named
 returns-7 c =
     let at-if6 = c.before.before.before in
     let at-if5 = at-if6.before.before.before in
@@ -143,7 +143,7 @@ is-requires-8 : tie.Need-is-requires-8
 is-requires-8 c κs = search rules
 
 returns-8 : tie.Need-returns-8
-unfolding commandNamed
+unfolding command_named
 returns-8 c =
     let at-if7 = c.before.before.before in
     let at-if6 = at-if7.before.before.before in
@@ -164,7 +164,7 @@ returns-8 c =
     )
 
 returns-9 : tie.Need-returns-9
-unfolding commandNamed
+unfolding command_named
 returns-9 c =
     let at-if7 = c.before.before.before in
     let at-if6 = at-if7.before.before.before in

@@ -1,6 +1,6 @@
 -- `words::flag` meets its contract: name by name.
 use mathlib.Core.Path.{sym, ◌∙◌}
-use Rattle.options.specs.Words.{flagNamed}
+use Rattle.options.specs.Words.{flag_named}
 use borrow.Author.Rules.{rules}
 use Rattle.options.proofs.words.flag.Statement.{statement}
 use Rattle.options.proofs.words.flag.Tie as tie
@@ -12,7 +12,7 @@ is-requires : tie.Need-is-requires
 is-requires c κs = search rules
 
 returns : tie.Need-returns
-unfolding flagNamed
+unfolding flag_named
 returns c =
     rw (sym c.before.is.ensures ∙ c.if1.true)
 
@@ -23,7 +23,7 @@ is-requires-2 : tie.Need-is-requires-2
 is-requires-2 c κs = search rules
 
 returns-2 : tie.Need-returns-2
-unfolding flagNamed
+unfolding flag_named
 returns-2 c =
     let at-if1 = c.before.before.before in
     rw (
@@ -38,7 +38,7 @@ is-requires-3 : tie.Need-is-requires-3
 is-requires-3 c κs = search rules
 
 returns-3 : tie.Need-returns-3
-unfolding flagNamed
+unfolding flag_named
 returns-3 c =
     let at-if2 = c.before.before.before in
     let at-if1 = at-if2.before.before.before in
@@ -49,7 +49,7 @@ returns-3 c =
     )
 
 returns-4 : tie.Need-returns-4
-unfolding flagNamed
+unfolding flag_named
 returns-4 c =
     let at-if2 = c.before.before.before in
     let at-if1 = at-if2.before.before.before in

@@ -4,7 +4,7 @@ use native.Mathlib.Omega.{arith}
 use mathlib.Core.Path.{◌≡◌, refl, sym, ◌∙◌}
 use lib.ListN.{length, drop}
 use Rattle.options.specs.Words.{same}
-use Rattle.options.proofs.WordLaws.{no-letters, other_length, other-letter, same-letter}
+use Rattle.options.proofs.WordLaws.{no_letters, other_length, other_letter, same_letter}
 use borrow.Author.Rules.{rules}
 use Rattle.options.proofs.words.is.Statement.{statement}
 use Rattle.options.proofs.words.is.Tie as tie
@@ -35,7 +35,7 @@ returns-2 c =
     let at-loop = in-loop.before in
     let args = at-loop.before.before.args in
     let other =
-    other-letter args.word.now args.name.now at-loop.loop.i in-loop.loop-test.true (omega arith)
+    other_letter args.word.now args.name.now at-loop.loop.i in-loop.loop-test.true (omega arith)
     c.if2.true in
     sym other ∙ at-loop.loop.invariant.1
 
@@ -51,7 +51,7 @@ loop-again c =
     let at-loop = in-loop.before in
     let args = at-loop.before.before.args in
     let one =
-    same-letter args.word.now args.name.now at-loop.loop.i in-loop.loop-test.true (omega arith)
+    same_letter args.word.now args.name.now at-loop.loop.i in-loop.loop-test.true (omega arith)
     c.if2.false in
     (omega arith, one ∙ at-loop.loop.invariant.1)
 
@@ -59,7 +59,7 @@ returns-3 : tie.Need-returns-3 invariant-loop decreases-loop
 returns-3 c =
     let at-loop = c.before in
     let args = at-loop.before.before.args in
-    let all = no-letters args.word.now args.name.now at-loop.loop.i (omega arith) (omega arith) in
+    let all = no_letters args.word.now args.name.now at-loop.loop.i (omega arith) (omega arith) in
     sym all ∙ at-loop.loop.invariant.1
 
 pub is-spec : {M : Type 1} → statement M

@@ -1,7 +1,7 @@
 -- `words::word_of` meets its contract: an option with a value, one without, or by the first letter.
 use borrow.Author.Tests.{eq-eqb, ne_eqb}
 use Rattle.options.specs.Words.{word_for}
-use Rattle.options.proofs.WordLaws.{empty-word, hyphen, no-hyphen}
+use Rattle.options.proofs.WordLaws.{empty_word, hyphen, no_hyphen}
 use borrow.Author.Rules.{rules}
 use Rattle.options.proofs.words.word_of.Statement.{statement}
 use Rattle.options.proofs.words.word_of.Tie as tie
@@ -39,7 +39,7 @@ returns-3 c =
       eq-eqb _ _ at-if1.if1.false,
       ← at_flag.flag.ensures,
       eq-eqb _ _ at-if2.if2.false,
-      empty-word w c.if3.true,
+      empty_word w c.if3.true,
     )
 
 shared-slice-read-if4 : tie.Need-shared-slice-read-if4
@@ -74,7 +74,7 @@ returns-5 c =
       eq-eqb _ _ at-if1.if1.false,
       ← at_flag.flag.ensures,
       eq-eqb _ _ at-if2.if2.false,
-      no-hyphen w at-if3.if3.false c.if4.false,
+      no_hyphen w at-if3.if3.false c.if4.false,
     )
 
 pub word-of-spec : {M : Type 1} → statement M

@@ -5,7 +5,7 @@ use mathlib.Core.Path.{◌≡◌}
 use lib.ListN.{length}
 use borrow.Author.Rules.{rules}
 use Rattle.isa.specs.Refusals.{plain}
-use Rattle.playback.specs.Record.{countOf, BodyFound}
+use Rattle.playback.specs.Record.{count_of, BodyFound}
 use Rattle.playback.specs.Refusals as why
 use Rattle.playback.proofs.HeaderCases.{starts, refuses}
 use Rattle.playback.proofs.header.find_body.Statement.{statement}
@@ -13,7 +13,7 @@ use Rattle.playback.proofs.header.find_body.Tie as tie
 
 returns : tie.Need-returns
 unfolding BodyFound
-returns c = refuses _ (plain 28) (why.under-three c.if1.true)
+returns c = refuses _ (plain 28) (why.under_three c.if1.true)
 
 shared-slice-read-if2 : tie.Need-shared-slice-read-if2
 shared-slice-read-if2 c = search rules
@@ -31,7 +31,7 @@ returns-3 : tie.Need-returns-3
 unfolding BodyFound
 returns-3 c =
     refuses _ (plain 27)
-    (why.other-version c.before.before.before.before.if1.false c.if3.true c.before.before.if2.false)
+    (why.other_version c.before.before.before.before.if1.false c.if3.true c.before.before.if2.false)
 
 sub-if4 : tie.Need-overflow-sub-if4
 sub-if4 c = search rules
@@ -45,7 +45,7 @@ returns-4 c =
     let counted = c.before in
     let long = counted.before.before.before.before.before.if1.false in
     refuses _ (plain 28)
-    (why.wrong-count long counted.before.if3.false
+    (why.wrong_count long counted.before.if3.false
     (λ is. c.if4.true (omega (arith, is, counted.count_of.ensures))))
 
 returns-5 : tie.Need-returns-5
@@ -55,10 +55,10 @@ returns-5 c =
     let start = counted.before.before.before.before.before.before.before in
     let long = counted.before.before.before.before.before.if1.false in
     let known = counted.before.before.shared-slice-known3 in
-    let same : length start.args.recording.now ≡ 3 + countOf start.args.recording.now =
+    let same : length start.args.recording.now ≡ 3 + count_of start.args.recording.now =
     omega (arith, long, c.if4.false, counted.count_of.ensures) in
     let short : length start.args.recording.now ≤ 0xFFFFFF = omega (arith, same, known.given 1, known.given 2) in
-    (long, short, starts start.args.recording.now 3 (why.version-1 counted.before.if3.false same))
+    (long, short, starts start.args.recording.now 3 (why.version_1 counted.before.if3.false same))
 
 pub find-body-spec : {M : Type 1} → statement M
 find-body-spec =

@@ -59,11 +59,11 @@ use denote.Triple.Table.{cited}
 use denote.Triple.Walked.{Stays, walk_of, Walks, walked}
 use denote.Exit.{yes}
 use Rattle.isa.specs.Refusals.{done}
-use Rattle.machine.specs.State.{fresh_of, ended_of, resetOf, hostStored, hostStoreOf}
-use Rattle.machine.specs.Run.{reportOf, run_of}
+use Rattle.machine.specs.State.{fresh_of, ended_of, reset_of, host_stored, host_store_of}
+use Rattle.machine.specs.Run.{report_of, run_of}
 use Rattle.machine.specs.declared.Machine.{Machine}
-use Rattle.bench.proofs.FunctionWalk.{Met, leaves, proved, framed, dropped, go-dropped, exits-plain}
-use Rattle.bench.proofs.KeyWalk.{val, vals, typed-machine, known-machine}
+use Rattle.bench.proofs.FunctionWalk.{Met, leaves, proved, framed, dropped, go_dropped, exits_plain}
+use Rattle.bench.proofs.KeyWalk.{val, vals, typed_machine, known_machine}
 use Rattle.bench.proofs.CallerWalk.{pressed, pressing, LoanTy}
 use Rattle.machine.specs.contracts.Machine as T
 use Rattle.machine.proofs.Machine.TheLaws as T'
@@ -74,26 +74,26 @@ use Rattle.machine.proofs.Ending.TheLaws as ending'
 use Rattle.machine.specs.contracts.state.fresh as fresh
 use Rattle.machine.proofs.state.fresh.Symbol as fresh-def
 use Rattle.machine.proofs.state.fresh.Met as fresh-thm
-use Rattle.bench.specs.contracts.keys.key_run as run-key
+use Rattle.bench.specs.contracts.keys.key_run as run_key
 use Rattle.bench.proofs.keys.key_run.Symbol as run-def
 use Rattle.bench.proofs.keys.key_run.Met as run-thm
-use Rattle.bench.specs.contracts.keys.key_store as store-key
+use Rattle.bench.specs.contracts.keys.key_store as store_key
 use Rattle.bench.proofs.keys.key_store.Symbol as store-def
 use Rattle.bench.proofs.keys.key_store.Met as store-thm
-use Rattle.bench.specs.contracts.keys.key_reset as reset-key
+use Rattle.bench.specs.contracts.keys.key_reset as reset_key
 use Rattle.bench.proofs.keys.key_reset.Symbol as reset-def
 use Rattle.bench.proofs.keys.key_reset.Met as reset-thm
 use Rattle.playback.specs.declared.turn.Turn.{Turn}
 use Rattle.playback.specs.declared.Entry.TheVariants.{Step, Store, Reset}
-use Rattle.playback.specs.Entries.{entriesOf, isBody}
-use Rattle.playback.specs.Play.{playingAs, playedBy, playedOf}
-use Rattle.playback.specs.Turn.{entry_of, playsOn, left, Kept, FirstTurn, AfterStore, AfterReset, After}
-use Rattle.playback.specs.Turn.{Gathered, runLeft, AfterRun}
-use Rattle.playback.proofs.Turns.{came, failed, is-step, is_store, is-reset, is-over, first-kept, first-plays}
-use Rattle.playback.proofs.Turns.{after_run, after_store, after-reset}
-use Rattle.playback.proofs.ValueWalk.{doubled, called, called-last}
-use Rattle.playback.proofs.ArrayWalk.{Bytes, BytesTy, bytesVal, count-is, zeros, zeros-bytes, zeroed, big}
-use Rattle.playback.proofs.ArrayWalk.{slice_out, slice_back, lending, lent-to}
+use Rattle.playback.specs.Entries.{entries_of, is_body}
+use Rattle.playback.specs.Play.{playing_as, played_by, played_of}
+use Rattle.playback.specs.Turn.{entry_of, plays_on, left, Kept, FirstTurn, AfterStore, AfterReset, After}
+use Rattle.playback.specs.Turn.{Gathered, run_left, AfterRun}
+use Rattle.playback.proofs.Turns.{came, failed, is_step, is_store, is_reset_lem, is_over, first_kept, first_plays}
+use Rattle.playback.proofs.Turns.{after_run, after_store, after_reset}
+use Rattle.playback.proofs.ValueWalk.{doubled, called, called_last}
+use Rattle.playback.proofs.ArrayWalk.{Bytes, BytesTy, bytes_val, count_is, zeros, zeros_bytes, zeroed, big}
+use Rattle.playback.proofs.ArrayWalk.{slice_out, slice_back, lending, lent_to}
 use Rattle.playback.proofs.ArrayWalk as array
 use Rattle.playback.specs.contracts.turn.Turn as S
 use Rattle.playback.proofs.turn.Turn.TheLaws as S'
@@ -111,7 +111,7 @@ use Rattle.playback.proofs.turn.after_run.Met as ran-thm
 use Rattle.playback.specs.contracts.turn.after_store as stored
 use Rattle.playback.proofs.turn.after_store.Symbol as stored-def
 use Rattle.playback.proofs.turn.after_store.Met as stored-thm
-use Rattle.playback.specs.contracts.turn.after_reset as was-reset
+use Rattle.playback.specs.contracts.turn.after_reset as was_reset
 use Rattle.playback.proofs.turn.after_reset.Symbol as was-reset-def
 use Rattle.playback.proofs.turn.after_reset.Met as was-reset-thm
 use Rattle.playback.specs.contracts.play.ended as end
@@ -129,14 +129,14 @@ abbrev stayed : Stays (player.ended).signature.params (player.ended).kept
 stayed = dropped ps (yes, (yes, tt))
 
 -- the other parameters of `gather`, and of the keys
-abbrev gather-ps : List (Slot 2)
-gather-ps = shr_slice_of (1 ∷ []) tt (plain (λ _. u8)) ∷ plain (λ _. S.the_row) ∷ []
+abbrev gather_ps : List (Slot 2)
+gather_ps = shr_slice_of (1 ∷ []) tt (plain (λ _. u8)) ∷ plain (λ _. S.the_row) ∷ []
 
-abbrev run-ps : List (Slot 3)
-run-ps = shr_slice_of (1 ∷ []) tt (plain (λ _. u8)) ∷ shr_slice_of (2 ∷ []) tt (plain (λ _. u8)) ∷ plain (λ _. u32) ∷ []
+abbrev run_ps : List (Slot 3)
+run_ps = shr_slice_of (1 ∷ []) tt (plain (λ _. u8)) ∷ shr_slice_of (2 ∷ []) tt (plain (λ _. u8)) ∷ plain (λ _. u32) ∷ []
 
-abbrev store-ps : List (Slot 1)
-store-ps = plain (λ _. u8) ∷ plain (λ _. u8) ∷ []
+abbrev store_ps : List (Slot 1)
+store_ps = plain (λ _. u8) ∷ plain (λ _. u8) ∷ []
 
 -- ---- the statements
 abbrev local : ℕ → Operand
@@ -145,29 +145,29 @@ local i = copy (place i [])
 abbrev part : ℕ → Operand
 part k = copy (place 4 (field k ∷ []))
 
-abbrev run-arm : Body
-run-arm =
+abbrev run_arm : Body
+run_arm =
     lending 5 12 6 gathering-def.name (local 12 ∷ local 2 ∷ local 4 ∷ [])
     (seq (assign (place 13 []) (addr_of (place 5 [])))
     (seq (assign (place 7 []) (aggregate (local 13 ∷ int_big w64 4096 ∷ [])))
     (pressing 3 14 8 run-def.name (local 14 ∷ local 1 ∷ local 7 ∷ local 6 ∷ [])
     (call ran-def.name (local 2 ∷ local 4 ∷ local 6 ∷ local 8 ∷ []) (place 4 [])))))
 
-abbrev store-arm : Body
-store-arm =
+abbrev store_arm : Body
+store_arm =
     pressing 3 16 9 store-def.name (local 16 ∷ part 2 ∷ part 3 ∷ [])
     (call stored-def.name (local 2 ∷ local 4 ∷ local 9 ∷ []) (place 4 []))
 
-abbrev reset-arm : Body
-reset-arm =
+abbrev reset_arm : Body
+reset_arm =
     pressing 3 18 17 reset-def.name (local 18 ∷ [])
     (call was-reset-def.name (local 2 ∷ local 4 ∷ []) (place 4 []))
 
 abbrev presses : Body
 presses =
     seq (assign (place 11 []) (op2 eq (part 1) (int w8 0)))
-    (cond (local 11) run-arm (seq (assign (place 15 []) (op2 eq (part 1) (int w8 1)))
-    (cond (local 15) store-arm reset-arm)))
+    (cond (local 11) run_arm (seq (assign (place 15 []) (op2 eq (part 1) (int w8 1)))
+    (cond (local 15) store_arm reset_arm)))
 
 abbrev turn_body : Body
 turn_body = seq (assign (place 11 []) (rv_opd (part 0))) (seq (cond (local 11) skip (exit 1)) presses)
@@ -189,31 +189,31 @@ all = seq (call fresh-def.name [] (place 10 [])) (seq (assign (place 3 []) (rv_o
 abbrev tval : Turn → Val
 tval = LL.val S.the_type S'.the_laws
 
-known-turn : (t : Turn) (v : Val) → Is S.the_row t (v ∷ []) → Is S.the_row t (tval t ∷ [])
-known-turn t v is = LL.owes S.the_type S'.the_laws t (LL.owed S.the_type S'.the_laws t (v ∷ []) is)
+known_turn : (t : Turn) (v : Val) → Is S.the_row t (v ∷ []) → Is S.the_row t (tval t ∷ [])
+known_turn t v is = LL.owes S.the_type S'.the_laws t (LL.owed S.the_type S'.the_laws t (v ∷ []) is)
 
-typed-turn : {M : Type 1} {𝓤 : Ura M} (𝓛 : Logic 𝓤) (t : Turn) (v : Val)
+typed_turn : {M : Type 1} {𝓤 : Ura M} (𝓛 : Logic 𝓤) (t : Turn) (v : Val)
     → Is S.the_row t (v ∷ []) → Holds (has_ty S'.mir v) × WT v
-typed-turn 𝓛 t v is = ((LL.lawful S.the_type S'.the_laws 𝓛).typed t (v ∷ []) is).0
+typed_turn 𝓛 t v is = ((LL.lawful S.the_type S'.the_laws 𝓛).typed t (v ∷ []) is).0
 
 -- where the loop stands: the machine that is held, the turn, and what the array of requests holds
 record At (image body : List ℕ) : Type 0 where
   pub machine : Machine
   pub turn : Turn
   pub requests : List ℕ
-  pub machine-is : Is T.the_row machine (vals machine)
+  pub machine_is : Is T.the_row machine (vals machine)
   pub turn_is : Is S.the_row turn (tval turn ∷ [])
-  pub requests-are : Is (Bytes 4096) requests (bytesVal requests ∷ [])
+  pub requests_are : Is (Bytes 4096) requests (bytes_val requests ∷ [])
   pub kept : Kept body turn
-  pub plays : playsOn image body machine turn ≡ playedBy image (entriesOf body)
+  pub plays : plays_on image body machine turn ≡ played_by image (entries_of body)
 
 -- the requests have room as a slice
 room : Room u8 4096
 room = (omega arith, omega arith)
 
 -- the bytes of its turn's entry
-first-is : {image body : List ℕ} (x : At image body) → Is u8 x.turn.first (vint w8 x.turn.first ∷ [])
-first-is x = (LL.owed S.the_type S'.the_laws x.turn (tval x.turn ∷ []) x.turn_is).1.1.0
+first_is : {image body : List ℕ} (x : At image body) → Is u8 x.turn.first (vint w8 x.turn.first ∷ [])
+first_is x = (LL.owed S.the_type S'.the_laws x.turn (tval x.turn ∷ []) x.turn_is).1.1.0
 
 second_is : {image body : List ℕ} (x : At image body) → Is u8 x.turn.second (vint w8 x.turn.second ∷ [])
 second_is x = (LL.owed S.the_type S'.the_laws x.turn (tval x.turn ∷ []) x.turn_is).1.1.1.0
@@ -227,7 +227,7 @@ Nearer-wf image body = InvImage.wf (λ (x : At image body). left body x.turn) lt
 
 -- the loop goes on at the machine m', the turn t' and the requests ys
 abbrev moved :
-    {image body : List ℕ} (x : At image body) (ys : List ℕ) → Is (Bytes 4096) ys (bytesVal ys ∷ [])
+    {image body : List ℕ} (x : At image body) (ys : List ℕ) → Is (Bytes 4096) ys (bytes_val ys ∷ [])
     → (Press : (image : List ℕ) (before after : Machine) → Type 0)
     (m' : Machine) → Is T.the_row m' (vals m') → (t' : Turn) (v : Val) → Is S.the_row t' (v ∷ [])
     → After body x.turn Press t' → Press image x.machine m' → At image body
@@ -235,9 +235,9 @@ moved {image} x ys gy Press m' gm t' v gt after pressed = record {
   machine = m';
   turn = t';
   requests = ys;
-  machine-is = gm;
-  turn_is = known-turn t' v gt;
-  requests-are = gy;
+  machine_is = gm;
+  turn_is = known_turn t' v gt;
+  requests_are = gy;
   kept = after.0;
   plays = after.2 image x.machine m' pressed ∙ x.plays;
 }
@@ -250,11 +250,11 @@ started image body m gm new t v gt begins = record {
   machine = m;
   turn = t;
   requests = zeros 4096;
-  machine-is = gm;
-  turn_is = known-turn t v gt;
-  requests-are = zeros-bytes 4096;
-  kept = first-kept body t begins;
-  plays = first-plays image body m t new begins;
+  machine_is = gm;
+  turn_is = known_turn t v gt;
+  requests_are = zeros_bytes 4096;
+  kept = first_kept body t begins;
+  plays = first_plays image body m t new begins;
 }
 
 -- the contracts that the proof cites
@@ -265,12 +265,12 @@ module _ {M : Type 1} {𝓤 : Ura M} (𝓛 : Logic 𝓤) (mem : Memory → SProp
     pub fresh : Triple 𝓤 (C fresh-def.name) (Met 𝓛 fresh.ended (fresh.clauses 𝓛 mem run))
     pub begin : Triple 𝓤 (C begin-def.name) (Met 𝓛 begin.ended (begin.clauses 𝓛 mem run))
     pub gathering : Triple 𝓤 (C gathering-def.name) (Met 𝓛 gathering.ended (gathering.clauses 𝓛 mem run))
-    pub run-key : Triple 𝓤 (C run-def.name) (Met 𝓛 run-key.ended (run-key.clauses 𝓛 mem run))
+    pub run_key : Triple 𝓤 (C run-def.name) (Met 𝓛 run_key.ended (run_key.clauses 𝓛 mem run))
     pub ran : Triple 𝓤 (C ran-def.name) (Met 𝓛 ran.ended (ran.clauses 𝓛 mem run))
-    pub store-key : Triple 𝓤 (C store-def.name) (Met 𝓛 store-key.ended (store-key.clauses 𝓛 mem run))
+    pub store_key : Triple 𝓤 (C store-def.name) (Met 𝓛 store_key.ended (store_key.clauses 𝓛 mem run))
     pub stored : Triple 𝓤 (C stored-def.name) (Met 𝓛 stored.ended (stored.clauses 𝓛 mem run))
-    pub reset-key : Triple 𝓤 (C reset-def.name) (Met 𝓛 reset-key.ended (reset-key.clauses 𝓛 mem run))
-    pub was-reset : Triple 𝓤 (C was-reset-def.name) (Met 𝓛 was-reset.ended (was-reset.clauses 𝓛 mem run))
+    pub reset_key : Triple 𝓤 (C reset-def.name) (Met 𝓛 reset_key.ended (reset_key.clauses 𝓛 mem run))
+    pub was_reset : Triple 𝓤 (C was-reset-def.name) (Met 𝓛 was_reset.ended (was_reset.clauses 𝓛 mem run))
     pub end : Triple 𝓤 (C end-def.name) (Met 𝓛 end.ended (end.clauses 𝓛 mem run))
 
 module _ {M : Type 1} {𝓤 : Ura M} (𝓛 : Logic 𝓤) (mem : Memory → SProp 𝓤)
@@ -362,7 +362,7 @@ module _ {M : Type 1} {𝓤 : Ura M} (𝓛 : Logic 𝓤) (mem : Memory → SProp
         ‵ (fat full_share S'.mir l₄ 0 (tval x.turn)) ∷ ‵ (froom LoanTy l₁₄ 0) ∷ ‵ (froom report'.mir l₈ 0) ∷
         i ∷ ‵ (froom LoanTy l₁₆ 0) ∷ ‵ (froom ending'.mir l₉ 0) ∷ j ∷
         ‵ (froom LoanTy l₁₈ 0) ∷ ‵ (froom ty_unit l₁₇ 0) ∷ ‵ (fat full_share BodyTy l₂ 0 zv) ∷
-        ‵ (fat full_share ImageTy l₁ 0 sv) ∷ ‵ (fat full_share (BytesTy 4096) l₅ 0 (bytesVal x.requests)) ∷
+        ‵ (fat full_share ImageTy l₁ 0 sv) ∷ ‵ (fat full_share (BytesTy 4096) l₅ 0 (bytes_val x.requests)) ∷
         ‵ (froom (array.LoanTy 4096) l₁₂ 0) ∷ ‵ (froom (ty_int w32) l₆ 0) ∷ ‵ (froom ShownTy l₁₃ 0) ∷
         ‵ (froom RowTy l₇ 0) ∷ Frame
 
@@ -381,41 +381,41 @@ module _ {M : Type 1} {𝓤 : Ura M} (𝓛 : Logic 𝓤) (mem : Memory → SProp
     -- ---- what the calls of a turn have in common
     module _ {K : Type 0} (k : K) {Γ : List (Item 𝓤)} where
       -- the body, the turn, and the other arguments F are what a function on turns is asked with
-      with-turn : (x : At s.now z.now) {F : Fml} {G : Goal 𝓤 H}
+      with_turn : (x : At s.now z.now) {F : Fml} {G : Goal 𝓤 H}
           → Move K 𝓛
           (‵ (fsep (BodyOf.own_val z (zv ∷ [])) (fsep ((S.the_row).own_val x.turn (tval x.turn ∷ [])) F)) ∷ zo ∷ Γ) G
           (‵ F ∷ zo ∷ Γ) G
-      with-turn x =
+      with_turn x =
           step (λ q. owned k S.the_row (Is S.the_row) (LL.makes S.the_type S'.the_plain 𝓛) x.turn
           (tval x.turn ∷ []) x.turn_is $ fjoin k $ move k (1 ∷ []) $
           doubled 𝓛 BodyOf (shr_slice_copy 𝓛 (named 1) κ₁ u8) z (zv ∷ []) k $
           move k (0 ∷ 2 ∷ 1 ∷ []) $ fjoin k $ q)
 
       -- the next turn is stored where the turn was
-      lands-turn : (t' : Turn) (v : Val) → Is S.the_row t' (v ∷ []) → (n : ℕ) {v₀ : Val} {q : Ending 𝓤 H}
+      lands_turn : (t' : Turn) (v : Val) → Is S.the_row t' (v ∷ []) → (n : ℕ) {v₀ : Val} {q : Ending 𝓤 H}
           → nth 𝓛 n Γ ≡ ‵ (fat full_share S'.mir l₄ 0 v₀)
           → Move K 𝓛 (put 𝓛 n (‵ (fat full_share S'.mir l₄ 0 (tval t'))) Γ) (prop (post 𝓤 H q next)) Γ
           (settles En (place 4 []) v q)
-      lands-turn t' v is n {q = q} stands =
+      lands_turn t' v is n {q = q} stands =
           step (λ rest. regoal k (λ (y : Val). settles En (place 4 []) y q)
           (ap only (LL.tells S.the_type S'.the_laws t' (v ∷ []) is)) refl $
-          land_last k (from k (stop k)) (store k n stands (typed-turn 𝓛 t' (tval t') (known-turn t' v is))) $
+          land_last k (from k (stop k)) (store k n stands (typed_turn 𝓛 t' (tval t') (known_turn t' v is))) $
           rest)
 
     -- ---- the arms
-    runs-row : (x : At s.now z.now) (b : Bool) → x.turn.more ≡ true
+    runs_row : (x : At s.now z.now) (b : Bool) → x.turn.more ≡ true
         → entry_of x.turn ≡ Step x.turn.first
-        → Sq 𝓛 (Having x (tested l₁₁ b) (‵ (froom ty_bool l₁₅ 0))) (runs C Λ En run-arm (any_q (Turned x)))
+        → Sq 𝓛 (Having x (tested l₁₁ b) (‵ (froom ty_bool l₁₅ 0))) (runs C Λ En run_arm (any_q (Turned x)))
     unfolding after_turn
-    runs-row x b goes is-e =
+    runs_row x b goes is-e =
         let m = x.machine in
         let t = x.turn in
         -- what `gather` is passed
-        move ! (1 ∷ []) $ nothing ! $ with-turn ! x $
+        move ! (1 ∷ []) $ nothing ! $ with_turn ! x $
         lft_new ! tt (λ ν. move ! (0 ∷ 3 ∷ 1 ∷ 18 ∷ 19 ∷ 20 ∷ []) $
-        lent-to 𝓛 4096 gather-ps (plain (λ _. u32)) (yes, (yes, tt)) (gathering.clauses 𝓛 mem run) ν l₅
+        lent_to 𝓛 4096 gather_ps (plain (λ _. u32)) (yes, (yes, tt)) (gathering.clauses 𝓛 mem run) ν l₅
         (κ₁, tt) (q₁, tt) x.requests (z, (t, tt)) (zv ∷ [], (tval t ∷ [], tt)) (λ _. tt) fm known.gathering
-        (λ _. fact_i 𝓤 _ (emp 𝓤) ((goes, is-e, x.kept, short), count-is 4096 x.requests x.requests-are))
+        (λ _. fact_i 𝓤 _ (emp 𝓤) ((goes, is-e, x.kept, short), count_is 4096 x.requests x.requests-are))
         (λ ys n. Gathered z.now t ys n) (λ _ _ _. id⊢ 𝓤 _) (ty_int w32)
         (λ n v is. ((uint_Lawful 𝓛 w32).typed n (v ∷ []) is).0) x.requests-are ! refl refl refl
         (λ _. and_then ! (load ! (from ! (stop !)) (look ! 2 refl))
@@ -438,11 +438,11 @@ module _ {M : Type 1} {𝓤 : Ura M} (𝓛 : Logic 𝓤) (mem : Memory → SProp
         use1 𝓛 (raw (toks 𝓛 2 (κ₀, (ν₂ ∷ [], tt)) (q₀, (full_share, tt)))) (id⊢ 𝓤 _) $
         -- [the tokens; what the key is passed; so; the lender's part; t₁; _12; _6; zo; _3; _4; _14; _8; …]
         lft_new ! tt (λ ν₃. move ! (0 ∷ 1 ∷ 2 ∷ 9 ∷ 11 ∷ 12 ∷ []) $
-        pressed 𝓛 run-ps (plain (λ _. report.the_row)) (yes, (yes, (yes, tt))) (run-key.clauses 𝓛 mem run) ν₃ l₃
+        pressed 𝓛 run_ps (plain (λ _. report.the_row)) (yes, (yes, (yes, tt))) (run_key.clauses 𝓛 mem run) ν₃ l₃
         (κ₀, (ν₂ ∷ [], tt)) (q₀, (full_share, tt)) m
         (s, (record { ref_ptr = (l₅, 0); now = ys }, (n, tt)))
         (sv ∷ [], (slice_val (l₅, 0) 4096 ∷ [], (v ∷ [], tt))) (λ _. tt) fm known.run-key (λ _. id⊢ 𝓤 _)
-        (λ m' r. runLeft m' (reportOf r) ≡ run_of s.now m ys n) (λ _ _ _. id⊢ 𝓤 _) report'.mir
+        (λ m' r. run_left m' (report_of r) ≡ run_of s.now m ys n) (λ _ _ _. id⊢ 𝓤 _) report'.mir
         (λ r v is. ((LL.lawful report.the_type report'.the_laws 𝓛).typed r _ is).0) x.machine-is ! refl refl refl
         (λ _. and_then ! (load ! (from ! (stop !)) (look ! 2 refl))
         (and_then ! (load ! (from ! (stop !)) (look ! 18 refl))
@@ -453,14 +453,14 @@ module _ {M : Type 1} {𝓤 : Ura M} (𝓛 : Logic 𝓤) (mem : Memory → SProp
         move ! (1 ∷ []) $
         use1 𝓛 (‵ (flft κ₀ q₀) ⊛ raw (toks 𝓛 1 (ν₂ ∷ [], tt) (full_share, tt))) (id⊢ 𝓤 _) $ split ! $
         move ! (1 ∷ []) $ use1 𝓛 (‵ (flft (ν₂ ∷ []) full_share) ⊛ raw (emp 𝓤)) (id⊢ 𝓤 _) $ split ! $ lft_end ! tt $
-        move ! (0 ∷ 7 ∷ []) $ slice_back ! tt 4096 ys (count-is 4096 ys gy) ν₂ l₅ (λ _. move ! (2 ∷ 1 ∷ []) $ join ! $
+        move ! (0 ∷ 7 ∷ []) $ slice_back ! tt 4096 ys (count_is 4096 ys gy) ν₂ l₅ (λ _. move ! (2 ∷ 1 ∷ []) $ join ! $
         use1 𝓛 t₀ (id⊢ 𝓤 _) $
         -- [t₀; _5; _3; _14; _8; so; t₁; _12; _6; zo; _4; _11; _16; _9; _15; _18; _17; _2; _1; _13; _7; …]
         move ! (9 ∷ []) $ nothing ! $
         owned ! report.the_row (Is report.the_row) (LL.makes report.the_type report'.the_plain 𝓛) r (v' ∷ []) is $
-        fjoin ! $ owned ! u32 (Is u32) (uint_Makes 𝓛 w32) n (v ∷ []) is-n $ fjoin ! $ with-turn ! x $
+        fjoin ! $ owned ! u32 (Is u32) (uint_Makes 𝓛 w32) n (v ∷ []) is-n $ fjoin ! $ with_turn ! x $
         move ! (8 ∷ 0 ∷ []) $
-        called-last 𝓛 ran.ended (ran.clauses 𝓛 mem run)
+        called_last 𝓛 ran.ended (ran.clauses 𝓛 mem run)
         (((κ₁, tt), (q₁, tt), tt, (z, (t, (n, (r, tt)))), (zv ∷ [], (tval t ∷ [], (v ∷ [], (v' ∷ [], tt))))), tt)
         (fact_i 𝓤 _ (emp 𝓤) (
           (goes, is-e, x.kept, short),
@@ -472,22 +472,22 @@ module _ {M : Type 1} {𝓤 : Ura M} (𝓛 : Logic 𝓤) (mem : Memory → SProp
             gathered = g;
             ran = e;
           },
-        )) (AfterRun z.now t n (reportOf r)) (λ _ _. refl) fm known.ran !
+        )) (AfterRun z.now t n (report_of r)) (λ _ _. refl) fm known.ran !
         (and_then ! (load ! (from ! (stop !)) (look ! 17 refl))
         (and_then ! (load ! (from ! (stop !)) (look ! 10 refl))
         (and_then ! (load ! (from ! (stop !)) (look ! 9 refl))
         (and_then ! (load ! (from ! (stop !)) (look ! 6 refl)) (no_more !)))))
         (λ t' v'' e' is'.
-        let after = after_run z.now t n (reportOf r) t' e' ys g in
+        let after = after_run z.now t n (report_of r) t' e' ys g in
         -- [t₁; zo; t₀; _5; _3; _14; _8; so; _12; _6; _4; _11; _16; _9; _15; _18; _17; _2; _1; _13; _7; …]
-        lands-turn ! t' v'' is' 10 refl $ forget ! 5 refl $ forget ! 6 refl $ forget ! 8 refl $ forget ! 9 refl $
+        lands_turn ! t' v'' is' 10 refl $ forget ! 5 refl $ forget ! 6 refl $ forget ! 8 refl $ forget ! 9 refl $
         forget ! 11 refl $ forget ! 19 refl $ forget ! 20 refl $
         move ! (0 ∷ 1 ∷ 7 ∷ 2 ∷ 4 ∷ 10 ∷ 5 ∷ 6 ∷ 11 ∷ 12 ∷ 13 ∷ 14 ∷ 15 ∷ 16 ∷ 17 ∷ 18 ∷ 3 ∷ 8 ∷ 9 ∷ 19 ∷ 20 ∷ []) $
         again ! Nearer Holding x (moved x ys gy _ m' gm t' v'' is' after e) after.1))))))))
 
     stores : (x : At s.now z.now) (b b' : Bool) → x.turn.more ≡ true
         → entry_of x.turn ≡ Store x.turn.first x.turn.second
-        → Sq 𝓛 (Having x (tested l₁₁ b) (tested l₁₅ b')) (runs C Λ En store-arm (any_q (Turned x)))
+        → Sq 𝓛 (Having x (tested l₁₁ b) (tested l₁₅ b')) (runs C Λ En store_arm (any_q (Turned x)))
     unfolding after_turn
     stores x b b' goes is-e =
         let m = x.machine in
@@ -495,13 +495,13 @@ module _ {M : Type 1} {𝓤 : Ura M} (𝓛 : Logic 𝓤) (mem : Memory → SProp
         -- what the key is passed
         nothing ! $
         owned ! u8 (Is u8) (uint_Makes 𝓛 w8) t.second (vint w8 t.second ∷ []) (second_is x) $ fjoin ! $
-        owned ! u8 (Is u8) (uint_Makes 𝓛 w8) t.first (vint w8 t.first ∷ []) (first-is x) $ fjoin ! $
+        owned ! u8 (Is u8) (uint_Makes 𝓛 w8) t.first (vint w8 t.first ∷ []) (first_is x) $ fjoin ! $
         use0 𝓛 (raw (emp 𝓤)) (id⊢ 𝓤 (emp 𝓤)) $
         lft_new ! tt (λ ν. move ! (0 ∷ 1 ∷ 2 ∷ 7 ∷ 12 ∷ 13 ∷ []) $
-        pressed 𝓛 store-ps (plain (λ _. ending.the_row)) (yes, (yes, tt)) (store-key.clauses 𝓛 mem run) ν l₃
+        pressed 𝓛 store_ps (plain (λ _. ending.the_row)) (yes, (yes, tt)) (store_key.clauses 𝓛 mem run) ν l₃
         tt tt m (t.first, (t.second, tt)) (vint w8 t.first ∷ [], (vint w8 t.second ∷ [], tt)) (λ _. tt) fm
         known.store-key (λ _. id⊢ 𝓤 _)
-        (λ m' r. hostStored m' (ended_of r) ≡ hostStoreOf m t.first t.second) (λ _ _ _. id⊢ 𝓤 _) ending'.mir
+        (λ m' r. host_stored m' (ended_of r) ≡ host_store_of m t.first t.second) (λ _ _ _. id⊢ 𝓤 _) ending'.mir
         (λ r v is. ((EL.lawful ending.the_type ending'.the_laws 𝓛 tt).typed r _ is).0) x.machine-is !
         refl refl refl
         (λ _. and_then ! (load ! (from ! (stop !)) (look ! 2 refl))
@@ -511,8 +511,8 @@ module _ {M : Type 1} {𝓤 : Ura M} (𝓛 : Logic 𝓤) (mem : Memory → SProp
         -- [_3; no tokens; _16; _9; t₁; zo; so; t₀; _4; …]
         move ! (5 ∷ []) $ nothing ! $
         owned ! ending.the_row (Is ending.the_row) (EL.makes ending.the_type ending'.the_plain 𝓛) r (v ∷ []) is $
-        fjoin ! $ with-turn ! x $ move ! (6 ∷ 0 ∷ []) $
-        called-last 𝓛 stored.ended (stored.clauses 𝓛 mem run)
+        fjoin ! $ with_turn ! x $ move ! (6 ∷ 0 ∷ []) $
+        called_last 𝓛 stored.ended (stored.clauses 𝓛 mem run)
         (((κ₁, tt), (q₁, tt), tt, (z, (t, (r, tt))), (zv ∷ [], (tval t ∷ [], (v ∷ [], tt)))), tt)
         (fact_i 𝓤 _ (emp 𝓤) (goes, is-e, x.kept, short)) (AfterStore z.now t (ended_of r)) (λ _ _. refl)
         fm known.stored !
@@ -522,34 +522,34 @@ module _ {M : Type 1} {𝓤 : Ura M} (𝓛 : Logic 𝓤) (mem : Memory → SProp
         (λ t' v' e' is'.
         let after = after_store z.now t (ended_of r) t' e' in
         -- [t₁; zo; _3; no tokens; _16; _9; so; t₀; _4; _14; _8; _11; _15; …]
-        lands-turn ! t' v' is' 8 refl $ forget ! 4 refl $ forget ! 5 refl $ forget ! 11 refl $ forget ! 12 refl $
+        lands_turn ! t' v' is' 8 refl $ forget ! 4 refl $ forget ! 5 refl $ forget ! 11 refl $ forget ! 12 refl $
         move ! (3 ∷ []) $ drop ! $ move ! (0 ∷ 1 ∷ 5 ∷ 6 ∷ 2 ∷ 7 ∷ 8 ∷ 9 ∷ 10 ∷ 3 ∷ 4 ∷ []) $
         again ! Nearer Holding x (moved x x.requests x.requests-are _ m' gm t' v' is' after e) after.1)))
 
     resets : (x : At s.now z.now) (b b' : Bool) → x.turn.more ≡ true → entry_of x.turn ≡ Reset
-        → Sq 𝓛 (Having x (tested l₁₁ b) (tested l₁₅ b')) (runs C Λ En reset-arm (any_q (Turned x)))
+        → Sq 𝓛 (Having x (tested l₁₁ b) (tested l₁₅ b')) (runs C Λ En reset_arm (any_q (Turned x)))
     unfolding after_turn
     resets x b b' goes is-e =
         let m = x.machine in
         let t = x.turn in
         nothing ! $ use0 𝓛 (raw (emp 𝓤)) (id⊢ 𝓤 (emp 𝓤)) $
         lft_new ! tt (λ ν. move ! (0 ∷ 1 ∷ 2 ∷ 7 ∷ 15 ∷ 16 ∷ []) $
-        pressed 𝓛 {n = 0} [] (plain (λ _. unit)) tt (reset-key.clauses 𝓛 mem run) ν l₃ tt tt m tt tt
-        (λ _. tt) fm known.reset-key (λ _. id⊢ 𝓤 _) (λ m' _. m' ≡ resetOf m) (λ _ _ _. id⊢ 𝓤 _) ty_unit
+        pressed 𝓛 {n = 0} [] (plain (λ _. unit)) tt (reset_key.clauses 𝓛 mem run) ν l₃ tt tt m tt tt
+        (λ _. tt) fm known.reset-key (λ _. id⊢ 𝓤 _) (λ m' _. m' ≡ reset_of m) (λ _ _ _. id⊢ 𝓤 _) ty_unit
         (λ r v is. ((Nothing-Lawful 𝓛).typed r (v ∷ []) is).0) x.machine-is ! refl refl refl
         (λ _. and_then ! (load ! (from ! (stop !)) (look ! 2 refl)) (no_more !))
         (λ m' _ _ e gm _.
         -- [_3; no tokens; _18; _17; t₁; zo; so; t₀; _4; …]
-        move ! (5 ∷ []) $ nothing ! $ with-turn ! x $ move ! (6 ∷ 0 ∷ []) $
-        called-last 𝓛 was-reset.ended (was-reset.clauses 𝓛 mem run)
+        move ! (5 ∷ []) $ nothing ! $ with_turn ! x $ move ! (6 ∷ 0 ∷ []) $
+        called_last 𝓛 was_reset.ended (was_reset.clauses 𝓛 mem run)
         (((κ₁, tt), (q₁, tt), tt, (z, (t, tt)), (zv ∷ [], (tval t ∷ [], tt))), tt)
         (fact_i 𝓤 _ (emp 𝓤) (goes, is-e, x.kept, short)) (AfterReset z.now t) (λ _ _. refl) fm known.was-reset !
         (and_then ! (load ! (from ! (stop !)) (look ! 15 refl))
         (and_then ! (load ! (from ! (stop !)) (look ! 8 refl)) (no_more !)))
         (λ t' v' e' is'.
-        let after = after-reset z.now t t' e' in
+        let after = after_reset z.now t t' e' in
         -- [t₁; zo; _3; no tokens; _18; _17; so; t₀; _4; _14; _8; _11; _16; _9; _15; …]
-        lands-turn ! t' v' is' 8 refl $ forget ! 4 refl $ forget ! 5 refl $ forget ! 11 refl $ forget ! 14 refl $
+        lands_turn ! t' v' is' 8 refl $ forget ! 4 refl $ forget ! 5 refl $ forget ! 11 refl $ forget ! 14 refl $
         move ! (3 ∷ []) $ drop ! $ move ! (0 ∷ 1 ∷ 5 ∷ 6 ∷ 2 ∷ 7 ∷ 8 ∷ 9 ∷ 10 ∷ 11 ∷ 12 ∷ 13 ∷ 3 ∷ 4 ∷ []) $
         again ! Nearer Holding x (moved x x.requests x.requests-are _ m' gm t' v' is' after e) after.1)))
 
@@ -560,13 +560,13 @@ module _ {M : Type 1} {𝓤 : Ura M} (𝓛 : Logic 𝓤) (mem : Memory → SProp
         let m = x.machine in
         let t = x.turn in
         assigns ! (of_opd ! (load ! (from ! (stop !)) (look ! 4 refl))) (from ! (stop !))
-        (init ! 21 refl (typed-machine 𝓛 m x.machine-is)) $ nothing ! $
+        (init ! 21 refl (typed_machine 𝓛 m x.machine-is)) $ nothing ! $
         owned ! S.the_row (Is S.the_row) (LL.makes S.the_type S'.the_plain 𝓛) t (tval t ∷ []) x.turn_is $
         fjoin ! $ owned ! T.the_row (Is T.the_row) (LL.makes T.the_type T'.the_plain 𝓛) m (vals m) x.machine-is $
         fjoin ! $ use0 𝓛 (raw (emp 𝓤)) (id⊢ 𝓤 (emp 𝓤)) $
         called 𝓛 end.ended (end.clauses 𝓛 mem run)
         ((tt, tt, tt, (m, (t, tt)), (vals m, (tval t ∷ [], tt))), tt) (id⊢ 𝓤 _)
-        (λ r. playedOf r ≡ done (playingAs m t.entries t.cycles (ended_of t.ending))) (λ _ _. refl)
+        (λ r. played_of r ≡ done (playing_as m t.entries t.cycles (ended_of t.ending))) (λ _ _. refl)
         fm known.end !
         (and_then ! (load ! (from ! (stop !)) (look ! 22 refl))
         (and_then ! (load ! (from ! (stop !)) (look ! 6 refl)) (no_more !)))
@@ -582,9 +582,9 @@ module _ {M : Type 1} {𝓤 : Ura M} (𝓛 : Logic 𝓤) (mem : Memory → SProp
         keep ! (4 ∷ 1 ∷ []) $
         use1 𝓛 (‵ (flft κ₀ q₀) ⊛ raw (emp 𝓤)) (id⊢ 𝓤 _) $ split ! $ keep ! (0 ∷ 2 ∷ []) $ join ! $
         use1 𝓛 (raw (alive 𝓛 player.signature (κ₀, (κ₁, tt)) (q₀, (q₁, tt)))) (id⊢ 𝓤 _) $
-        by ! (exits-plain [] ps (plain (λ _. P.the_row)) (yes, (yes, tt)) 𝓛 (player.clauses 𝓛 mem run) bound
+        by ! (exits_plain [] ps (plain (λ _. P.the_row)) (yes, (yes, tt)) 𝓛 (player.clauses 𝓛 mem run) bound
         (tt, (tt, tt)) r v
-        (fact_i 𝓤 _ (emp 𝓤) (e ∙ sym (is-over s.now z.now m t over) ∙ x.plays))
+        (fact_i 𝓤 _ (emp 𝓤) (e ∙ sym (is_over s.now z.now m t over) ∙ x.plays))
         (LL.makes P.the_type P'.the_plain 𝓛 r (v ∷ []) is)))
 
     -- ---- a turn
@@ -598,13 +598,13 @@ module _ {M : Type 1} {𝓤 : Ura M} (𝓛 : Logic 𝓤) (mem : Memory → SProp
         assigns ! (bin ! (load ! (from ! (fld ! refl (stop !))) (look_in ! 5 (sub ! 1 refl (whole !)))) (lit ! tt) tt)
         (from ! (stop !)) (store ! 8 refl (tt, tt)) $
         branches ! (load ! (from ! (stop !)) (look ! 8 refl))
-        (λ h. runs-row x _ (came x.turn.more goes) (is-step x.turn h))
+        (λ h. runs_row x _ (came x.turn.more goes) (is_step x.turn h))
         (λ no. assigns !
         (bin ! (load ! (from ! (fld ! refl (stop !))) (look_in ! 5 (sub ! 1 refl (whole !)))) (lit ! tt) tt)
         (from ! (stop !)) (init ! 11 refl (tt, tt)) $
         branches ! (load ! (from ! (stop !)) (look ! 11 refl))
         (λ h. stores x _ _ (came x.turn.more goes) (is_store x.turn h))
-        (λ none. resets x _ _ (came x.turn.more goes) (is-reset x.turn no none))))
+        (λ none. resets x _ _ (came x.turn.more goes) (is_reset_lem x.turn no none))))
         (λ over. jumps ! $ exec ! C Λ En rest (at_ret En Post) $ overs x _ (failed x.turn.more over))
 
     -- what there is before the loop: i and j are the rooms of the machine, and n that of the turn
@@ -621,7 +621,7 @@ module _ {M : Type 1} {𝓤 : Ura M} (𝓛 : Logic 𝓤) (mem : Memory → SProp
         ‵ (fat full_share BodyTy l₂ 0 zv) ∷ ‵ (fdies BodyTy l₂) ∷ ‵ (fat full_share ImageTy l₁ 0 sv) ∷
         ‵ (fdies ImageTy l₁) ∷ ‵ (froom P'.mir l₀ 0) ∷ ‵ (fdies P'.mir l₀) ∷ so ∷ zo ∷ t₀ ∷ t₁ ∷ []
 
-    begins : isBody z.now ≡ true → (m : Machine) → Is T.the_row m (vals m) → m ≡ fresh_of
+    begins : is_body z.now ≡ true → (m : Machine) → Is T.the_row m (vals m) → m ≡ fresh_of
         → Sq 𝓛 (Before (‵ (froom T'.mir l₁₀ 0)) (‵ (fat full_share T'.mir l₃ 0 (val m))) (‵ (froom S'.mir l₄ 0)))
         (runs C Λ En looping (at_ret En Post))
     begins reads m gm new =
@@ -631,7 +631,7 @@ module _ {M : Type 1} {𝓤 : Ura M} (𝓛 : Logic 𝓤) (mem : Memory → SProp
         (fact_i 𝓤 _ (emp 𝓤) reads) (FirstTurn z.now fresh_of) (λ _ _. refl) fm known.begin !
         (and_then ! (load ! (from ! (stop !)) (look ! 34 refl)) (no_more !)) (λ t v e is.
         -- [t₁; zo; _18; …; _17; …; .. _0; …; so; t₀]
-        land ! (from ! (stop !)) (init ! 30 refl (typed-turn 𝓛 t v is)) $
+        land ! (from ! (stop !)) (init ! 30 refl (typed_turn 𝓛 t v is)) $
         rewrite ! 30 (λ (y : Val). ‵ (fat full_share S'.mir l₄ 0 y))
         (ap only (LL.tells S.the_type S'.the_laws t (v ∷ []) is)) refl $
         move ! (28 ∷ []) $ zeroed ! 4096 refl $
@@ -641,7 +641,7 @@ module _ {M : Type 1} {𝓤 : Ura M} (𝓛 : Logic 𝓤) (mem : Memory → SProp
         first ! $ blocks ! $
         loops ! 𝓣 Nearer (Nearer-wf s.now z.now) Holding turns (started s.now z.now m gm new t v is e))
 
-    enters : isBody z.now ≡ true
+    enters : is_body z.now ≡ true
         → Sq 𝓛 (Before (‵ (froom T'.mir l₁₀ 0)) (‵ (froom T'.mir l₃ 0)) (‵ (froom S'.mir l₄ 0)))
         (runs C Λ En all (at_ret En Post))
     enters reads =
@@ -652,11 +652,11 @@ module _ {M : Type 1} {𝓤 : Ura M} (𝓛 : Logic 𝓤) (mem : Memory → SProp
         rewrite ! 17 (λ (y : Val). ‵ (fat full_share T'.mir l₁₀ 0 y))
         (ap only (LL.tells T.the_type T'.the_laws m (v ∷ []) is)) refl $ drop ! $
         assigns ! (of_opd ! (load ! (from ! (stop !)) (look ! 16 refl))) (from ! (stop !))
-        (init ! 30 refl (typed-machine 𝓛 m (known-machine m v is))) $
-        forget ! 16 refl $ begins reads m (known-machine m v is) e)
+        (init ! 30 refl (typed_machine 𝓛 m (known_machine m v is))) $
+        forget ! 16 refl $ begins reads m (known_machine m v is) e)
 
   module _ (𝓣 : Tables 𝓤 H) (fm : FmC 𝓤 H 𝓛.laws 𝓣.C) (known : Known 𝓛 mem run 𝓣.C)
-      (reads : isBody z.now ≡ true) (short : length z.now ≤ 0xFFFFFF) where
+      (reads : is_body z.now ≡ true) (short : length z.now ≤ 0xFFFFFF) where
     walk : Is (ShrSlice (named 0) κ₀ u8) s (sv ∷ []) → Is (ShrSlice (named 1) κ₁ u8) z (zv ∷ [])
         → ent 𝓤 (on_entry 𝓛 player.signature (κ₀, (κ₁, tt)) (q₀, (q₁, tt)) xs at)
         (WpFn 𝓤 H 𝓣.C 𝓣.Λ code.function (sv ∷ zv ∷ []) Post)
@@ -688,7 +688,7 @@ module _ {M : Type 1} {𝓤 : Ura M} (𝓛 : Logic 𝓤) (mem : Memory → SProp
       (λ κs. (shr_slice_vals, (shr_slice_vals, tt)))
       (λ κs. (shr_slice_Tells (named 0) κs.0 u8, (shr_slice_Tells (named 1) κs.1.0 u8, tt)))
       (λ κs qs bounds x _ are.
-      let Asked : Type 0 = (isBody x.1.0.now ≡ true) × (length x.1.0.now ≤ 0xFFFFFF) in
+      let Asked : Type 0 = (is_body x.1.0.now ≡ true) × (length x.1.0.now ≤ 0xFFFFFF) in
       let Entered : SProp 𝓤 =
       on_entry 𝓛 player.signature κs qs x (shr_slice_vals x.0, (shr_slice_vals x.1.0, tt)) in
       fact_use 𝓤 Asked (snd∗ 𝓤 Entered (fact 𝓤 Asked)) (λ asked. via 𝓤 Entered (fst∗ 𝓤 Entered (fact 𝓤 Asked))
@@ -700,7 +700,7 @@ unfolding code.routine tables_of
 play-entries-spec 𝓤 𝓛 𝓜 𝓡 =
     proved 𝓛 𝓜 𝓡 code.env #play-entries code.function (code.unfolded 𝓤 𝓛.H 𝓜 𝓡) player.ended stayed
     (player.clauses 𝓛 𝓜.mem 𝓡.run)
-    (go-dropped 𝓛 ps (yes, (yes, tt)) ((λ κs x f. refl), ((λ κs x f. refl), tt)))
+    (go_dropped 𝓛 ps (yes, (yes, tt)) ((λ κs x f. refl), ((λ κs x f. refl), tt)))
     (walks 𝓛 𝓜.mem 𝓡.run (tables_of 𝓤 𝓛.H 𝓜 (tables 𝓤 𝓛.H 𝓜 𝓡 code.env))
     (framed 𝓛 𝓜 𝓡 code.env) (record {
       fresh = cited 𝓤 𝓛.H _ 𝓜 𝓡 code.env fresh-def.name fresh-def.routine
@@ -709,18 +709,18 @@ play-entries-spec 𝓤 𝓛 𝓜 𝓡 =
           code.calls-playback::turn::first-turn (begin-thm.met 𝓤 𝓛 𝓜 𝓡);
       gathering = cited 𝓤 𝓛.H _ 𝓜 𝓡 code.env gathering-def.name gathering-def.routine
           code.calls-playback::turn::gather (gathering-thm.met 𝓤 𝓛 𝓜 𝓡);
-      run-key = cited 𝓤 𝓛.H _ 𝓜 𝓡 code.env run-def.name run-def.routine
+      run_key = cited 𝓤 𝓛.H _ 𝓜 𝓡 code.env run-def.name run-def.routine
           code.calls-bench::keys::key-run (run-thm.met 𝓤 𝓛 𝓜 𝓡);
       ran = cited 𝓤 𝓛.H _ 𝓜 𝓡 code.env ran-def.name ran-def.routine
           code.calls-playback::turn::after-run (ran-thm.met 𝓤 𝓛 𝓜 𝓡);
-      store-key = cited 𝓤 𝓛.H _ 𝓜 𝓡 code.env store-def.name store-def.routine
+      store_key = cited 𝓤 𝓛.H _ 𝓜 𝓡 code.env store-def.name store-def.routine
           code.calls-bench::keys::key-store (store-thm.met 𝓤 𝓛 𝓜 𝓡);
       stored = cited 𝓤 𝓛.H _ 𝓜 𝓡 code.env stored-def.name stored-def.routine
           code.calls-playback::turn::after-store (stored-thm.met 𝓤 𝓛 𝓜 𝓡);
-      reset-key = cited 𝓤 𝓛.H _ 𝓜 𝓡 code.env reset-def.name reset-def.routine
+      reset_key = cited 𝓤 𝓛.H _ 𝓜 𝓡 code.env reset-def.name reset-def.routine
           code.calls-bench::keys::key-reset (reset-thm.met 𝓤 𝓛 𝓜 𝓡);
-      was-reset = cited 𝓤 𝓛.H _ 𝓜 𝓡 code.env was-reset-def.name was-reset-def.routine
-          code.calls-playback::turn::after-reset (was-reset-thm.met 𝓤 𝓛 𝓜 𝓡);
+      was_reset = cited 𝓤 𝓛.H _ 𝓜 𝓡 code.env was-reset-def.name was-reset-def.routine
+          code.calls-playback::turn::after_reset (was-reset-thm.met 𝓤 𝓛 𝓜 𝓡);
       end = cited 𝓤 𝓛.H _ 𝓜 𝓡 code.env end-def.name end-def.routine
           code.calls-playback::play::ended (end-thm.met 𝓤 𝓛 𝓜 𝓡);
     }))

@@ -1,7 +1,7 @@
 -- `turn::after_answer` meets its contract.
 use native.Mathlib.Omega.{arith}
 use borrow.Author.Rules.{rules}
-use Rattle.playback.proofs.Counted.{within, after-done, after-refused}
+use Rattle.playback.proofs.Counted.{within, after_done, after_refused}
 use Rattle.playback.proofs.turn.after_answer.Statement.{statement}
 use Rattle.playback.proofs.turn.after_answer.Tie as tie
 
@@ -38,12 +38,12 @@ over-requires c κs = search rules
 returns : tie.Need-returns
 returns c =
     let k = c.before.before.before.before in
-    rw k.answer.given.1 (after-done _ _ _ k.before.before.before.requires _ c.turn_at.ensures)
+    rw k.answer.given.1 (after_done _ _ _ k.before.before.before.requires _ c.turn_at.ensures)
 
 returns-2 : tie.Need-returns-2
 returns-2 c =
     let k = c.before.before in
-    rw k.answer2.given.1 (after-refused _ _ _ k.before.before.before.requires _ c.over.ensures)
+    rw k.answer2.given.1 (after_refused _ _ _ k.before.before.before.requires _ c.over.ensures)
 
 pub after-answer-spec : {M : Type 1} → statement M
 after-answer-spec =

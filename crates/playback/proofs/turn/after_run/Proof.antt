@@ -1,7 +1,7 @@
 -- `turn::after_run` meets its contract.
 use native.Mathlib.Omega.{arith}
 use borrow.Author.Rules.{rules}
-use Rattle.playback.proofs.Rows.{sums, after-row, row-ended}
+use Rattle.playback.proofs.Rows.{sums, after_row, row_ended}
 use Rattle.playback.proofs.turn.after_run.Statement.{statement}
 use Rattle.playback.proofs.turn.after_run.Tie as tie
 
@@ -51,13 +51,13 @@ over-requires c κs = search rules
 returns : tie.Need-returns
 returns c =
     rw c.before.before.enum_told.given.1
-    (after-row _ _ c.before.before.before.before.before.before.before.before.before.requires.0 _ _ _ _
+    (after_row _ _ c.before.before.before.before.before.before.before.before.before.requires.0 _ _ _ _
     c.turn_at.ensures)
 
 returns-2 : tie.Need-returns-2
 returns-2 c =
     rw c.before.before.ending.given.1
-    (row-ended _ _ c.before.before.before.before.before.before.before.before.before.requires.0 _ _ _ _ _
+    (row_ended _ _ c.before.before.before.before.before.before.before.before.before.requires.0 _ _ _ _ _
     c.over.ensures)
 
 pub after-run-spec : {M : Type 1} → statement M

@@ -1,6 +1,6 @@
 -- `turn::after_store` meets its contract.
 use borrow.Author.Rules.{rules}
-use Rattle.playback.proofs.Counted.{by-store}
+use Rattle.playback.proofs.Counted.{by_store}
 use Rattle.playback.proofs.turn.after_store.Statement.{statement}
 use Rattle.playback.proofs.turn.after_store.Tie as tie
 
@@ -12,7 +12,7 @@ after-answer-requires c κs = search rules
 
 returns : tie.Need-returns
 returns c =
-    by-store _ _ _ _ c.before.before.before.requires.1
+    by_store _ _ _ _ c.before.before.before.requires.1
     (rw (← c.before.store-answer.ensures) c.after-answer.ensures)
 
 pub after-store-spec : {M : Type 1} → statement M

@@ -8,7 +8,7 @@ use borrow.Author.Tests.{not-false}
 use lib.ListN.{get_or, set, length-set}
 use lib.Seq.{get_or-set_same}
 use Rattle.playback.proofs.Counted.{within}
-use Rattle.playback.proofs.Rows.{Row, first-row, more-row, gathered}
+use Rattle.playback.proofs.Rows.{Row, first_row, more_row, gathered}
 use Rattle.playback.proofs.turn.gather.Statement.{statement}
 use Rattle.playback.proofs.turn.gather.Tie as tie
 
@@ -25,7 +25,7 @@ loop-holds : tie.Need-loop-init invariant-loop decreases-loop
 loop-holds c =
     let start = c.before in
     let t = start.args.turn in
-    first-row start.args.body.now _ t.next (set start.args.requests.now 0 t.first)
+    first_row start.args.body.now _ t.next (set start.args.requests.now 0 t.first)
     (length-set start.args.requests.now 0 t.first ∙ start.requires.1)
     (within start.args.body.now t start.requires.0.0 start.requires.0.2).0 refl
 
@@ -64,7 +64,7 @@ loop-again c =
     let loop = asked.before.before.before.loop in
     let names =
     sym asked.names-only-sources.ensures ∙ not-false asked.names-only-sources.result c.if1.false in
-    more-row _ _ _ _ _ _ _ loop.invariant (asked.before.request-at.ensures names) names
+    more_row _ _ _ _ _ _ _ loop.invariant (asked.before.request-at.ensures names) names
     asked.before.before.loop-test.true
 
 returns-2 : tie.Need-returns-2 invariant-loop decreases-loop

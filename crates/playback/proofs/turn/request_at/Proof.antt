@@ -1,7 +1,7 @@
 -- `turn::request_at` meets its contract: 255 names more than sources.
 use mathlib.Core.Bool.{false≢true}
 use borrow.Author.Rules.{rules}
-use Rattle.playback.proofs.Rows.{reads-step}
+use Rattle.playback.proofs.Rows.{reads_step}
 use Rattle.playback.proofs.turn.request_at.Statement.{statement}
 use Rattle.playback.proofs.turn.request_at.Tie as tie
 
@@ -23,7 +23,7 @@ shared-slice-read-result c = search rules
 returns-3 : tie.Need-returns-3
 returns-3 c names =
     let start = c.before.before.before.before.before in
-    reads-step start.args.body.now start.args.at c.before.before.before.before.if1.false
+    reads_step start.args.body.now start.args.at c.before.before.before.before.if1.false
     c.before.before.before.if2.false c.before.if3.true
 
 returns-4 : tie.Need-returns-4

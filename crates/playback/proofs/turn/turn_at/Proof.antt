@@ -1,7 +1,7 @@
 -- `turn::turn_at` meets its contract.
 use native.Mathlib.Omega.{arith}
 use borrow.Author.Rules.{rules}
-use Rattle.playback.proofs.Counted.{part-leads, at-end, at_none, size_fits, at_entry}
+use Rattle.playback.proofs.Counted.{part_leads, at_end, at_none, size_fits, at_entry}
 use Rattle.playback.proofs.turn.turn_at.Statement.{statement}
 use Rattle.playback.proofs.turn.turn_at.Tie as tie
 
@@ -9,7 +9,7 @@ over-requires : tie.Need-over-requires
 over-requires c κs = search rules
 
 returns : tie.Need-returns
-returns c = rw c.over.ensures (at-end _ _ _ _ c.before.if1.true)
+returns c = rw c.over.ensures (at_end _ _ _ _ c.before.if1.true)
 
 sub-first-entry : tie.Need-overflow-sub-first-entry
 sub-first-entry c = search rules
@@ -37,13 +37,13 @@ returns-2 c =
     let k = c.before.before.before in
     let start = k.before.before.before.before in
     at_none _ _ _ _ start.requires.3 _
-    (part-leads _ _ start.requires.0 _ _ c.before.enum_told.given.1 k.first_entry.ensures)
+    (part_leads _ _ start.requires.0 _ _ c.before.enum_told.given.1 k.first_entry.ensures)
 
 add-turn-of : tie.Need-overflow-add-turn-of
 add-turn-of c =
     let k = c.before.before.before in
     let start = k.before.before.before.before in
-    let leads = part-leads _ _ start.requires.0 _ _ c.before.leading.given.1 k.first_entry.ensures in
+    let leads = part_leads _ _ start.requires.0 _ _ c.before.leading.given.1 k.first_entry.ensures in
     omega (arith, size_fits _ _ _ _ start.requires.3 _ _ leads start.requires.0 start.requires.1 start.requires.2)
 
 turn-of-requires : tie.Need-turn-of-requires
@@ -53,7 +53,7 @@ returns-3 : tie.Need-returns-3
 returns-3 c =
     let k = c.before.before.before.before in
     let start = k.before.before.before.before in
-    let leads = part-leads _ _ start.requires.0 _ _ c.before.before.leading.given.1 k.first_entry.ensures in
+    let leads = part_leads _ _ start.requires.0 _ _ c.before.before.leading.given.1 k.first_entry.ensures in
     rw c.turn-of.ensures
     (at_entry _ _ _ _ start.requires.3 _ _ leads start.requires.0 start.requires.1 start.requires.2)
 

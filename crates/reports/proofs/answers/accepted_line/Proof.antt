@@ -1,6 +1,6 @@
 -- `answers::accepted_line` meets its contract.
 use Rattle.listing.proofs.LineLaws.{then}
-use Rattle.reports.specs.Answers.{answerText}
+use Rattle.reports.specs.Answers.{answer_text}
 use borrow.Author.Rules.{rules}
 use Rattle.reports.proofs.answers.accepted_line.Statement.{statement}
 use Rattle.reports.proofs.answers.accepted_line.Tie as tie
@@ -18,7 +18,7 @@ decimal-requires : tie.Need-decimal-requires
 decimal-requires c κs = search rules
 
 returns : tie.Need-returns
-unfolding answerText
+unfolding answer_text
 returns c = then (then c.before.before.before.new.ensures c.before.word.ensures) c.decimal.ensures
 
 pub accepted-line-spec : {M : Type 1} → statement M

@@ -1,6 +1,6 @@
 -- `answers::refusal_line` meets its contract.
 use Rattle.listing.proofs.LineLaws.{both}
-use Rattle.reports.specs.Answers.{answerText}
+use Rattle.reports.specs.Answers.{answer_text}
 use borrow.Author.Rules.{rules}
 use Rattle.reports.proofs.answers.refusal_line.Statement.{statement}
 use Rattle.reports.proofs.answers.refusal_line.Tie as tie
@@ -39,14 +39,14 @@ address-requires : tie.Need-address-requires
 address-requires c κs = search rules
 
 returns : tie.Need-returns
-unfolding answerText
+unfolding answer_text
 returns c =
     let known = c.before.before in
     rw (← known.before.before.number_of_lem.ensures, known.number.given.1)
     (both known.before.before.before.word.ensures c.decimal.ensures)
 
 returns-2 : tie.Need-returns-2
-unfolding answerText
+unfolding answer_text
 returns-2 c =
     let counted = c.before.before in
     let known = counted.before.before in

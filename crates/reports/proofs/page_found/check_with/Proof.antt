@@ -1,7 +1,7 @@
 -- `page_found::check_with` meets its contract.
 use mathlib.Core.Path.{◌∙◌}
 use Rattle.isa.specs.Rom.{space_of}
-use Rattle.isa.proofs.Halves.{halves, page-whole}
+use Rattle.isa.proofs.Halves.{halves, page_whole}
 use borrow.Author.Rules.{rules}
 use Rattle.reports.proofs.page_found.check_with.Statement.{statement}
 use Rattle.reports.proofs.page_found.check_with.Tie as tie
@@ -21,7 +21,7 @@ join-requires c κs =
     let start = at-page.before.before.before in
     let image = start.args.image.now in
     rw (at-page.page-of.ensures, c.before.fixed_of.ensures) (
-      page-whole image start.args.page start.requires.1,
+      page_whole image start.args.page start.requires.1,
       (halves image start.args.page start.requires.0).1,
       search rules,
     )

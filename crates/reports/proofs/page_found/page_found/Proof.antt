@@ -6,7 +6,7 @@ use mathlib.Core.Logic.{inl, inr}
 use mathlib.Core.Bool.{true, false}
 use borrow.Author.Count.{below_more}
 use borrow.Author.Tests.{not-true, not-false}
-use Rattle.reports.specs.PageFound.{refusesAt, refusesWith}
+use Rattle.reports.specs.PageFound.{refuses_at, refuses_with}
 use borrow.Author.Rules.{rules}
 use Rattle.reports.proofs.page_found.page_found.Statement.{statement}
 use Rattle.reports.proofs.page_found.page_found.Tie as tie
@@ -16,7 +16,7 @@ either e = let z : ◌≡◌ {A = ℕ} 0 1 = cc in omega arith
 
 abbrev invariant-loop : tie.invariant-loop
 invariant-loop image certificate wired address pages page₀ page =
-    (page ≤ pages) × ((k : ℕ) → k < page → refusesWith image certificate wired address k ≡ false)
+    (page ≤ pages) × ((k : ℕ) → k < page → refuses_with image certificate wired address k ≡ false)
 
 abbrev decreases-loop : tie.decreases-loop
 decreases-loop image certificate wired address pages page₀ page = pages - page
@@ -51,7 +51,7 @@ returns-3 : tie.Need-returns-3 invariant-loop decreases-loop
 returns-3 c =
     let with-page = c.before.before.check-with in
     let inv = c.before.before.before.before.loop.invariant in
-    let here = ap (refusesAt _) (sym with-page.ensures) ∙ sym c.before.is-refused-at.ensures ∙ c.if3.true in
+    let here = ap (refuses_at _) (sym with-page.ensures) ∙ sym c.before.is-refused-at.ensures ∙ c.if3.true in
     λ is many. record { before = inv.1; here = inl here }
 
 add-page : tie.Need-overflow-add-page invariant-loop decreases-loop
@@ -64,7 +64,7 @@ loop-again : tie.Need-loop-preserved invariant-loop decreases-loop
 loop-again c =
     let with-page = c.before.before.check-with in
     let inv = c.before.before.before.before.loop.invariant in
-    let here = ap (refusesAt _) (sym with-page.ensures) ∙ sym c.before.is-refused-at.ensures ∙ c.if3.false in
+    let here = ap (refuses_at _) (sym with-page.ensures) ∙ sym c.before.is-refused-at.ensures ∙ c.if3.false in
     (search rules, below_more _ _ inv.1 here)
 
 returns-4 : tie.Need-returns-4 invariant-loop decreases-loop

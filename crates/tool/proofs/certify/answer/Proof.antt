@@ -1,5 +1,5 @@
 -- `certify::answer` meets its contract.
-use Rattle.reports.proofs.ExitStatus.{checked-only, refused-only, failed-only}
+use Rattle.reports.proofs.ExitStatus.{checked_only, refused_only, failed_only}
 use borrow.Author.Rules.{rules}
 use Rattle.tool.proofs.certify.answer.Statement.{statement}
 use Rattle.tool.proofs.certify.answer.Tie as tie
@@ -23,7 +23,7 @@ same_length : tie.Need-same-length
 same_length c = search rules
 
 returns : tie.Need-returns
-returns c = failed-only _ _
+returns c = failed_only _ _
 
 put-checked-requires : tie.Need-put-checked-requires
 put-checked-requires c κs = search rules
@@ -32,13 +32,13 @@ same-length-2 : tie.Need-same-length-2
 same-length-2 c = search rules
 
 returns-2 : tie.Need-returns-2
-returns-2 c = refused-only _ _ _ c.before.before.put-refusal.ensures
+returns-2 c = refused_only _ _ _ c.before.before.put-refusal.ensures
 
 same-length-3 : tie.Need-same-length-3
 same-length-3 c = search rules
 
 returns-3 : tie.Need-returns-3
-returns-3 c = checked-only _ _ _ _ c.before.before.put-checked.ensures
+returns-3 c = checked_only _ _ _ _ c.before.before.put-checked.ensures
 
 pub answer-spec : {M : Type 1} → statement M
 answer-spec =

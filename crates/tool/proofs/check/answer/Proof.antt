@@ -1,5 +1,5 @@
 -- `check::answer` meets its contract.
-use Rattle.reports.proofs.ExitStatus.{checked-only, refused-only, failed-only}
+use Rattle.reports.proofs.ExitStatus.{checked_only, refused_only, failed_only}
 use borrow.Author.Rules.{rules}
 use Rattle.tool.proofs.check.answer.Statement.{statement}
 use Rattle.tool.proofs.check.answer.Tie as tie
@@ -29,7 +29,7 @@ same-length-2 : tie.Need-same-length-2
 same-length-2 c = search rules
 
 returns : tie.Need-returns
-returns c = checked-only _ _ _ _ c.before.before.put-checked.ensures
+returns c = checked_only _ _ _ _ c.before.before.put-checked.ensures
 
 same-length-3 : tie.Need-same-length-3
 same-length-3 c = search rules
@@ -38,7 +38,7 @@ same-length-4 : tie.Need-same-length-4
 same-length-4 c = search rules
 
 returns-2 : tie.Need-returns-2
-returns-2 c = refused-only _ _ _ c.before.before.put-refusal.ensures
+returns-2 c = refused_only _ _ _ c.before.before.put-refusal.ensures
 
 same-length-5 : tie.Need-same-length-5
 same-length-5 c = search rules
@@ -47,7 +47,7 @@ same-length-6 : tie.Need-same-length-6
 same-length-6 c = search rules
 
 returns-3 : tie.Need-returns-3
-returns-3 c = failed-only _ _
+returns-3 c = failed_only _ _
 
 pub answer-spec : {M : Type 1} → statement M
 answer-spec =
