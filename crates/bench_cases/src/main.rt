@@ -2,6 +2,8 @@
 // specs/BenchCases.antt has, proved), small programs step by step and as a run, some of them in pages, bytes read with their origins, keys
 // pressed on one machine, the lines that jobs print, the widths of programs for the gauge, certificates as they are
 // made, and records played.
+#![tactic(auto)]
+
 mod examples;
 mod jumps;
 mod keys;

@@ -1,4 +1,6 @@
 // The stack-depth certificate: its marks, its rules and their check (document 01, "The certificate" and "Check").
+#![tactic(auto)]
+
 pub mod check;
 mod findings;
 pub mod levels;

@@ -10,7 +10,7 @@ use isa::{Flow, Refusal};
 
 // A successor of an instruction or the target of a CALL: the kind that its mark must have, and the levels that going
 // there takes.
-#[derive(Drop)]
+#[derive(Clone, Copy)]
 pub struct Successor {
     pub address: u16,
     pub kind: u8,
@@ -18,7 +18,7 @@ pub struct Successor {
 }
 
 // The successors of an instruction, in the order in which the check looks.
-#[derive(Drop)]
+#[derive(Clone, Copy)]
 pub enum Successors {
     None,
     One(Successor),

@@ -1,5 +1,7 @@
 // Control: the program counter, the stack of return addresses, the mode, sleep, and requests. Nothing here knows data
 // bytes or flags.
+#![tactic(auto)]
+
 pub mod modes;
 pub mod requests;
 pub mod stack;
@@ -9,7 +11,7 @@ pub mod well_formed;
 
 use isa::Source;
 
-#[derive(Drop)]
+#[derive(Clone, Copy)]
 pub enum Mode {
     Reset,
     Normal,
@@ -19,7 +21,7 @@ pub enum Mode {
 }
 
 // The stack is lent beside it: its slots 0 to levels - 1 are in use, and the last of them is the top.
-#[derive(Drop)]
+#[derive(Clone, Copy)]
 pub struct Control {
     pub pc: u16,
     pub levels: u8,
@@ -28,7 +30,7 @@ pub struct Control {
 }
 
 // Whether control goes on, or what stops it: a push on a full stack or a pop on an empty one.
-#[derive(Drop)]
+#[derive(Clone, Copy)]
 pub enum Stop {
     None,
     Full,

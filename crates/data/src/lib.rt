@@ -1,5 +1,7 @@
 // Data space, what each instruction does to it and to the flag pair in use, and where a byte that it reads comes from.
 // Nothing here knows the PC, the stack or the mode.
+#![tactic(auto)]
+
 pub mod effect;
 pub mod reads;
 pub mod space;
@@ -7,7 +9,7 @@ pub mod space;
 use isa::Operand;
 
 // Where a data byte comes from.
-#[derive(Drop)]
+#[derive(Clone, Copy)]
 pub enum Origin {
     // 00h-3Fh.
     Ram,
@@ -27,7 +29,7 @@ pub enum OperandRead {
 }
 
 // The origin of a data operand that was read, if any.
-#[derive(Drop)]
+#[derive(Clone, Copy)]
 pub enum OriginRead {
     Nothing,
     From(Origin),

@@ -1,5 +1,7 @@
 // The boundary for tests from outside: functions on numbers and byte slices. Every answer is one number (`answers`), a
 // machine is a state of 280 bytes (`states`), and an instruction is a row of fields (`fields`).
+#![tactic(auto)]
+
 mod answers;
 mod clamp;
 mod copying;

@@ -1,5 +1,7 @@
 // The gauge on the bench: the width that the gauge would show for a slide count (document 02, W-201). It stands above the
 // chip, and uses only what `machine`, `certificate` and `bench` promise.
+#![tactic(auto)]
+
 mod sleep;
 pub mod width;
 

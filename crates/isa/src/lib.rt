@@ -1,5 +1,7 @@
 // The ST62 instruction set: its forms, the opcode map's table, decoding and writing, where an instruction may continue,
 // and the interrupt sources with their vectors.
+#![tactic(auto)]
+
 pub mod code;
 pub mod control_flow;
 pub mod decode;
@@ -17,7 +19,7 @@ pub mod table;
 pub mod write;
 
 // A data operand: where an instruction finds its byte in data space.
-#[derive(Drop)]
+#[derive(Clone, Copy)]
 pub enum Operand {
     Direct(u8),
     // 0 to 3: X, Y, V, W.
@@ -27,7 +29,7 @@ pub enum Operand {
 }
 
 // One case for each of the manual's forms.
-#[derive(Drop)]
+#[derive(Clone, Copy)]
 pub enum Instruction {
     // Short displacements, counted from the next address.
     Jrnz(i8),
@@ -76,7 +78,7 @@ pub enum Form {
 
 // Why an operation was refused or stopped, in the order of the papers' numbers 1 to 30, with the address where they
 // give one.
-#[derive(Drop)]
+#[derive(Clone, Copy)]
 pub enum Refusal {
     ImageLength,
     IllFormedMachine,
@@ -118,7 +120,7 @@ pub enum Number {
 }
 
 // What stands at a program address.
-#[derive(Drop)]
+#[derive(Clone, Copy)]
 pub enum Decoded {
     Valid {
         instruction: Instruction,
@@ -145,7 +147,7 @@ pub enum Written {
 }
 
 // What a branch tests, and the value at which it jumps: the flag Z or C, or a bit of a data byte.
-#[derive(Drop)]
+#[derive(Clone, Copy)]
 pub enum Condition {
     Zero(bool),
     Carry(bool),
@@ -153,7 +155,7 @@ pub enum Condition {
 }
 
 // Where an instruction may continue.
-#[derive(Drop)]
+#[derive(Clone, Copy)]
 pub enum Flow {
     // At the next address.
     Next,
@@ -176,7 +178,7 @@ pub enum Continuation {
 }
 
 // What may ask for a service, in the order of a request byte's bits 0 to 4: NMI and sources 1 to 4.
-#[derive(Drop)]
+#[derive(Clone, Copy)]
 pub enum Source {
     Nmi,
     First,

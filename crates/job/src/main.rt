@@ -1,4 +1,6 @@
 // The job program: reads a job from standard input, and prints the line that answers it (document 01, "Job program").
+#![tactic(auto)]
+
 use jobs::Answered;
 use jobs::answer::answer;
 use libc::{STDIN_FILENO, STDOUT_FILENO};

@@ -19,7 +19,7 @@ fn write_line(made: LineBuffer, line: &mut [u8]) -> Answered
     if line.len() < count {
         return Answered::Refused(Refusal::BufferLength);
     }
-    bytes::copy(&letters[..count], line);
+    slices::copy(&letters[..count], line);
     Answered::Line(count)
 }
 

@@ -1,4 +1,6 @@
 // Jobs: a job's bytes to the answer by number, and to the line that it is printed as (document 01, "Job program").
+#![tactic(auto)]
+
 pub mod answer;
 pub mod check_job;
 mod line;

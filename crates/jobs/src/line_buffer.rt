@@ -24,7 +24,7 @@ impl LineBuffer {
         ensures { Holds word.now result }
     {
         let mut letters = [0u8; 16];
-        let count = bytes::copy(word, &mut letters);
+        let count = slices::copy(word, &mut letters);
         LineBuffer { letters, count }
     }
 

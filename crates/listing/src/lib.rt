@@ -1,5 +1,7 @@
 // The ST62's instructions as text in the manual's notation, and the line of an address in a listing, made in a line by
 // value and written to a lent buffer.
+#![tactic(auto)]
+
 pub mod address_line;
 pub mod disassemble;
 pub mod instruction;
@@ -14,7 +16,7 @@ use isa::Refusal;
 pub const MOST: usize = 128;
 
 // A line in the making: the first `count` of its letters.
-#[derive(Drop)]
+#[derive(Clone, Copy)]
 pub struct Line {
     pub letters: [u8; 128],
     pub count: usize,

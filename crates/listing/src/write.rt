@@ -14,6 +14,6 @@ pub fn write(line: Line, buffer: &mut [u8]) -> LineWritten
     if buffer.len() < count {
         return LineWritten::Refused(Refusal::BufferLength);
     }
-    bytes::copy(&letters[..count], buffer);
+    slices::copy(&letters[..count], buffer);
     LineWritten::Done(count)
 }

@@ -1,4 +1,6 @@
 // The ST62 machine: control beside the stack, flags and data bytes; step, run, reset, host store and reading a byte.
+#![tactic(auto)]
+
 mod actions;
 mod advance;
 mod execute;
@@ -19,7 +21,7 @@ use data::{Origin, OriginRead};
 use isa::{Instruction, Refusal, Source};
 
 // Normal and interrupt mode have a flag pair each; the other three modes share the NMI pair.
-#[derive(Drop)]
+#[derive(Clone, Copy)]
 pub struct FlagPairs {
     pub normal: Flags,
     pub interrupt: Flags,
@@ -27,7 +29,7 @@ pub struct FlagPairs {
 }
 
 // The machine. Of the 256 bytes the 64 under the ROM window (40h-7Fh) are never read and never change.
-#[derive(Drop)]
+#[derive(Clone, Copy)]
 pub struct Machine {
     pub control: Control,
     pub stack: [u16; 6],
@@ -65,7 +67,7 @@ pub enum Action {
 }
 
 // A step's answer: its cycles, or why it was refused or stopped.
-#[derive(Drop)]
+#[derive(Clone, Copy)]
 pub enum StepAnswer {
     Done(u8),
     Refused(Refusal),
@@ -110,7 +112,7 @@ pub enum ReadAnswer {
 }
 
 // How a run or a host store ended.
-#[derive(Drop)]
+#[derive(Clone, Copy)]
 pub enum Ending {
     Done,
     Refused(Refusal),

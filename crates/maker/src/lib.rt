@@ -1,5 +1,7 @@
 // The certificate maker (document 02, W-202): the least certificate that the check accepts for an image and its wired
 // sources, or that there is none.
+#![tactic(auto)]
+
 mod graph;
 mod join;
 pub mod make;

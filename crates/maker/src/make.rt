@@ -47,7 +47,7 @@ pub fn make(image: &[u8], wired: u8, buffer: &mut [u8]) -> Made
     let mut work = [0u8; 4096];
     let made = complete(image, &mut work[..size], wired);
     if let Made::Written(_) = made {
-        bytes::copy(&work[..size], buffer);
+        slices::copy(&work[..size], buffer);
     }
     made
 }

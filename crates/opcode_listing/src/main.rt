@@ -1,5 +1,7 @@
 // Lists the 256 opcodes as they decode at 100h with the operand bytes 12h and 34h: the bytes, length, cycles, and the
 // instruction in the manual's notation. It is there to be held against the manual's map and pages.
+#![tactic(auto)]
+
 use isa::Decoded;
 use isa::decode::decode;
 use listing::Line;

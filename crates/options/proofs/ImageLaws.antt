@@ -13,8 +13,8 @@ use denote.Enum.Declared.{tag_of}
 use borrow.Rule.Slice.PartMut.{put_mid, mid_of, Post-is}
 use Rattle.isa.specs.Rom.{is_image, spaces_in}
 use Rattle.isa.proofs.Halves.{Sized, sized}
-use Rattle.hex.specs.declared.HexAnswer.{HexAnswer}
-use Rattle.hex.specs.Read.{answer_of, image_after, outcome_of, Reads}
+use Rattle.intel_hex.specs.declared.HexAnswer.{HexAnswer}
+use Rattle.intel_hex.specs.Read.{answer_of, image_after, outcome_of, Reads}
 use Rattle.options.specs.declared.image.Rom.TheVariants as rom
 use Rattle.options.specs.declared.image.Asked.{Asked}
 use Rattle.options.specs.declared.image.Asked.TheVariants as asked

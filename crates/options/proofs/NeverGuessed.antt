@@ -9,9 +9,9 @@ use lib.ListN.{length, take}
 use borrow.Author.Tests.{leb-true, leb-false}
 use Rattle.isa.specs.Refusals.{unless}
 use Rattle.isa.specs.Rom.{is_image}
-use Rattle.hex.specs.declared.HexAnswer.{HexAnswer}
-use Rattle.hex.specs.declared.HexAnswer.TheVariants as hex
-use Rattle.hex.specs.Read.{answer_of, outcome_of}
+use Rattle.intel_hex.specs.declared.HexAnswer.{HexAnswer}
+use Rattle.intel_hex.specs.declared.HexAnswer.TheVariants as hex
+use Rattle.intel_hex.specs.Read.{answer_of, outcome_of}
 use Rattle.options.specs.declared.image.Rom.{Rom}
 use Rattle.options.specs.declared.image.Rom.TheVariants as rom
 use Rattle.options.specs.declared.image.Asked.{Asked}

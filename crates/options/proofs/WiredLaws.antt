@@ -10,9 +10,9 @@ use lib.Dec.{eqb}
 use lib.ListN.{length, take, drop}
 use lib.Seq.{take_all}
 use borrow.Author.Tests.{eq-eqb, lt-ltb, le-ltb, ne_eqb}
-use Rattle.bytes.specs.Bytes.{index_after, index_of, slice}
-use Rattle.hex.specs.Lines.{before}
-use Rattle.hex.proofs.LineLaws.{to_end}
+use Rattle.slices.specs.Bytes.{index_after, index_of, slice}
+use Rattle.intel_hex.specs.Lines.{before}
+use Rattle.intel_hex.proofs.LineLaws.{to_end}
 use Rattle.options.specs.declared.numbers.Parsed.{Parsed}
 use Rattle.options.specs.declared.numbers.Parsed.TheVariants as parsed
 use Rattle.options.specs.declared.wired.Wired.TheVariants as wired

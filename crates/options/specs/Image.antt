@@ -2,9 +2,9 @@
 use Rattle.std.specs.Prelude.{ℕ, ◌+◌, ◌*◌, ◌-◌, ◌≤◌, ◌<◌, ◌≡◌, Bool, true, false, cond, List, [], ◌∷◌, ◌++◌, eqb, leb, length, take, drop, get_or}
 use Rattle.isa.specs.Refusals.{unless}
 use Rattle.isa.specs.Rom.{is_image, spaces_in}
-use Rattle.hex.specs.declared.HexAnswer.{HexAnswer}
-use Rattle.hex.specs.declared.HexAnswer.TheVariants as hex
-use Rattle.hex.specs.Read.{answer_of, image_after, outcome_of}
+use Rattle.intel_hex.specs.declared.HexAnswer.{HexAnswer}
+use Rattle.intel_hex.specs.declared.HexAnswer.TheVariants as hex
+use Rattle.intel_hex.specs.Read.{answer_of, image_after, outcome_of}
 use Rattle.listing.specs.Words.{ascii}
 use Rattle.options.specs.declared.image.Rom.{Rom}
 use Rattle.options.specs.declared.image.Rom.TheVariants as rom

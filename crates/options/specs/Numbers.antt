@@ -1,7 +1,7 @@
 -- Numbers on the command line.
 use Rattle.std.specs.Prelude.{ℕ, ◌+◌, ◌-◌, ◌*◌, Bool, true, ◌&&◌, cond, List, [], ◌∷◌, eqb, leb, length, get_or}
 use Rattle.isa.specs.Refusals.{unless}
-use Rattle.hex.specs.Digits.{digit_of}
+use Rattle.intel_hex.specs.Digits.{digit_of}
 use Rattle.options.specs.declared.numbers.Parsed.{Parsed}
 use Rattle.options.specs.declared.numbers.Parsed.TheVariants as parsed
 

@@ -1,9 +1,9 @@
 -- Sources by name, as `--wired` and `--request` have them.
 use Rattle.std.specs.Prelude.{ℕ, suc, cond, List, [], ◌∷◌, eqb, ltb, length, take, drop}
 use Rattle.std.specs.Int.Bits.{bit_or}
-use Rattle.bytes.specs.Bytes.{index_of}
+use Rattle.slices.specs.Bytes.{index_of}
 use Rattle.isa.specs.Refusals.{unless}
-use Rattle.hex.specs.Lines.{before}
+use Rattle.intel_hex.specs.Lines.{before}
 use Rattle.listing.specs.Words.{ascii}
 use Rattle.options.specs.declared.numbers.Parsed.{Parsed}
 use Rattle.options.specs.declared.numbers.Parsed.TheVariants as parsed

@@ -5,7 +5,7 @@ ghost use Rattle.options.specs.Image.{bytes_of, got, hex_got, image_got, is_hex,
 ghost use Rattle.options.specs.Image.{sized_by, sized_by_lowest, size_named};
 
 use crate::words::is;
-use hex::{Fault, HexAnswer};
+use intel_hex::{Fault, HexAnswer};
 use isa::rom::{HALF_SPACE, PROGRAM_SPACE, is_image_length, spaces_in};
 
 // The bytes of the longest image: nine pages and the fixed half.
@@ -17,7 +17,7 @@ const SMALL: usize = 18432;
 const LARGE: usize = 16384;
 
 // The sizes: 2K, from 800h to FFFh; 4K; and paged, with how many pages there are to choose from, two or more.
-#[derive(Drop)]
+#[derive(Clone, Copy)]
 pub enum Rom {
     Small,
     Large,
@@ -114,9 +114,9 @@ fn hex_image(file: &[u8], asked: Asked, fill: u8, space: &mut [u8]) -> ImageRead
         ≡ hex_got file.now asked fill space.old }
 {
     match asked {
-        Asked::Small => sized(hex::read::read(file, fill, &mut space[SMALL..]), Rom::Small),
-        Asked::Large => sized(hex::read::read(file, fill, &mut space[LARGE..]), Rom::Large),
-        _ => by_lowest(hex::read::read(file, fill, &mut space[LARGE..])),
+        Asked::Small => sized(intel_hex::read::read(file, fill, &mut space[SMALL..]), Rom::Small),
+        Asked::Large => sized(intel_hex::read::read(file, fill, &mut space[LARGE..]), Rom::Large),
+        _ => by_lowest(intel_hex::read::read(file, fill, &mut space[LARGE..])),
     }
 }
 
@@ -179,7 +179,7 @@ fn raw_image(file: &[u8], asked: Asked, space: &mut [u8]) -> ImageRead
     if !may_be(asked, rom) {
         return ImageRead::OtherSize;
     }
-    bytes::copy(file, &mut space[SPACE - length..]);
+    slices::copy(file, &mut space[SPACE - length..]);
     ImageRead::Whole {
         rom,
         by: ChosenBy::Size,

@@ -1,5 +1,7 @@
 // The decisions of the command `st62`, on slices: what a command line asks for, word by word, and which image a file
 // holds.
+#![tactic(auto)]
+
 pub mod command_line;
 pub mod image;
 pub mod numbers;

@@ -2,7 +2,7 @@
 ghost use Rattle.std.specs.Prelude.{◌≡◌};
 ghost use Rattle.options.specs.Numbers.{byte_named, decimal_named};
 
-use hex::digit_of;
+use intel_hex::digit_of;
 
 #[derive(Drop)]
 pub enum Parsed {

@@ -1,12 +1,12 @@
 // Sources by name, as `--wired` and `--request` have them.
 ghost use Rattle.std.specs.Prelude.{◌≡◌};
-ghost use Rattle.bytes.specs.Bytes.{index_of};
+ghost use Rattle.slices.specs.Bytes.{index_of};
 ghost use Rattle.io.specs.Counts.{IsPrefixLen};
 ghost use Rattle.options.specs.Wired.{bit_named, parts_of, request_named, wired_after, wired_named};
 
 use crate::numbers::{Parsed, decimal_of};
 use crate::words::is;
-use bytes::scan::find;
+use slices::find;
 
 #[derive(Drop)]
 pub enum Wired {
@@ -48,7 +48,7 @@ pub fn bit_of(name: &[u8]) -> u8
 fn before(text: &[u8], letter: u8) -> usize
     ensures { (IsPrefixLen result text.now) × (result ≡ index_of letter text.now) }
 {
-    find(text, 0, text.len(), letter)
+    find(text, letter)
 }
 
 // The bits of names with commas between them.

@@ -1,5 +1,7 @@
 // Records of a session, and playing them on the bench (document 02, W-206 and W-207). It stands above the chip: every
 // entry is a key of `bench`, pressed on one machine, and steps in a row are one run.
+#![tactic(auto)]
+
 mod entries;
 mod header;
 pub mod play;

@@ -22,7 +22,7 @@ use machine::{Ending, Report, StepAnswer};
 const ROW: u32 = 4096;
 
 // Where a playing stands between two keys.
-#[derive(Drop)]
+#[derive(Clone, Copy)]
 pub struct Turn {
     // Whether an entry is to be played.
     pub more: bool,

@@ -1,5 +1,7 @@
 // Numbers, addresses, refusals and modes on standard output, as the papers write them: for the programs that print
 // what they ran.
+#![tactic(auto)]
+
 use control::Mode;
 use isa::refusals::number_of;
 use isa::{Number, Refusal};

@@ -14,7 +14,7 @@ use crate::page_found::page_found;
 use crate::{DONE, REFUSED};
 use certificate::Checked;
 use certificate::check::check;
-use hex::crc::crc_32;
+use intel_hex::crc::crc_32;
 use isa::refusals::number_of;
 use isa::rom::PROGRAM_SPACE;
 use isa::{Number, Refusal};

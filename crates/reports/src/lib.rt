@@ -1,4 +1,6 @@
 // What the command `st62` writes: the answer's line, the reason in words, levels as they add up, machines and steps.
+#![tactic(auto)]
+
 pub mod answers;
 mod attempt;
 pub mod changes;

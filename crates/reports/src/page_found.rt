@@ -15,8 +15,8 @@ fn join<'a>(page: &'a [u8], fixed: &'a [u8], space: &mut [u8])
     requires { (length page.now ≡ 2048) × (length fixed.now ≡ 2048) × (length space.old ≡ 4096) }
     ensures { space.new ≡ page.now ++ fixed.now }
 {
-    bytes::copy(page, space);
-    bytes::copy(fixed, &mut space[2048..]);
+    slices::copy(page, space);
+    slices::copy(fixed, &mut space[2048..]);
 }
 
 // The check of program space as it stands with a page of several in place.

@@ -5,7 +5,7 @@ use crate::arguments::byte_argument;
 use crate::files::{put_file_error, read_file};
 use crate::help::put_usage;
 use certificate::check::marks_in;
-use hex::Fault;
+use intel_hex::Fault;
 use isa::rom::PROGRAM_SPACE;
 use libc::STDERR_FILENO;
 use options::command_line::bad_value;

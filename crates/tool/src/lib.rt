@@ -1,5 +1,7 @@
 // The command `st62`: from an assembler's file to an answer. Every decision stands in a function on slices; what reads
 // arguments and files, and what writes, is thin and at the rim (`arguments`, `files`, `reports::output`).
+#![tactic(auto)]
+
 mod arguments;
 mod certify;
 mod check;

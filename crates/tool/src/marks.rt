@@ -1,7 +1,7 @@
 // The certificate that a command works with: from a file, or made.
 use crate::files::read_file;
 use crate::image::put_fault;
-use hex::HexAnswer;
+use intel_hex::HexAnswer;
 use isa::Refusal;
 use maker::Made;
 use maker::make::make;
@@ -24,10 +24,10 @@ fn marks_of(file: &[u8], argument: usize, marks: &mut [u8]) -> Marks {
         if file.len() != marks.len() {
             return Marks::Refused(Refusal::CertificateLength);
         }
-        bytes::copy(file, marks);
+        slices::copy(file, marks);
         return Marks::Ready;
     }
-    match hex::read::read(file, 0, marks) {
+    match intel_hex::read::read(file, 0, marks) {
         HexAnswer::Read { lowest: _ } => Marks::Ready,
         HexAnswer::Refused { line, fault } => {
             put_fault(argument, line, fault);

@@ -2,7 +2,7 @@
 use native.Mathlib.Omega.{arith}
 use lib.ListN.{get_or}
 use borrow.Author.Tests.{eq-eqb, ne_eqb}
-use Rattle.hex.proofs.DigitLaws.{digit_at_most}
+use Rattle.intel_hex.proofs.DigitLaws.{digit_at_most}
 use Rattle.options.specs.Numbers.{byte_named}
 use borrow.Author.Rules.{rules}
 use Rattle.options.proofs.numbers.byte_of.Statement.{statement}
