@@ -101,6 +101,8 @@ def main():
                 q = re.search(r"([\w'-]+)\.$", before)
                 if word in clashing and not q:
                     return word + "_lem"
+                if word in stated:
+                    return plain(word)
                 if "-" in word and (word in seen and not q or q and q.group(1) in aliases and word in every):
                     return plain(word)
                 return camel_turn(word, whole, at)

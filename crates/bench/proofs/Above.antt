@@ -120,7 +120,7 @@ module _ {certificate : List ℕ} {M : Mode} {q : ℕ} {t : List ℕ} where
   above_moved moves.idles a = other (λ e. let z : ◌≡◌ {A = ℕ} 0 1 = cc in omega arith) a
   above_moved (moves.continues c) a = other (λ e. let z : ◌≡◌ {A = ℕ} 0 1 = cc in omega arith) (continue a c)
   above_moved (moves.calls c) a =
-      other (λ e. let z : ◌≡◌ {A = ℕ} 0 1 = cc in omega arith) (subroutine (continue a c.back) c.target-kind)
+      other (λ e. let z : ◌≡◌ {A = ℕ} 0 1 = cc in omega arith) (subroutine (continue a c.back) c.target_kind)
   above_moved (moves.returns k) a = other (λ e. let z : ◌≡◌ {A = ℕ} 0 1 = cc in omega arith) (ret a k)
   above_moved (moves.leaves k) a = reti a k
   above_moved (moves.begins e) a = absurd (let h = deeper a in omega arith)

@@ -142,7 +142,7 @@ balanced =
       after_calls = λ image certificate wired number e m calls asks k.
           after_calls image certificate wired number ((agreement image certificate wired number).sound e) m
           (take k calls) (asks_take wired k calls asks);
-      after-steps = λ image certificate wired number e m calls asks k.
+      after_steps = λ image certificate wired number e m calls asks k.
           after_calls image certificate wired number ((agreement image certificate wired number).sound e) m
           (take k (unrolled calls))
           (asks_take wired k (unrolled calls) (asks_unrolled wired calls asks));

@@ -60,7 +60,7 @@ module _ (image certificate : List ℕ) (wired number : ℕ) (ok : Rules image c
   unfolding well_formed levels_in_use
   well_formed_lem m g =
       let six : m.control.levels ≤ 6 =
-      omega (arith, levels_within m g, length_inUse m.control.levels m.stack, ok.at-most-six) in
+      omega (arith, levels_within m g, length_inUse m.control.levels m.stack, ok.at_most_six) in
       rw (
         lt-ltb m.control.pc 0x1000 (below certificate m.control.pc (has_kind_lem g.frames)),
         le-leb m.control.levels 6 six,

@@ -74,7 +74,7 @@ module _ {certificate : List ℕ} {wired : ℕ} where
 
   call : {m : Mode} {p t n : ℕ} {s : List ℕ} → StackFrames certificate wired m p s → Calls certificate p t n
       → StackFrames certificate wired m t (n ∷ s)
-  call f c = let h = within f in subroutine (continue f c.back) c.target-kind (omega arith)
+  call f c = let h = within f in subroutine (continue f c.back) c.target_kind (omega arith)
 
   return : {m : Mode} {p r : ℕ} {s : List ℕ} → StackFrames certificate wired m p (r ∷ s) → kind_at certificate p ≡ 4
       → StackFrames certificate wired m r s
@@ -95,7 +95,7 @@ module _ {certificate : List ℕ} {wired : ℕ} where
   begin : {p n : ℕ} → StackFrames certificate wired Reset p [] → EndsStartUp certificate p n
       → StackFrames certificate wired Normal n []
   unfolding bound
-  begin (start_up_lem k h) e = main e.next-kind (omega arith)
+  begin (start_up_lem k h) e = main e.next_kind (omega arith)
 
   take : {m : Mode} {source : Source} {p : ℕ} {s : List ℕ} → Takes m source → Wired certificate wired source
       → StackFrames certificate wired m p s

@@ -127,7 +127,7 @@ module _ (image certificate : List ℕ) (wired number : ℕ) (ok : Rules image c
       let b = begun a.moves (request_effect image m request source t.takes) in
       let formed = well_formed_lem image certificate wired number ok m g in
       let flags : (step_of image m request).machine.flags ≡ m.flags =
-      rw (step_advances image m request ok.image-length formed t.named)
+      rw (step_advances image m request ok.image_length formed t.named)
       (taken_flags (program_of image m.bytes) m request source t.takes) in
       record {
         over = rw b.mode-set (over_taken b.takes);
@@ -140,9 +140,9 @@ module _ (image certificate : List ℕ) (wired number : ℕ) (ok : Rules image c
   unfolding advanced_of acted_of executed_of completed_of execute_of flow_of advance_of
   awake_after m g request x =
       rw (
-        step_advances image m request ok.image-length (well_formed_lem image certificate wired number ok m g)
+        step_advances image m request ok.image_length (well_formed_lem image certificate wired number ok m g)
             x.named,
-        awake_due program m request x.none-taken x.awake _ x.at-pc,
+        awake_due program m request x.none_taken x.awake _ x.at_pc,
       )
       (by_stop reti.stop)
     where
@@ -180,7 +180,7 @@ module _ (image certificate : List ℕ) (wired number : ℕ) (ok : Rules image c
             m.control.mode m₁.control.mode m₁.control.pc (return_addresses m₁)
             → Served image certificate m₀ M m request
         by_move named (inl e) =
-            let x = reti_executed image M m request named e.in-mode e.is-reti in
+            let x = reti_executed image M m request named e.in_mode e.is-reti in
             ends x
             (record {
               address = e.address;
@@ -191,7 +191,7 @@ module _ (image certificate : List ℕ) (wired number : ℕ) (ok : Rules image c
             })
         by_move named (inr a) =
             stays
-            (λ x. a.not-ended (reti_effect image M m request x (over_started s.over)) x.in-mode)
+            (λ x. a.not_ended (reti_effect image M m request x (over_started s.over)) x.in_mode)
             (record { over = s.over; above = a.above; pair = pair_kept request })
 
         by_test : (known : Bool) → names_only_sources request ≡ known → Served image certificate m₀ M m request
@@ -270,7 +270,7 @@ module _ (image certificate : List ℕ) (wired number : ℕ) (ok : Rules image c
       let g₀ = all_kept s.before start a.0 g in
       let g₁ = (call_kept image certificate wired number ok (step s.request) (interrupted s) a.1.0 g₀).1 in
       let t = begins (interrupted s) g₀ s.request a.1.0 s.source s.taken in
-      let h = all_serve s.since b.0 s.not-ended (g₁, t) in
+      let h = all_serve s.since b.0 s.not_ended (g₁, t) in
       record {
         invariant = g₀;
         asks = a.1.0;

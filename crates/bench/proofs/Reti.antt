@@ -64,7 +64,7 @@ is_reti_lem i a h = by_kind i (may_stop i) h
 pub reti_executed : (image : List ℕ) (mode : Mode) (m : Machine) (request : ℕ) → names_only_sources request ≡ true
     → m.control.mode ≡ mode → stack_effect_of image m request ≡ by_reti → RetiIn image mode m request
 unfolding stack_effect_of action_effect
-reti_executed image mode m request named in-mode e =
+reti_executed image mode m request named in_mode e =
     by_due (due_of (program_of image m.bytes) m request) (is_due (program_of image m.bytes) m request) e
   where
     by_due : (a : StepAction) → Due (program_of image m.bytes) m request a → action_effect m.control a ≡ by_reti
@@ -76,12 +76,12 @@ reti_executed image mode m request named in-mode e =
         let is = is_reti_lem i m.control.pc (flow_reti m.control (flow_of i m.control.pc) e) in
         record {
           named = named;
-          none-taken = nothing;
+          none_taken = nothing;
           awake = awake;
           bytes = bytes;
           cycles = cycles;
-          at-pc = rw is at at;
-          in-mode = in-mode;
+          at_pc = rw is at at;
+          in_mode = in_mode;
         }
 
 not_start_up : (b : Bool) (r : Bool) → r ≡ false → cond (b && r) by_start_up by_reti ≡ by_reti
@@ -93,8 +93,8 @@ pub reti_effect : (image : List ℕ) (mode : Mode) (m : Machine) (request : ℕ)
     → is_reset mode ≡ false → stack_effect_of image m request ≡ by_reti
 unfolding stack_effect_of action_effect flow_effect flow_of
 reti_effect image mode m request x started =
-    rw (awake_due (program_of image m.bytes) m request x.none-taken x.awake _ x.at-pc)
-    (not_start_up (eqb m.control.levels 0) (is_reset m.control.mode) (rw x.in-mode started))
+    rw (awake_due (program_of image m.bytes) m request x.none_taken x.awake _ x.at_pc)
+    (not_start_up (eqb m.control.levels 0) (is_reset m.control.mode) (rw x.in_mode started))
 
 -- a step that takes a request has its effect
 pub request_effect : (image : List ℕ) (m : Machine) (request : ℕ) (source : Source) → Takes m request source

@@ -147,7 +147,7 @@ none_ending image mode started (step request ∷ calls) m e =
         let z : ◌≡◌ {A = Bool} false true =
         rw (
           reti_effect image mode m request x started,
-          x.in-mode,
+          x.in_mode,
           eq-eqb (mode_number mode) (mode_number mode) refl,
         ) at t in
         let z : ◌≡◌ {A = ℕ} 0 1 = cc in omega arith
@@ -224,7 +224,7 @@ module _ (image certificate : List ℕ) (wired number : ℕ) (e : check_of image
   served_in_lem started place is =
       record {
         service = s;
-        of-source = refl;
+        of_source = refl;
         last = last;
         next = n;
         ends = x;
@@ -253,7 +253,7 @@ module _ (image certificate : List ℕ) (wired number : ℕ) (e : check_of image
                   named = ap (λ (c : Computed). c.named) is;
                   takes = ap (λ (c : Computed). c.takes) is;
                 };
-            not-ended =
+            not_ended =
                 in_mode_set image since taking _ mode mode_set_lem
                 (none_ending image mode started since taking (ap (λ (c : Computed). c.stays) is));
           }
@@ -264,7 +264,7 @@ module _ (image certificate : List ℕ) (wired number : ℕ) (e : check_of image
       x : EndsService s last
       x =
           reti_executed image taking.control.mode ending last (ap (λ (c : Computed). c.last-named) is)
-          (ap (λ (c : Computed). c.in-mode) is ∙ sym mode_set_lem) (ap (λ (c : Computed). c.last-effect) is)
+          (ap (λ (c : Computed). c.in_mode) is ∙ sym mode_set_lem) (ap (λ (c : Computed). c.last-effect) is)
 
 -- start-up code, till the machine sleeps, and a step more
 abbrev asleep : List Call
@@ -297,8 +297,8 @@ service_cases =
           []
           []
           0x01 0x00 Nmi NmiOverNormal _ _ refl refl refl;
-      accepted-sleeper = both_accepted.0;
-      source-woke =
+      accepted_sleeper = both_accepted.0;
+      source_woke =
           served_in_lem sleeper sleeper_certificate 0x03 2 both_accepted.0
           woken
           asleep
@@ -306,23 +306,23 @@ service_cases =
           ∷ step 0x00 ∷ [])
           []
           0x02 0x02 First Interrupt _ _ refl refl refl;
-      nmi-within =
+      nmi_within =
           served_in_lem sleeper sleeper_certificate 0x03 2 both_accepted.0
           woken
           (asleep ++ (step 0x02 ∷ store 0x84 0x05 ∷ step 0x80 ∷ store 0x40 0x05 ∷ step 0x00 ∷ []))
           (step 0x03 ∷ step 0x00 ∷ [])
           (step 0x00 ∷ step 0x02 ∷ [])
           0x01 0x00 Nmi NmiOverInterrupt _ _ refl refl refl;
-      own-pair-before = refl;
-      own-pair-after = refl;
-      accepted-paged = both_accepted.1;
-      paged-served =
+      own_pair_before = refl;
+      own_pair_after = refl;
+      accepted_paged = both_accepted.1;
+      paged_served =
           served_in_lem paged paged_certificate 0x01 1 both_accepted.1
           (run (0x00 ∷ 0x00 ∷ 0x00 ∷ 0x01 ∷ []) 7 ∷ [])
           (step 0x00 ∷ step 0x00 ∷ step 0x00 ∷ [])
           (step 0x00 ∷ step 0x00 ∷ [])
           []
           0x01 0x00 Nmi NmiOverNormal _ _ refl refl refl;
-      page-before = refl;
-      page-after = refl;
+      page_before = refl;
+      page_after = refl;
     }

@@ -153,9 +153,9 @@ module _ (image certificate : List ℕ) (wired number : ℕ) (ok : Rules image c
       let latest = latest_after_all image s.before start begins in
       let b = back_by image certificate wired number ok x (h.next request n) in
       rw (latest_append image s.before (step s.request ∷ s.since) start begins)
-      (ended_over h.serving.over (current s).control.mode (after_step s request).control.mode x.in-mode
+      (ended_over h.serving.over (current s).control.mode (after_step s request).control.mode x.in_mode
       b.mode _
-      ∙ all_follow s.since h.asks-since s.not-ended h.taken _
+      ∙ all_follow s.since h.asks-since s.not_ended h.taken _
       ∙ begin_follows (interrupted s) h.invariant s.request h.asks s.source s.taken latest)
 
   end_only : (m : Machine) → MachineInvariant certificate wired m → (request : ℕ) → AsksOnly wired request

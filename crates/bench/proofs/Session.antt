@@ -98,9 +98,9 @@ module _ (image certificate : List ℕ) (wired number : ℕ) (ok : Rules image c
               (unless short (refused_run m (plain 12))
               (unless fit (refused_run m (plain 11)) (steps_of image requests m n)))
           by_tests false fit e =
-              (inl (inl (record { refusal = refl; no_steps = refl; no-cycles = refl; same = refl })), g)
+              (inl (inl (record { refusal = refl; no_steps = refl; no_cycles = refl; same = refl })), g)
           by_tests true false e =
-              (inl (inr (record { refusal = refl; no_steps = refl; no-cycles = refl; same = refl })), g)
+              (inl (inr (record { refusal = refl; no_steps = refl; no_cycles = refl; same = refl })), g)
           by_tests true true e = run_done e
 
   pub call_kept : (c : Call) (m : Machine) → CallAsksOnly wired c → MachineInvariant certificate wired m
@@ -122,7 +122,7 @@ module _ (image certificate : List ℕ) (wired number : ℕ) (ok : Rules image c
 pub rules_suffice : (image certificate : List ℕ) (wired number : ℕ) → Rules image certificate wired number
     → Promised image wired number
 rules_suffice image certificate wired number ok = (
-  ok.at-most-six,
+  ok.at_most_six,
   λ m calls asks. all_keep image certificate wired number ok calls (reset_of m) asks
       (reset_invariant image certificate wired number ok m),
 )

@@ -81,7 +81,7 @@ module _ (image certificate : List ℕ) (wired number : ℕ) (ok : Rules image c
   room slots c address g move =
       let h = within_number (frames_kept move g.frames) in
       let six = g.six in
-      let less : c.levels < 6 = omega (arith, length_inUse c.levels slots, ok.counted, ok.at-most-six) in
+      let less : c.levels < 6 = omega (arith, length_inUse c.levels slots, ok.counted, ok.at_most_six) in
       record {
         not_full = lt-leb 6 c.levels less;
         six = length-set slots c.levels address ∙ six;

@@ -33,7 +33,7 @@ pub record AllGo (certificate : List ℕ) (wired n : ℕ) (r : Run) : Type 0 whe
 
 module _ (image certificate : List ℕ) (wired number : ℕ) (ok : Rules image certificate wired number) where
   fits : is_image (length image) ≡ true
-  fits = ok.image-length
+  fits = ok.image_length
 
   module _ (m : Machine) (g : MachineInvariant certificate wired m) where
     -- a step, where none of bits 5 to 7 is set and where one is

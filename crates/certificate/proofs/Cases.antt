@@ -21,10 +21,10 @@ check_cases =
     record {
       p11 = refl;
       p12 = refl;
-      need-six = refl;
-      need-four = refl;
-      need-five = refl;
-      bytes-2047 = refl;
-      bytes-2049 = refl;
+      need_six = refl;
+      need_four = refl;
+      need_five = refl;
+      bytes_2047 = refl;
+      bytes_2049 = refl;
       cut = refl;
     }

@@ -24,7 +24,7 @@ use Rattle.certificate.proofs.Pages.{pages_pass, all_pass}
 use Rattle.certificate.proofs.Links.{links_pass, flow_rule_exactly}
 
 has_kind_lem : {mark : ℕ} → WellFormed mark → 0 < kind_of mark
-has_kind_lem {mark} w = rw (kind_of_lem mark w) w.kind-least
+has_kind_lem {mark} w = rw (kind_of_lem mark w) w.kind_least
 
 module _ (image certificate : List ℕ) (wired levels : ℕ) (rules : Rules image certificate wired levels) where
   abbrev pages : ℕ
@@ -80,7 +80,7 @@ module _ (image certificate : List ℕ) (wired levels : ℕ) (rules : Rules imag
 
   marks_pass : marks_found image certificate pages (lowest certificate) certificate ≡ passes
   marks_pass =
-      let same = rules.certificate-length in
+      let same = rules.certificate_length in
       let fits : length certificate ≤ 4096 = omega (arith, at_most_4096 (length image)) in
       all_pass image certificate pages (lowest certificate) certificate
       (λ i h. mark_passes (lowest certificate + i) (get_or certificate i 0) (mark_is certificate i fits h))
@@ -90,10 +90,10 @@ module _ (image certificate : List ℕ) (wired levels : ℕ) (rules : Rules imag
   unfolding check_of
   check_complete =
       let counted = rules.counted in
-      let six : levels_of certificate wired ≤ 6 = omega (arith, rules.at-most-six) in
+      let six : levels_of certificate wired ≤ 6 = omega (arith, rules.at_most_six) in
       rw (
-        rules.image-length,
-        eq-eqb _ _ rules.certificate-length,
+        rules.image_length,
+        eq-eqb _ _ rules.certificate_length,
         rules.sources,
         marks_pass,
         vectors_pass,

@@ -71,12 +71,12 @@ well_formed_lem mark h = go (leb (mark / 16) 4) (leb (mark % 16) 6) refl refl h
   where
     go : (s t : Bool) → leb (mark / 16) 4 ≡ s → leb (mark % 16) 6 ≡ t → 1 ≤ cond (s && t) (mark / 16) 0
         → WellFormed mark
-    go true true p q h = record { kind-least = h; kind-most = leb-true _ _ p; need-most = leb-true _ _ q }
+    go true true p q h = record { kind_least = h; kind_most = leb-true _ _ p; need_most = leb-true _ _ q }
     go true false p q h = absurd (omega arith)
     go false t p q h = absurd (omega arith)
 
 pub kind_of_lem : (mark : ℕ) → WellFormed mark → kind_of mark ≡ mark / 16
-kind_of_lem mark w = rw (le-leb _ _ w.kind-most, le-leb _ _ w.need-most)
+kind_of_lem mark w = rw (le-leb _ _ w.kind_most, le-leb _ _ w.need_most)
 
 -- the mark of the i-th ROM byte
 pub mark_is : (certificate : List ℕ) (i : ℕ) → length certificate ≤ 4096 → i < length certificate

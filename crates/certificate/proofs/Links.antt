@@ -42,7 +42,7 @@ module _ (certificate : List ℕ) (a : ℕ) where
   linked (flow.Call t) n r =
       record {
         stands = refl;
-        links = (record { kind = r.target-kind; need = r.target-need }, (same_kind n r.back, tt));
+        links = (record { kind = r.target_kind; need = r.target_need }, (same_kind n r.back, tt));
       }
   linked flow.Return n r = record { stands = eq-eqb _ 4 r; links = tt }
   linked flow.ReturnFromInterrupt n (inl k) =
@@ -50,7 +50,7 @@ module _ (certificate : List ℕ) (a : ℕ) where
       record { stands = rw no (eq-eqb _ 3 k); links = rw no tt }
   linked flow.ReturnFromInterrupt n (inr e) =
       let yes : eqb (kind_at certificate a) 1 ≡ true = eq-eqb _ 1 e.kind in
-      record { stands = rw yes; links = rw yes (link_to n 2 e.next-kind e.next-need, tt) }
+      record { stands = rw yes; links = rw yes (link_to n 2 e.next_kind e.next_need, tt) }
   linked flow.Sleep n r = record { stands = refl; links = (same_kind n r, tt) }
 
   -- RETI: of a service, or of start-up code
@@ -60,7 +60,7 @@ module _ (certificate : List ℕ) (a : ℕ) where
       → (kind_at certificate a ≡ 3) ⊎ EndsStartUp certificate a n
   reti_rule n false s p l = inl (eqb-true _ 3 p)
   reti_rule n true s p l =
-      inr (record { kind = eqb-true _ 1 s; next-kind = l.0.kind; next-need = need_of_link l.0 })
+      inr (record { kind = eqb-true _ 1 s; next_kind = l.0.kind; next_need = need_of_link l.0 })
 
   rule : (f : Flow) (n : ℕ) → Linked certificate a f n → FlowRule certificate a f n
   unfolding placed successors_of
@@ -68,7 +68,7 @@ module _ (certificate : List ℕ) (a : ℕ) where
   rule (flow.Jump t) n l = continues t l.links.0
   rule (flow.Branch b t) n l = (continues t l.links.0, continues n l.links.1.0)
   rule (flow.Call t) n l =
-      record { target-kind = l.links.0.kind; target-need = l.links.0.need; back = continues n l.links.1.0 }
+      record { target_kind = l.links.0.kind; target_need = l.links.0.need; back = continues n l.links.1.0 }
   rule flow.Return n l = eqb-true _ 4 l.stands
   rule flow.ReturnFromInterrupt n l = reti_rule n (eqb (kind_at certificate a) 1) refl l.stands l.links
   rule flow.Sleep n l = continues n l.links.0

@@ -175,7 +175,7 @@ module _ (certificate : List ℕ) where
         n,
         λ f. let h = ltb-false 0 (kind_of (mark_at certificate a)) t in
             let k = kind_of_lem (mark_at certificate a) f in
-            let l = f.kind-least in
+            let l = f.kind_least in
             omega arith,
       ))
       (λ _. pages_decide image a (spaces_in (length image)) w n))

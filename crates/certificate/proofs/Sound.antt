@@ -165,13 +165,13 @@ check_sound image certificate wired levels e =
     let fits : length certificate ≤ 4096 = omega (arith, at_most_4096 (length image)) in
     let vectors = vectors_pass certificate wired found.1 in
     record {
-      image-length = c₁.0;
-      certificate-length = same;
+      image_length = c₁.0;
+      certificate_length = same;
       sources = c₃.0;
       marked = λ a n. lawful image certificate a c₁.0 n
           (mark_passes image certificate (spaces_in (length image)) fits found.0 a n);
       start_up = vector_kind certificate reset_vector 1 vectors.0;
       vectors = λ s w. source_kind certificate wired s (vectors.1 s) w;
       counted = v.1;
-      at-most-six = omega (arith, v.1);
+      at_most_six = omega (arith, v.1);
     }

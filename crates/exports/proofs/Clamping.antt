@@ -115,5 +115,5 @@ make_clamped {image} {n} {out} {l} m =
     record {
       made = m.made;
       makes = make_by image n out l.buffer m.made (ltb n 256) refl m.makes;
-      answer-is = m.answer-is;
+      answer_is = m.answer_is;
     }

@@ -226,8 +226,8 @@ valid_is s false m e = let z : ◌≡◌ {A = ℕ} 0 1 = cc in absurd (omega ari
 pub packing_inverts : PackingInverts
 unfolding unpacked
 packing_inverts = record {
-  unpack-pack = unpacked_again;
-  pack-unpack = λ s b m e.
+  unpack_pack = unpacked_again;
+  pack_unpack = λ s b m e.
       let p : (is_valid s ≡ true) × (machine_at s ≡ m) = valid_is s (is_valid s) m e in
       rw (← p.1) (packed_again s b p.0);
 }

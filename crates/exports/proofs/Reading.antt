@@ -156,7 +156,7 @@ is_read_lem false i j e = let z : ◌≡◌ {A = ℕ} 0 1 = cc in absurd (omega 
 pub fields_invert : FieldsInvert
 unfolding unpacked_instruction
 fields_invert = record {
-  read-row = λ i fits more.
+  read_row = λ i fits more.
       let long : 7 ≤ length (packed_instruction i ++ more) = simp length-append (omega (arith, seven i)) in
       rw (
         back i fits more,

@@ -67,7 +67,7 @@ module _ (out : List ℕ) where
 
 module _ (s : List ℕ) (bytes : Bytes s) where
   again : (m : Machine) → unpacked s ≡ valid m → packed m ≡ s
-  again = packing_inverts.pack-unpack s bytes
+  again = packing_inverts.pack_unpack s bytes
 
   stepped :
       (image : List ℕ) (m : Machine) (request : ℕ) → unpacked s ≡ valid m → (a : Answer ℕ)
@@ -114,13 +114,13 @@ with_bank false image address bank out = λ k. refl
 pub refusals_leave : RefusalsLeave
 unfolding decode_lent write_lent reset_lent store_lent step_lent job_lent
 refusals_leave = record {
-  by-decode = λ image address bank out. with_bank (leb bank 255) image address bank out;
-  by-write = λ fields out. read out (unpacked_instruction fields);
-  by-reset = λ s. reset s (unpacked s);
-  by-store = λ s bytes a value. in_range s bytes a value (leb a 255 && leb value 255);
-  by-step = λ image s bytes request. by_state s bytes image request (unpacked s) refl;
-  by-run = run_leaves;
-  by-play = play_leaves;
-  by-job = λ job line. with_room line (fits (line_of (job_of job)) line) (length (line_of (job_of job))) _;
-  by-make = λ image wired out l m. made out image wired l.buffer l.answer m.made m.answer-is m.makes;
+  by_decode = λ image address bank out. with_bank (leb bank 255) image address bank out;
+  by_write = λ fields out. read out (unpacked_instruction fields);
+  by_reset = λ s. reset s (unpacked s);
+  by_store = λ s bytes a value. in_range s bytes a value (leb a 255 && leb value 255);
+  by_step = λ image s bytes request. by_state s bytes image request (unpacked s) refl;
+  by_run = run_leaves;
+  by_play = play_leaves;
+  by_job = λ job line. with_room line (fits (line_of (job_of job)) line) (length (line_of (job_of job))) _;
+  by_make = λ image wired out l m. made out image wired l.buffer l.answer m.made m.answer_is m.makes;
 }

@@ -128,6 +128,6 @@ pub width_cases : WidthCases
 width_cases =
     record {
       measured = λ count. (exactly_one.answers copying_image copying_certificate count).measures count 4 (copied count);
-      not-checked = λ count. (exactly_one.answers copying_image blank count).refuses-23 checks.unmarked;
-      never-slept = λ count. (exactly_one.answers endless_image endless_certificate count).refuses-24 (awake count);
+      not_checked = λ count. (exactly_one.answers copying_image blank count).refuses_23 checks.unmarked;
+      never_slept = λ count. (exactly_one.answers endless_image endless_certificate count).refuses_24 (awake count);
     }

@@ -41,7 +41,7 @@ module _ (image certificate : List ℕ) (levels : ℕ) (accepts : check_of image
 
   start_formed : is_well_formed (start_of count) ≡ true
   unfolding start_of fresh_of
-  start_formed = stays_well_formed.by-store _ (stays_well_formed.by-reset _) 0xC0 count
+  start_formed = stays_well_formed.by_store _ (stays_well_formed.by_reset _) 0xC0 count
 
   start_fits : Fits image (start_of count)
   start_fits = record { size = (fits image _ (after_run 0)).size; formed = start_formed }
@@ -54,13 +54,13 @@ module _ (image certificate : List ℕ) (levels : ℕ) (accepts : check_of image
   -- the store is done: a fresh machine is well formed, and 0C0h lies outside the window
   stored : (r : Numbered) → StoreRefused fresh_of 0xC0 r → ⊥
   unfolding fresh_of
-  stored _ (why.ill_formed w) = false≢true (sym w ∙ stays_well_formed.by-reset _)
+  stored _ (why.ill_formed w) = false≢true (sym w ∙ stays_well_formed.by_reset _)
   stored _ (why.window_address w low high) = omega arith
 
   start_awake : (start_of count).control.asleep ≡ false
   unfolding start_of fresh_of reset_of
   start_awake =
-      ap (λ (s : HostStore). s.machine.control.asleep) (store_refusals.done-else fresh_of 0xC0 count stored)
+      ap (λ (s : HostStore). s.machine.control.asleep) (store_refusals.done_else fresh_of 0xC0 count stored)
 
   pub ready : Ready image (start_of count)
   ready = record { awake = start_awake; all_done = all_done }

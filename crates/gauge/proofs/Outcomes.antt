@@ -154,9 +154,9 @@ module _ (image certificate : List ℕ) (count : ℕ) where
 
   no_other : NoOther image certificate count
   no_other = record {
-    measured-is-checked = λ w s x y. not_done (size_as w s) (plain 23) (sym (refuses_23 y) ∙ measures w s x);
-    measured-slept = λ w s x y. not_done (size_as w s) (plain 24) (sym (refuses_24 y) ∙ measures w s x);
-    awake-is-checked = λ x y. apart 23 24 (omega arith) (sym (refuses_23 y) ∙ refuses_24 x);
+    measured_is_checked = λ w s x y. not_done (size_as w s) (plain 23) (sym (refuses_23 y) ∙ measures w s x);
+    measured_slept = λ w s x y. not_done (size_as w s) (plain 24) (sym (refuses_24 y) ∙ measures w s x);
+    awake_is_checked = λ x y. apart 23 24 (omega arith) (sym (refuses_23 y) ∙ refuses_24 x);
     one_size = λ w s w' s' x y. one_size (sym (measures w s x) ∙ measures w' s' y);
   }
 

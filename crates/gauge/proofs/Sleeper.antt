@@ -75,7 +75,7 @@ module _ (image : List ℕ) (m : Machine) (most : ℕ) (all : AllDone image m mo
       let same : machine_after image m (n + suc k) ≡ machine_after image m n =
       sym (further n (suc k) (omega arith))
       ∙ ap (λ (r : Run). r.machine)
-      (sleeper_stays.by-steps image (machine_after image m n) f.size f.formed e (suc k)) in
+      (sleeper_stays.by_steps image (machine_after image m n) f.size f.formed e (suc k)) in
       ap (λ (x : Machine). x.control.asleep) same ∙ e
 
   -- so one that is awake was awake before

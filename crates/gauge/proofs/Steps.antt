@@ -70,7 +70,7 @@ is_done image m (inl r) =
 -- a run without requests on such a machine is not refused
 pub run_as_steps :
     (image : List ℕ) (m : Machine) → Fits image m → (n : ℕ) → n ≤ 65535 → run_of image m [] n ≡ steps_of image [] m n
-run_as_steps image m f n h = run_refusals.steps-else image m [] n by_reason
+run_as_steps image m f n h = run_refusals.steps_else image m [] n by_reason
   where
     by_reason : (r : Numbered) → why.RunRefused image m [] n r → ⊥
     by_reason _ (why.image_length i) = false≢true (sym i ∙ f.size)

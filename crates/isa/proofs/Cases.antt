@@ -23,19 +23,19 @@ pub decoding_cases : DecodingCases
 unfolding decode_at rom_at operand_at form_of form_as entry_of bytes_of cycles_of flow_of
 decoding_cases =
     record {
-      long-ends = record {
+      long_ends = record {
         farthest = (any_bank _ _ _ refl refl, refl);
-        farthest-back = (any_bank _ _ _ refl refl, refl);
+        farthest_back = (any_bank _ _ _ refl refl, refl);
       };
-      return-opcodes = record {
-        of-interrupt = (any_bank _ _ _ refl refl, refl);
-        of-subroutine = (any_bank _ _ _ refl refl, refl);
+      return_opcodes = record {
+        of_interrupt = (any_bank _ _ _ refl refl, refl);
+        of_subroutine = (any_bank _ _ _ refl refl, refl);
       };
-      tested-bit = λ f s. refl;
-      no-forms-of-their-own = record {
+      tested_bit = λ f s. refl;
+      no_forms_of_their_own = record {
         nop = (any_bank _ _ _ refl refl, refl);
-        clear-a = (any_bank _ _ _ refl refl, refl);
-        shift-a = (any_bank _ _ _ refl refl, refl);
+        clear_a = (any_bank _ _ _ refl refl, refl);
+        shift_a = (any_bank _ _ _ refl refl, refl);
         clear = λ d. (any_bank _ _ _ refl refl, refl);
       };
     }

@@ -12,13 +12,13 @@ pub counts : Counts
 unfolding entry_of bytes_of cycles_of form_of form_as
 counts =
     record {
-      of-all = refl;
-      of-one-byte = refl;
-      of-two-bytes = refl;
-      of-three-bytes = refl;
-      of-two-cycles = refl;
-      of-four-cycles = refl;
-      of-five-cycles = refl;
+      of_all = refl;
+      of_one_byte = refl;
+      of_two_bytes = refl;
+      of_three_bytes = refl;
+      of_two_cycles = refl;
+      of_four_cycles = refl;
+      of_five_cycles = refl;
     }
 
 -- a function is 0 at each listed opcode
@@ -36,5 +36,5 @@ undefined_listed =
           λ k f s h. eq_b→eq (is_undefined (form_of k f s)) (member k undefined_opcodes)
           (at (λ j. eq_b (is_undefined (form_of j f s)) (member j undefined_opcodes)) 256 tt k h);
       no_length = zero_listed (λ k. bytes_of (entry_of k)) tt;
-      no-cycles = zero_listed (λ k. cycles_of (entry_of k)) tt;
+      no_cycles = zero_listed (λ k. cycles_of (entry_of k)) tt;
     }

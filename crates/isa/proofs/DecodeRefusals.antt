@@ -110,9 +110,9 @@ pub decode_refusals : DecodeRefusals
 unfolding decode_in decode_at
 decode_refusals =
     record {
-      image-length = λ image bank a e. rw e;
-      address-range = λ image bank a e h. rw (e, is_space_lem image bank e, le-ltb a 4096 h);
-      opcode-outside = λ image bank a e h here. rw (e, is_space_lem image bank e, lt-ltb a 4096 h, here);
+      image_length = λ image bank a e. rw e;
+      address_range = λ image bank a e h. rw (e, is_space_lem image bank e, le-ltb a 4096 h);
+      opcode_outside = λ image bank a e h here. rw (e, is_space_lem image bank e, lt-ltb a 4096 h, here);
       undefined_opcode = undefined_opcode;
       operand_outside = λ image bank a k o cut.
           (let few : bytes_of (entry_of k) < 4 = bytes_few k o.byte in

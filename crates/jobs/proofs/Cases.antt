@@ -15,6 +15,6 @@ printed_cases =
       p12 =
           ap line_of
           (jobs_are_checked 0x01 image11 (put 0x883 (0x20 ∷ []) certificate11) refl refl ∙ check_cases.p12);
-      without-address = refl;
-      upper-case = refl;
+      without_address = refl;
+      upper_case = refl;
     }

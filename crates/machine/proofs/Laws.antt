@@ -76,7 +76,7 @@ module _ (image : List ℕ) (all : Bytes image) (size : is_image (length image) 
   ends n fit zero h = tt
   ends n fit (suc k) h =
       continued (steps_of image requests m k) (get_or requests k 0)
-      (stays_well_formed.by-steps image all requests m formed k) (fits_at requests n fit k (omega arith))
+      (stays_well_formed.by_steps image all requests m formed k) (fits_at requests n fit k (omega arith))
       (steps_of image requests m k).report.ending refl (ends n fit k (omega arith))
 
 pub run_ends_by_stop : RunEndsByStop
@@ -120,7 +120,7 @@ pub run_is_steps : RunIsSteps
 unfolding steps_of
 run_is_steps = record {
   one = λ image m q n cycles e. rw (e, zero-add cycles);
-  one-stops = λ image m q n r e. rw e;
+  one_stops = λ image m q n r e. rw e;
   more = λ image requests m n k e. more image requests m n e k;
 }
 
@@ -142,4 +142,4 @@ module _ (image : List ℕ) (m : Machine) (size : is_image (length image) ≡ tr
   all_idle (suc n) = rw (all_idle n, idles_on, add-one n)
 
 pub sleeper_stays : SleeperStays
-sleeper_stays = record { by-step = idles_on; by-steps = all_idle }
+sleeper_stays = record { by_step = idles_on; by_steps = all_idle }

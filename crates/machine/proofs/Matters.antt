@@ -201,7 +201,7 @@ module _ {i like : Instruction} {o : Operand} (same : SameForm i like) (r : Row 
   unfolding WellFormed.well_formed WellFormed.addresses_fit Requests.requested_of Requests.serving_of
   witness = record {
     like = like;
-    same-form = same;
+    same_form = same;
     o = o;
     reads = ap (λ (f : Facts). f.told) r.facts;
     image = image_of like;
@@ -210,20 +210,20 @@ module _ {i like : Instruction} {o : Operand} (same : SameForm i like) (r : Row 
     bytes = r.long;
     cycles = r.cycles;
     first = record {
-      image-length = size_of;
+      image_length = size_of;
       formed = refl;
       sources = refl;
-      none-taken = refl;
+      none_taken = refl;
       awake = refl;
-      at-pc = ap (λ (f : Facts). f.first) r.facts;
+      at_pc = ap (λ (f : Facts). f.first) r.facts;
     };
     second = record {
-      image-length = size_of;
+      image_length = size_of;
       formed = refl;
       sources = refl;
-      none-taken = ap (λ (f : Facts). f.taken) r.facts;
+      none_taken = ap (λ (f : Facts). f.taken) r.facts;
       awake = refl;
-      at-pc = ap (λ (f : Facts). f.second) r.facts;
+      at_pc = ap (λ (f : Facts). f.second) r.facts;
     };
     differ =
         not_alike (address_of machine.bytes o) machine (other o) _ _ (sym (ap (λ (f : Facts). f.size) r.facts))

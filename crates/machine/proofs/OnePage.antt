@@ -75,7 +75,7 @@ unfolding decode_in run_of reading_of reset_of
 machine_as_before = record {
   decode = λ image is bank a. rw (too image is, space_is_image image bank is);
   step = step_is;
-  step-read = read_is;
+  step_read = read_is;
   steps = steps_are;
   run = λ image is m requests n. rw (too image is, is, steps_are image is requests m n);
   reading = λ image is m a. rw (too image is, is, space_is_image image (get_or m.bytes 0xCA 0) is);

@@ -89,8 +89,8 @@ module _ (image : List ℕ) (m : Machine) (request : ℕ) (i : Instruction) (byt
     (at : Executes image m request i bytes cycles) where
   pub is_action : action_of image m request ≡ executes i bytes cycles
   is_action =
-      action_due image m request at.image-length at.formed at.sources
-      ∙ awake_due (program_of image m.bytes) m request at.none-taken at.awake _ at.at-pc
+      action_due image m request at.image_length at.formed at.sources
+      ∙ awake_due (program_of image m.bytes) m request at.none_taken at.awake _ at.at_pc
 
   -- a step that comes to an instruction is that instruction
   pub comes : step_of image m request ≡ executed_of (program_of image m.bytes) m i bytes cycles
@@ -211,7 +211,7 @@ tells {i} {o} made image m request bytes cycles at reads =
       completed = completed;
       byte = read_of (program_of image m.bytes) m.bytes (address_of m.bytes o);
       origin = origin_of (program_of image m.bytes) m.bytes (address_of m.bytes o);
-      reading = rw (at.image-length, at.formed);
+      reading = rw (at.image_length, at.formed);
       comes = byte_comes_from (program_of image m.bytes) m.bytes (address_of m.bytes o);
       told = rw (completed, is_action image m request i bytes cycles at, reads);
     }
@@ -246,12 +246,12 @@ module _ (image : List ℕ) (m : Machine) (request : ℕ) (x : Origin) where
   by_due size formed sources _ (idling none asleep) e = not_read x e
   by_due size formed sources _ (executing i bytes cycles none awake at) e =
       by_operand i bytes cycles (record {
-        image-length = size;
+        image_length = size;
         formed = formed;
         sources = sources;
-        none-taken = none;
+        none_taken = none;
         awake = awake;
-        at-pc = at;
+        at_pc = at;
       }) (operand_read_of i) refl e
   by_due size formed sources _ (undecoding r none awake at) e = not_read x e
 

@@ -177,7 +177,7 @@ pub run_refusals : RunRefusals
 unfolding run_of
 run_refusals = record {
   given = run_given;
-  steps-else = λ image m requests n.
+  steps_else = λ image m requests n.
       by_tests image m requests n (is_image (length image)) refl (is_well_formed m) refl (leb n 65535) refl
       (requests_fit requests n) refl;
 }

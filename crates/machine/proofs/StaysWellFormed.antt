@@ -39,11 +39,11 @@ module _ (image : List ℕ) (all : Bytes image) (m : Machine) (formed : is_well_
   unfolding execute_of
   by_case _ (stops r is) = formed
   by_case _ (takes source e none) =
-      formed_exactly.test _ _ (stays_formed.by-request m.stack m.control facts source)
+      formed_exactly.test _ _ (stays_formed.by_request m.stack m.control facts source)
   by_case _ (idles none asleep) = formed
   by_case _ (executes i bytes cycles none awake at goes) =
       formed_exactly.test _ _
-      (stays_formed.by-flow m.stack m.control facts (flow_of i m.control.pc)
+      (stays_formed.by_flow m.stack m.control facts (flow_of i m.control.pc)
       (in_range_there image all m.control.pc i bytes cycles at)
       (jumps_of image (view_of m) (flow_of i m.control.pc)) (forward_of m.control.pc bytes) (omega arith))
 

@@ -344,12 +344,12 @@ module _ (image : List ℕ) where
 
 pub never_looked_at : NeverLookedAt
 never_looked_at = record {
-  by-step = λ image m m' request same. stepped_alike m m' same image request;
-  by-telling = λ image m m' request same. told_alike m m' same image request;
-  by-run = λ image m m' requests n same. ran_alike image requests m m' same n;
-  by-store = λ m m' a value same. store_alike m m' same a value;
-  by-reading = λ image m m' a same. reading_alike m m' same image a;
-  by-reset = reset_alike;
+  by_step = λ image m m' request same. stepped_alike m m' same image request;
+  by_telling = λ image m m' request same. told_alike m m' same image request;
+  by_run = λ image m m' requests n same. ran_alike image requests m m' same n;
+  by_store = λ m m' a value same. store_alike m m' same a value;
+  by_reading = λ image m m' a same. reading_alike m m' same image a;
+  by_reset = reset_alike;
 }
 
 -- what a step stores, by what it stores from a machine that agrees: itself
@@ -416,8 +416,8 @@ reset_keeps m k e =
 
 pub never_changed : NeverChanged
 never_changed = record {
-  by-step = step_keeps;
-  by-run = λ image m requests n. run_keeps image m requests n;
-  by-store = store_keeps;
-  by-reset = reset_keeps;
+  by_step = step_keeps;
+  by_run = λ image m requests n. run_keeps image m requests n;
+  by_store = store_keeps;
+  by_reset = reset_keeps;
 }

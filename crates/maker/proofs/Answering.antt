@@ -44,7 +44,7 @@ module _ (image : List ℕ) (wired : ℕ) (before : List ℕ) where
         pub answers_done : {after : List ℕ} {levels : ℕ} → Least image wired after levels
             → Makes image wired before after (done levels)
         answers_done {after} {levels} least =
-            ((not_1, (not_11, ((λ n. n l), ((λ none. none after levels least.is-accepted), tt)))), least)
+            ((not_1, (not_11, ((λ n. n l), ((λ none. none after levels least.is_accepted), tt)))), least)
 
 -- a certificate's part of a new array
 pub zeros : (n i : ℕ) → ◌≡◌ {A = ℕ} (get_or (replicate n 0) i 0) 0
@@ -77,7 +77,7 @@ copied source target e = rw (take_all (length source) source (omega arith), e, d
 module _ {image certificate : List ℕ} {wired levels : ℕ} (rest : List ℕ)
     (least : Least image wired certificate levels) where
   least_length : length certificate ≡ marks_in (length image)
-  least_length = ((agreement image certificate wired levels).sound least.is-accepted).certificate-length
+  least_length = ((agreement image certificate wired levels).sound least.is_accepted).certificate_length
 
   pub made_part : take (marks_in (length image)) (certificate ++ rest) ≡ certificate
   made_part = take_at certificate rest (marks_in (length image)) least_length

@@ -94,7 +94,7 @@ module _ (image : List ℕ) (wired : ℕ) where
             taken (rules_of e) a (mark_at certificate a / 16) (mark_at certificate a % 16) p.reached p.takes
 
     least_of : Least image wired certificate levels
-    least_of = record { is-accepted = accepts; only_reachable = only_reachable; no_smaller = no_smaller }
+    least_of = record { is_accepted = accepts; only_reachable = only_reachable; no_smaller = no_smaller }
 
 -- the maker writes the least certificate
 least_made : {image certificate : List ℕ} {wired levels : ℕ} → Least image wired certificate levels
@@ -103,12 +103,12 @@ least_made {image} {certificate} {wired} {levels} least before after answer size
     one_answer image wired before after certificate answer (done levels) makes (none, least)
   where
     rules : Rules image certificate wired levels
-    rules = rules_of least.is-accepted
+    rules = rules_of least.is_accepted
 
     none : None (questions image wired before)
     none = (
-      λ p. true≢false (sym rules.image-length ∙ p),
-      (λ p. true≢false (sym rules.sources ∙ p), (λ p. p size, (λ p. p certificate levels least.is-accepted, tt))),
+      λ p. true≢false (sym rules.image_length ∙ p),
+      (λ p. true≢false (sym rules.sources ∙ p), (λ p. p size, (λ p. p certificate levels least.is_accepted, tt))),
     )
 
 -- a mark, and those after it
@@ -243,11 +243,11 @@ pub make_cases : MakeCases
 make_cases =
     record {
       p11 = least11;
-      p11-made = least_made least11;
+      p11_made = least_made least11;
       branching = least_branching;
-      branching-made = least_made least_branching;
+      branching_made = least_made least_branching;
       recursive = none_recursive;
-      recursive-refused = λ before after answer size makes.
+      recursive_refused = λ before after answer size makes.
           (refusals_exactly recursive_image 0x00 before after answer makes).each.1.1.1.0.always
           (λ p. true≢false p, (λ p. true≢false p, (λ p. p size, tt))) (none_recursive 0x00);
     }

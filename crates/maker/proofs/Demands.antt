@@ -25,7 +25,7 @@ refuted s n = record { sound = s; told = n; kept = λ b h. refl }
 meets : {certificate : List ℕ} {a mark kind need : ℕ} → WellFormed mark → mark_at certificate a ≡ mark → mark / 16 ≡ kind
     → need ≤ mark % 16 → Meets a kind need certificate
 unfolding kind_at need_at
-meets {certificate} {a} {mark} w e k n = record { kind-is = rw e (kind_of_lem mark w ∙ k); need-least = rw e n }
+meets {certificate} {a} {mark} w e k n = record { kind_is = rw e (kind_of_lem mark w ∙ k); need_least = rw e n }
 
 module _ (certificate : List ℕ) (a kind need : ℕ) where
   pub is_outside : (4096 ≤ a) ⊎ (a + length certificate < 4096) →
@@ -69,7 +69,7 @@ module _ (certificate : List ℕ) (a kind need : ℕ) where
         let high_digit : (kind * 16 + need) / 16 ≡ kind = omega arith in
         let low_digit : (kind * 16 + need) % 16 ≡ need = omega arith in
         let formed : WellFormed (kind * 16 + need) =
-        record { kind-least = omega arith; kind-most = omega arith; need-most = omega arith } in
+        record { kind_least = omega arith; kind_most = omega arith; need_most = omega arith } in
         let forced : Forced image wired a (kind * 16 + need) =
         record { formed = formed; reached = rw high_digit r; takes = rw (high_digit, low_digit) t } in (
           record {

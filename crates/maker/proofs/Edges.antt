@@ -30,7 +30,7 @@ edge_bounded : {image certificate : List ℕ} {from to levels : ℕ} → Edge im
     → (1 ≤ kind_at certificate to) × (levels ≤ 1)
 edge_bounded {certificate = certificate} {from} {to} {levels} e =
     let b =
-    goes_bounded (kind_at certificate from) _ _ to (kind_at certificate to) levels e.kind-least (kind_at_most
+    goes_bounded (kind_at certificate from) _ _ to (kind_at certificate to) levels e.kind_least (kind_at_most
     certificate from)
     e.leads.goes_on in
     (b.0, b.2)
@@ -39,9 +39,9 @@ edge_bounded {certificate = certificate} {from} {to} {levels} e =
 edge_kept : {image before after : List ℕ} {from to levels : ℕ} → Kept before after
     → Edge image before from to levels → Edge image after from to levels
 edge_kept {from = from} {to} kept e =
-    let f = kept from e.kind-least in
+    let f = kept from e.kind_least in
     let t = kept to (edge_bounded e).0 in
-    record { kind-least = rw f e.kind-least; leads = rw (f, t) e.leads }
+    record { kind_least = rw f e.kind_least; leads = rw (f, t) e.leads }
 
 known_kept : {image before after edges : List ℕ} → Kept before after → Known image before edges
     → Known image after edges
@@ -157,7 +157,7 @@ raised_one {before = before} number link e n d image wired s known =
     let edge = rw (← e) at (known.edge number (λ z. n (e ∙ z))) in
     let from = leaves number in
     let to = (link - 1) / 2 in
-    let r = only_reachable s from (has_mark before from (kind_at before from) refl edge.kind-least) in
+    let r = only_reachable s from (has_mark before from (kind_at before from) refl edge.kind_least) in
     let t = takes_need to (kind_at before to) s refl (edge_bounded edge).0 in
     by (λ z. tt) (d image wired s r (along edge.leads t)).0
 

@@ -77,7 +77,7 @@ module _ {image certificate : List ℕ} {wired : ℕ} (s : Sound image wired cer
       Least image wired certificate levels
   accepted_least e =
       record {
-        is-accepted = sym e;
+        is_accepted = sym e;
         only_reachable = only_reachable;
         no_smaller = no_smaller image certificate wired s;
       }
@@ -90,14 +90,14 @@ module _ {image certificate : List ℕ} {wired : ℕ} (s : Sound image wired cer
       let rules = (agreement image other wired levels).sound c in
       let mine : Rules image certificate wired (levels_of certificate wired) =
       record {
-        image-length = s.image-length;
-        certificate-length = s.size;
+        image_length = s.image_length;
+        certificate_length = s.size;
         sources = n;
         marked = f.1;
         start_up = f.0.start_up;
         vectors = f.0.vectors;
         counted = refl;
-        at-most-six = omega (arith, fewer, rules.counted, rules.at-most-six);
+        at_most_six = omega (arith, fewer, rules.counted, rules.at_most_six);
       } in
       contradicts (e ∙ (agreement image certificate wired (levels_of certificate wired)).complete mine)
     where
@@ -123,4 +123,4 @@ unmarked certificate a zeros = go (ltb a 4096 && leb 4096 (a + length certificat
 pub unmarked_sound : {image certificate : List ℕ} {wired : ℕ} → is_image (length image) ≡ true
     → length certificate ≡ marks_in (length image) → ((i : ℕ) → get_or certificate i 0 ≡ 0) → Sound image wired certificate
 unmarked_sound {image} {certificate} l e zeros =
-    record { image-length = l; size = e; forced = λ a m. absurd (m (unmarked certificate a zeros)) }
+    record { image_length = l; size = e; forced = λ a m. absurd (m (unmarked certificate a zeros)) }

@@ -68,14 +68,14 @@ module _ {before middle : List ℕ} {a kind : ℕ} {s : Successor} where
   follows {after} {p} {q} d n e image wired so r each =
       let reach = onward r each.0 in
       let t = d image wired so reach here in
-      let kind-least = (reached_kind s.address s.kind reach).0 in
-      let need = takes_need s.address s.kind t.0.sound (t.1 n).kind-is kind-least in
+      let kind_least = (reached_kind s.address s.kind reach).0 in
+      let need = takes_need s.address s.kind t.0.sound (t.1 n).kind_is kind_least in
       let u = (e image wired t.0.sound r (along each.0 need)).0 in
       let v : Worked image wired (λ m. need_at m s.address + s.levels ≤ need_at m a) middle after q =
-      by (λ z. z.need-least) u in
-      let k = (t.1 n).kind-is in (
-        by (λ z. (record { kind = z.0.kind-is; need = z.1 }, tt)) (then t.0 v),
-        λ z. (u.kept s.address (rw k kind-least) ∙ k, tt),
+      by (λ z. z.need_least) u in
+      let k = (t.1 n).kind_is in (
+        by (λ z. (record { kind = z.0.kind_is; need = z.1 }, tt)) (then t.0 v),
+        λ z. (u.kept s.address (rw k kind_least) ∙ k, tt),
       )
 
 -- what was done, and then nothing
@@ -92,8 +92,8 @@ follows_free {before} {middle} {a} {kind} {s} {p} d n free image wired so r each
     let t = d image wired so (onward r each.0) here in
     let v : Worked image wired (λ m. need_at m s.address + s.levels ≤ need_at m a) middle middle Same =
     record { sound = t.0.sound; told = (refl, omega arith); kept = λ b h. refl } in (
-      rw (← joined_same p) (by (λ z. (record { kind = z.0.kind-is; need = z.1 }, tt)) (then t.0 v)),
-      λ z. ((t.1 n).kind-is, tt),
+      rw (← joined_same p) (by (λ z. (record { kind = z.0.kind_is; need = z.1 }, tt)) (then t.0 v)),
+      λ z. ((t.1 n).kind_is, tt),
     )
 
 pub follows_none : {certificate : List ℕ} {a kind : ℕ} → Followed certificate certificate a kind [] Same
@@ -173,7 +173,7 @@ successors_small {kind} mark k n f next e =
     (most, rw e bounded)
   where
     small : (s : Successor) → (1 ≤ s.kind) × (s.kind ≤ 4) × (s.levels ≤ 1) → Small s
-    small s b = record { kind-least = b.0; kind_most = b.1; levels-most = b.2 }
+    small s b = record { kind_least = b.0; kind_most = b.1; levels_most = b.2 }
 
 -- what decoding answers, by where its instruction continues
 pub record Continued (a : ℕ) (d : Answer Decoding) (f : Flow) (n : ℕ) : Type 0 where
@@ -200,7 +200,7 @@ unfolding kind_at
 in_space certificate a kind k n = (marked_in_rom certificate a (has_mark certificate a kind (sym k) (omega arith))).most
 
 -- the address has a mark of a kind, or none
-module _ (image certificate : List ℕ) (page a kind : ℕ) (kind-is : kind ≡ kind_of (mark_at certificate a)) where
+module _ (image certificate : List ℕ) (page a kind : ℕ) (kind_is : kind ≡ kind_of (mark_at certificate a)) where
   pub visits_none : kind ≡ 0 → Visited image certificate certificate page a Same []
   visits_none z wired s =
       (record { sound = s; told = (refl, λ m. absurd (contradicts m)); kept = λ b h. refl }, tt)
@@ -208,17 +208,17 @@ module _ (image certificate : List ℕ) (page a kind : ℕ) (kind-is : kind ≡ 
       contradicts : Marked certificate a → ⊥
       contradicts m =
           let w = (s.forced a m).formed in
-          omega (arith, kind-is, kind_of_lem (mark_at certificate a) w, w.kind-least)
+          omega (arith, kind_is, kind_of_lem (mark_at certificate a) w, w.kind_least)
 
   module _ (n : kind ≢ 0) where
     mark_here : Marked certificate a
     unfolding kind_at
-    mark_here = has_mark certificate a kind (sym kind-is) (omega arith)
+    mark_here = has_mark certificate a kind (sym kind_is) (omega arith)
 
     reach : {wired : ℕ} → Sound image wired certificate → Reachable image wired a kind
     reach s =
         let f = s.forced a mark_here in
-        let e : mark_at certificate a / 16 ≡ kind = sym (kind_of_lem (mark_at certificate a) f.formed) ∙ sym kind-is in
+        let e : mark_at certificate a / 16 ≡ kind = sym (kind_of_lem (mark_at certificate a) f.formed) ∙ sym kind_is in
         rw e at f.reached
 
     -- what decoding answers, of an image and an address in ROM
@@ -226,7 +226,7 @@ module _ (image certificate : List ℕ) (page a kind : ℕ) (kind-is : kind ≡ 
         d ≡ decode_of (space_of image page) a
         → decode_at (space_of image page) a ≡ d
     decodes_at s e =
-        sym (e ∙ in_range (space_of image page) a (is_space_lem image page s.image-length)
+        sym (e ∙ in_range (space_of image page) a (is_space_lem image page s.image_length)
         (marked_in_rom certificate a mark_here).most)
 
     pub visits_undecodable : {r : Numbered} → refused r ≡ decode_of (space_of image page) a →
@@ -246,7 +246,7 @@ module _ (image certificate : List ℕ) (page a kind : ℕ) (kind-is : kind ≡ 
       lawful s p links =
           let rule =
           (flow_rule_exactly certificate a (flow_of i a) (forward_of a bytes)).rule
-          (record { stands = rw (← kind-is) p; links = rw (← kind-is) links }) in (
+          (record { stands = rw (← kind_is) p; links = rw (← kind_is) links }) in (
             (s.forced a mark_here).formed,
             record { instruction = i; bytes = bytes; cycles = cycles; decodes = decodes_at s d; rule = rule },
           )
@@ -269,8 +269,8 @@ module _ (image certificate : List ℕ) (page a kind : ℕ) (kind-is : kind ≡ 
         unfolding kind_at
         edge_to kept t leads k =
             let least : 1 ≤ kind = omega arith in
-            let e : kind_at after a ≡ kind = kept a (rw (← kind-is) least) ∙ sym kind-is in
-            record { kind-least = rw e least; leads = rw (e, k) leads }
+            let e : kind_at after a ≡ kind = kept a (rw (← kind_is) least) ∙ sym kind_is in
+            record { kind_least = rw e least; leads = rw (e, k) leads }
 
         pub visits : (p ≡ Impossible → ⊥)
             → Visited image certificate after page a p (successors_of kind (flow_of i a) (forward_of a bytes))

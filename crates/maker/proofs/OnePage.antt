@@ -79,17 +79,17 @@ module _ (image : List ℕ) (is : is_space (length image) ≡ true) (wired : ℕ
   least_then : (certificate : List ℕ) (levels : ℕ)
       → Least image wired certificate levels → LeastUnpaged image wired certificate levels
   least_then certificate levels l = record {
-    is-accepted = sym (check_as_before image is certificate wired) ∙ l.is-accepted;
-    only-reachable = λ a m. reached_then (l.only-reachable a m);
-    no-smaller = λ other number e. l.no-smaller other number (check_as_before image is other wired ∙ e);
+    is_accepted = sym (check_as_before image is certificate wired) ∙ l.is_accepted;
+    only_reachable = λ a m. reached_then (l.only_reachable a m);
+    no_smaller = λ other number e. l.no_smaller other number (check_as_before image is other wired ∙ e);
   }
 
   least_now : (certificate : List ℕ) (levels : ℕ)
       → LeastUnpaged image wired certificate levels → Least image wired certificate levels
   least_now certificate levels l = record {
-    is-accepted = check_as_before image is certificate wired ∙ l.is-accepted;
-    only-reachable = λ a m. reached_now (l.only-reachable a m);
-    no-smaller = λ other number e. l.no-smaller other number (sym (check_as_before image is other wired) ∙ e);
+    is_accepted = check_as_before image is certificate wired ∙ l.is_accepted;
+    only_reachable = λ a m. reached_now (l.only_reachable a m);
+    no_smaller = λ other number e. l.no_smaller other number (sym (check_as_before image is other wired) ∙ e);
   }
 
   -- the questions ask the same

@@ -47,30 +47,30 @@ reached_marked {certificate = certificate} rules a kind r =
 
 module _ {image certificate : List ℕ} {wired levels : ℕ} (least : Least image wired certificate levels) where
   rules : Rules image certificate wired levels
-  rules = rules_of least.is-accepted
+  rules = rules_of least.is_accepted
 
   covers : (other : List ℕ) (number : ℕ) → check_of image other wired ≡ accepted number → (a : ℕ)
       → Marked certificate a → Covers other certificate a
   covers other number e a n =
-      let m = reached_marked (rules_of e) a (kind_at certificate a) (least.only-reachable a n) in
-      record { is-marked = m.0; same_kind = m.1; need-least = least.no-smaller other number e a }
+      let m = reached_marked (rules_of e) a (kind_at certificate a) (least.only_reachable a n) in
+      record { is_marked = m.0; same_kind = m.1; need_least = least.no_smaller other number e a }
 
   unreachable : (a : ℕ) → ((kind : ℕ) → Reachable image wired a kind → ⊥) → mark_at certificate a ≡ 0
   unreachable a none = go (marked_or_not certificate a)
     where
       go : (mark_at certificate a ≡ 0) ⊎ Marked certificate a → mark_at certificate a ≡ 0
       go (inl e) = e
-      go (inr n) = absurd (none (kind_at certificate a) (least.only-reachable a n))
+      go (inr n) = absurd (none (kind_at certificate a) (least.only_reachable a n))
 
   made_least : MadeLeast image wired certificate levels
   made_least =
       record {
-        is-accepted = least.is-accepted;
-        marked-reachable = least.only-reachable;
-        reachable-marked = reached_marked rules;
-        least-need = covers;
-        no-smaller = least.no-smaller;
-        whole = rules.certificate-length;
+        is_accepted = least.is_accepted;
+        marked_reachable = least.only_reachable;
+        reachable_marked = reached_marked rules;
+        least_need = covers;
+        no_smaller = least.no_smaller;
+        whole = rules.certificate_length;
         unreachable = unreachable;
       }
 
@@ -84,11 +84,11 @@ module _ {image : List ℕ} {wired : ℕ} where
       → mark_at d a ≡ mark_at c a
   unfolding kind_at need_at
   same_mark {c} {d} {m} {n} p q a k =
-      let x = covers p d n q.is-accepted a k in
-      let e = kind_of_lem (mark_at c a) ((rules_of p.is-accepted).marked a k).mark in
-      let f = kind_of_lem (mark_at d a) ((rules_of q.is-accepted).marked a x.is-marked).mark in
+      let x = covers p d n q.is_accepted a k in
+      let e = kind_of_lem (mark_at c a) ((rules_of p.is_accepted).marked a k).mark in
+      let f = kind_of_lem (mark_at d a) ((rules_of q.is_accepted).marked a x.is_marked).mark in
       let high : mark_at d a / 16 ≡ mark_at c a / 16 = sym f ∙ x.same_kind ∙ e in
-      let low : need_at c a ≡ need_at d a = le_antisymm x.need-least (q.no-smaller c m p.is-accepted a) in
+      let low : need_at c a ≡ need_at d a = le_antisymm x.need_least (q.no_smaller c m p.is_accepted a) in
       omega arith
 
   same_marks : {c d : List ℕ} {m n : ℕ} → Least image wired c m → Least image wired d n → (a : ℕ)
@@ -104,13 +104,13 @@ module _ {image : List ℕ} {wired : ℕ} where
   one_least {c} {d} p q = ext_get_or 0 c d size same
     where
       size : length c ≡ length d
-      size = (rules_of p.is-accepted).certificate-length ∙ sym (rules_of q.is-accepted).certificate-length
+      size = (rules_of p.is_accepted).certificate_length ∙ sym (rules_of q.is_accepted).certificate_length
 
       same : (i : ℕ) → i < length c → get_or c i 0 ≡ get_or d i 0
       same i h =
-          let rules = rules_of p.is-accepted in
+          let rules = rules_of p.is_accepted in
           let most = at_most_4096 (length image) in
-          let l = rules.certificate-length in
+          let l = rules.certificate_length in
           let e = size in
           let x = mark_is c i (omega arith) h in
           let y = mark_is d i (omega arith) (omega arith) in
@@ -212,15 +212,15 @@ refusals_exactly image wired before after answer makes =
       each = each_exactly [] (questions image wired before) answer (omega arith) says;
       no_other = λ r e. is_asked (questions image wired before) r (rw e at says);
       untouched = λ r e. (rw e at makes).1;
-      written-only = λ levels e. rw e at says;
-      written-always = written (questions image wired before) answer says;
+      written_only = λ levels e. rw e at says;
+      written_always = written (questions image wired before) answer says;
     }
 
 -- W-202: no choice
 pub one_answer : OneAnswer
 one_answer image wired before after after' (done levels) (done levels') makes makes' =
     let same = one_least makes.1 makes'.1 in
-    (sym makes.1.is-accepted ∙ (rw (← same) at makes'.1.is-accepted), same)
+    (sym makes.1.is_accepted ∙ (rw (← same) at makes'.1.is_accepted), same)
 one_answer image wired before after after' (done levels) (refused r) makes makes' =
     absurd (none_or_first (questions image wired before) r makes.0 makes'.0)
 one_answer image wired before after after' (refused r) (done levels) makes makes' =

@@ -46,7 +46,7 @@ module _ (certificate : List ℕ) where
   ends : {a n : ℕ} → (kind_at certificate a ≡ 3) ⊎ EndsStartUp certificate a n → kind_at certificate a ≡ 1
       → Follows a n 2 0
   ends (inl e) k = absurd (omega arith)
-  ends (inr e) k = record { kind_is = e.next-kind; need_most = rw add-zero e.next-need }
+  ends (inr e) k = record { kind_is = e.next_kind; need_most = rw add-zero e.next_need }
 
   follows : (a kind : ℕ) (f : Flow) (n b kind' levels : ℕ) → Continues kind f n b kind' levels
       → FlowRule certificate a f n → kind_at certificate a ≡ kind → Follows a b kind' levels
@@ -55,7 +55,7 @@ module _ (certificate : List ℕ) where
   follows a kind f n b kind' levels jumps r k = continues r k
   follows a kind f n b kind' levels branches r k = continues r.0 k
   follows a kind f n b kind' levels passes_by r k = continues r.1 k
-  follows a kind f n b kind' levels calls r k = record { kind_is = r.target-kind; need_most = r.target-need }
+  follows a kind f n b kind' levels calls r k = record { kind_is = r.target_kind; need_most = r.target_need }
   follows a kind f n b kind' levels comes_back r k = continues r.back k
   follows a kind f n b kind' levels ends_start_up r k = ends r k
 

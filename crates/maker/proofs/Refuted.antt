@@ -48,7 +48,7 @@ module _ (image : List ℕ) (wired a kind : ℕ) (reach : Reachable image wired 
           let k = reached rules a kind reach in
           omega (
             arith,
-            rules.certificate-length,
+            rules.certificate_length,
             (marked_in_rom certificate a (has_mark certificate a kind k (reached_kind a kind reach).0)).least,
           )
 
@@ -56,7 +56,7 @@ module _ (image : List ℕ) (wired a kind : ℕ) (reach : Reachable image wired 
   unfolding need_at
   too_deep need takes h =
       none_meets
-      (λ certificate levels rules. omega (arith, taken rules a kind need reach takes, (law rules).mark.need-most))
+      (λ certificate levels rules. omega (arith, taken rules a kind need reach takes, (law rules).mark.need_most))
 
   pub two_kinds : (other : ℕ) → Reachable image wired a other → other ≢ kind → NoneAccepted image wired
   two_kinds other reach' n =

@@ -77,7 +77,7 @@ pub sound_set : (image certificate : List ℕ) (wired j v : ℕ) → Sound image
     → Forced image wired (lowest certificate + j) v → Sound image wired (set certificate j v)
 sound_set image certificate wired j v s h f =
     record {
-      image-length = s.image-length;
+      image_length = s.image_length;
       size = simp length-set s.size;
       forced = λ a n. go a n (eqb a (lowest certificate + j)) refl;
     }

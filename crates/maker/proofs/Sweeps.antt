@@ -96,7 +96,7 @@ passed_all {before = before} h f wired s =
 -- the vector of a source
 pub seeds : {before after : List ℕ} {p : Change} (wired : ℕ) (k : Source) → is_named wired k ≡ true
     → Demanded before after (vector_of k) 3 0 p → Seeds wired (SourceKind wired k) before after p
-seeds wired k w d image s = by (λ m. λ w. m.kind-is) (d image wired s (at_vector k w) here).0
+seeds wired k w d image s = by (λ m. λ w. m.kind_is) (d image wired s (at_vector k w) here).0
 
 pub seeds_none : {certificate : List ℕ} (wired : ℕ) (k : Source) → is_named wired k ≡ false
     → Seeds wired (SourceKind wired k) certificate certificate Same
@@ -119,7 +119,7 @@ seeds_all {a} wired reset s₀ s₁ s₂ s₃ s₄ image s =
     by
     (λ z.
     record {
-      start_up = z.0.kind-is;
+      start_up = z.0.kind_is;
       vectors = each z.1.0 z.1.1.0 z.1.1.1.0 z.1.1.1.1.0 z.1.1.1.1.1;
     })
     (then t (then t₀ (then t₁ (then t₂ (then t₃ t₄)))))

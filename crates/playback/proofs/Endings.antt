@@ -90,7 +90,7 @@ module _ (image : List ℕ) (all : Bytes image) (size : is_image (length image) 
     unfolding leaves
     by_step request (done spent) is =
         one_before n (Step request) rest _
-        (more (n + 1) (cycles + spent) _ (stays_well_formed.by-step image all m formed request))
+        (more (n + 1) (cycles + spent) _ (stays_well_formed.by_step image all m formed request))
     by_step request (refused reason) is =
         record {
           count = 0;
@@ -108,7 +108,7 @@ module _ (image : List ℕ) (all : Bytes image) (size : is_image (length image) 
     unfolding leaves
     by_store address value (done tt) is =
         one_before n (Store address value) rest _
-        (more (n + 1) (cycles + 0) _ (stays_well_formed.by-store m formed address value))
+        (more (n + 1) (cycles + 0) _ (stays_well_formed.by_store m formed address value))
     by_store address value (refused reason) is =
         rw (only_10 address reason (store_only m address value reason is))
         (record {
@@ -128,11 +128,11 @@ module _ (image : List ℕ) (all : Bytes image) (size : is_image (length image) 
   ended (Store address value ∷ rest) n cycles m formed =
       by_store n cycles m formed rest (ended rest) address value (host_store_of m address value).ending refl
   ended (Reset ∷ rest) n cycles m formed =
-      one_before n Reset rest _ (ended rest (n + 1) (cycles + 0) (reset_of m) (stays_well_formed.by-reset m))
+      one_before n Reset rest _ (ended rest (n + 1) (cycles + 0) (reset_of m) (stays_well_formed.by_reset m))
 
 fresh_formed : is_well_formed fresh_of ≡ true
 unfolding fresh_of
-fresh_formed = stays_well_formed.by-reset _
+fresh_formed = stays_well_formed.by_reset _
 
 pub ends_by_entry : EndsByEntry
 unfolding play_of

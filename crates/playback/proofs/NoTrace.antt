@@ -38,10 +38,10 @@ played_no_trace image certificate wired levels accepts recording entries reads a
     let pressed = asks_first wired played.entries entries asks in
     record {
       playing = played;
-      plays = rw (ok.image-length, reads);
-      no-runs = single (take played.entries entries);
+      plays = rw (ok.image_length, reads);
+      no_runs = single (take played.entries entries);
       machine = keys_played.calls image fresh_of entries;
-      no-trace = λ s.
+      no_trace = λ s.
           leaves_no_trace image certificate wired levels ok fresh_of (pressed_in played entries) g pressed s;
       levels_tell = λ s.
           levels_tell image certificate wired levels ok fresh_of (pressed_in played entries) g pressed s;

@@ -113,8 +113,8 @@ pub records_read_back : RecordsReadBack
 records_read_back = record {
   read_written = read_written;
   written_read = written_read;
-  refused-29 = λ body n is. (only_29 body n is, written_nowhere body n is);
-  refuses-29 = nowhere_read;
-  record-read = whole;
-  record-written = again;
+  refused_29 = λ body n is. (only_29 body n is, written_nowhere body n is);
+  refuses_29 = nowhere_read;
+  record_read = whole;
+  record_written = again;
 }

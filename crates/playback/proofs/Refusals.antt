@@ -90,5 +90,5 @@ pub play_refusals : PlayRefusals
 play_refusals = record {
   given = given;
   only = λ image recording. only_by image recording (play_of image recording) (outcome image recording);
-  played-else = λ image recording. else_by image recording (play_of image recording) (outcome image recording) refl;
+  played_else = λ image recording. else_by image recording (play_of image recording) (outcome image recording) refl;
 }

@@ -123,7 +123,7 @@ pub gathered :
 gathered body t first requests count at is row =
     record {
       next = at;
-      is-next = row.is_at;
+      is_next = row.is_at;
       within = row.within;
       some = row.some;
       most = row.most;
@@ -223,7 +223,7 @@ module _ (image : List ℕ) (m : Machine) (requests : List ℕ) (n : ℕ) (some 
       by_tests true true false i' w' f' =
           run_refusals.given image m requests n (plain 11) (why.unknown_source 0 i' w' (omega arith) some f')
           ∙ first_refused (plain 11) (why.unknown_source i' w' f')
-      by_tests true true true i' w' f' = run_refusals.steps-else image m requests n (none f' i' w')
+      by_tests true true true i' w' f' = run_refusals.steps_else image m requests n (none f' i' w')
 
 -- ---- what a run counts
 record Counts (n : ℕ) (r : Run) : Type 0 where
@@ -265,7 +265,7 @@ pub record Sums (body : List ℕ) (t : Turn) (count steps cycles : ℕ) : Type 0
 
 module _ (body : List ℕ) (t : Turn) (due : Due body t (Step t.first)) (count : ℕ) where
   next_is : (requests : List ℕ) (g : Gathered body t requests count) → g.next ≡ t.next + 2 * (count - 1)
-  next_is requests g = omega (arith, g.is-next, g.some)
+  next_is requests g = omega (arith, g.is_next, g.some)
 
   reads_on :
       (requests : List ℕ) (g : Gathered body t requests count) → is_read (entries_of (drop g.next body)) ≡ true

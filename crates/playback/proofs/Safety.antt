@@ -64,7 +64,7 @@ module _ (image : List ℕ) (levels : ℕ) where
 pub played_safely : PlayedSafely
 unfolding play_of fresh_of
 played_safely image certificate wired levels accepts recording entries reads asks =
-    let size = ((agreement image certificate wired levels).sound accepts).image-length in
+    let size = ((agreement image certificate wired levels).sound accepts).image_length in
     let promised = never_stops image certificate wired levels accepts in
     let kept =
     promised.1 (machine_of reset_control (replicate 6 0) cleared_pairs (replicate 256 0)) (calls_of entries) asks in
@@ -75,5 +75,5 @@ played_safely image certificate wired levels accepts recording entries reads ask
       plays = rw (size, reads);
       ends = rw same w.safely;
       within = w.within;
-      at-most-six = promised.0;
+      at_most_six = promised.0;
     }

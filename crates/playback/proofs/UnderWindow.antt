@@ -32,23 +32,23 @@ use Rattle.playback.specs.UnderWindow.{SamePlaying, PlayedAlike}
 module _ (image : List ℕ) where
   -- an entry answers alike, and leaves machines that agree
   answers : (m m' : Machine) → AlikeButUnder m m' → (e : Entry) → entry_answer image m e ≡ entry_answer image m' e
-  answers m m' same (Step request) = (never_looked_at.by-step image m m' request same).answer
-  answers m m' same (Store a value) = ap without_cycles (never_looked_at.by-store m m' a value same).ending
+  answers m m' same (Step request) = (never_looked_at.by_step image m m' request same).answer
+  answers m m' same (Store a value) = ap without_cycles (never_looked_at.by_store m m' a value same).ending
   answers m m' same Reset = refl
 
   left :
       (m m' : Machine) → AlikeButUnder m m' → (e : Entry) →
       AlikeButUnder (leaves image (call_of e) m) (leaves image (call_of e) m')
   unfolding leaves
-  left m m' same (Step request) = (never_looked_at.by-step image m m' request same).machine
-  left m m' same (Store a value) = (never_looked_at.by-store m m' a value same).machine
-  left m m' same Reset = never_looked_at.by-reset m m' same
+  left m m' same (Step request) = (never_looked_at.by_step image m m' request same).machine
+  left m m' same (Store a value) = (never_looked_at.by_store m m' a value same).machine
+  left m m' same Reset = never_looked_at.by_reset m m' same
 
   left_kept : (m : Machine) (e : Entry) → KeptUnder m (leaves image (call_of e) m)
   unfolding leaves
-  left_kept m (Step request) = never_changed.by-step image m request
-  left_kept m (Store a value) = never_changed.by-store m a value
-  left_kept m Reset = never_changed.by-reset m
+  left_kept m (Step request) = never_changed.by_step image m request
+  left_kept m (Store a value) = never_changed.by_store m a value
+  left_kept m Reset = never_changed.by_reset m
 
   unless_ended_lem :
       (m m' : Machine) → AlikeButUnder m m' → (n cycles : ℕ) (a : Answer ℕ) (f g : ℕ → Playing) →
@@ -86,7 +86,7 @@ module _ (image : List ℕ) where
   fresh : (a : ℕ) → in_window a ≡ true → get_or fresh_of.bytes a 0 ≡ 0
   unfolding fresh_of
   fresh a under =
-      sym (never_changed.by-reset (machine_of reset_control (replicate 6 0) cleared_pairs (replicate 256 0)) a under)
+      sym (never_changed.by_reset (machine_of reset_control (replicate 6 0) cleared_pairs (replicate 256 0)) a under)
       ∙ get_or-replicate 256 a 0 0 (omega (arith, (in_window_lem a true (sym under) refl).1))
 
   by_reading :

@@ -23,7 +23,7 @@ returns c =
     (record {
       made = made_of c.before.before.before.make.result;
       makes = rw c.before.before.before.before.before.clamp-byte.ensures at c.before.before.before.make.ensures;
-      answer-is = c.made_Word.ensures;
+      answer_is = c.made_Word.ensures;
     })
 
 pub st62-make-spec : {M : Type 1} → statement M

@@ -49,8 +49,8 @@ returns-2 : tie.Need-returns-2
 unfolding reset_lent unpacked
 returns-2 c =
     let at-pack = c.before.before.before in
-    let at-reset = at-pack.before.before in
-    let at-unpack = at-reset.before in
+    let at_reset = at-pack.before.before in
+    let at-unpack = at_reset.before in
     let at-if1 = at-unpack.before.before in
     let at-is-valid = at-if1.before in
     rw (
@@ -58,7 +58,7 @@ returns-2 c =
       not-false at-is-valid.is-valid.result at-if1.if1.false,
       c.done.ensures,
       at-pack.pack.ensures,
-      at-reset.reset.ensures,
+      at_reset.reset.ensures,
       at-unpack.unpack.ensures,
     )
 

@@ -20,7 +20,7 @@ returns : tie.Need-returns
 unfolding return_from_interrupt_of
 returns c =
     let k = c.before.before.before in
-    rw (c.with_mode.ensures, c.before.with-pc.ensures, k.before.beneath.ensures, ← k.ends-start-up.ensures)
+    rw (c.with_mode.ensures, c.before.with-pc.ensures, k.before.beneath.ensures, ← k.ends_start_up.ensures)
     (rw c.before.before.if1.true)
 
 pop-requires : tie.Need-pop-requires
@@ -33,7 +33,7 @@ returns-2 : tie.Need-returns-2
 unfolding return_from_interrupt_of
 returns-2 c =
     let k = c.before.before.before.before in
-    rw (c.with-mode2.ensures, k.before.beneath.ensures, ← k.ends-start-up.ensures)
+    rw (c.with-mode2.ensures, k.before.beneath.ensures, ← k.ends_start_up.ensures)
     (rw (c.before.before.before.if1.false, ← c.before.before.pop.ensures))
 
 pub return-from-interrupt-spec : {M : Type 1} → statement M

@@ -161,11 +161,11 @@ returns-2 c is = rw (c.test-bit2.ensures is, c.before.before.before.instruction2
 
 returns-3 : tie.Need-returns-3
 unfolding effect_of
-returns-3 c is = rw (c.reset-bit.ensures is, c.before.before.before.instruction3.given.1)
+returns-3 c is = rw (c.reset_bit.ensures is, c.before.before.before.instruction3.given.1)
 
 returns-4 : tie.Need-returns-4
 unfolding effect_of
-returns-4 c is = rw (c.set-bit.ensures is, c.before.before.before.instruction4.given.1)
+returns-4 c is = rw (c.set_bit.ensures is, c.before.before.before.instruction4.given.1)
 
 returns-5 : tie.Need-returns-5
 unfolding effect_of

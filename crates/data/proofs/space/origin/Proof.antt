@@ -35,7 +35,7 @@ returns c is =
       w.before.if1.true,
       ← c.before.before.window-byte.ensures is,
       c.enum_told.given.1,
-      w.window-address.ensures.0,
+      w.window_address.ensures.0,
     )
 
 returns-2 : tie.Need-returns-2

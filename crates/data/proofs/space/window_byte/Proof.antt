@@ -25,7 +25,7 @@ unfolding space_of
 returns c is =
     let fixed = c.before.fixed_of in
     let page = c.before.before.page-of in
-    let window = c.before.before.before.before.window-address in
+    let window = c.before.before.before.before.window_address in
     rw (← window.ensures.0, ← page.ensures, ← fixed.ensures)
     (c.rom-byte.ensures (rw (page.ensures, fixed.ensures) (halves _ _ is)) window.ensures.1)
 

@@ -45,7 +45,7 @@ returns-3 c =
       c.before.before.enum_told.given.1,
       c.before.if1.false,
     )
-    c.at-pc.ensures
+    c.at_pc.ensures
 
 pub due-spec : {M : Type 1} → statement M
 due-spec =

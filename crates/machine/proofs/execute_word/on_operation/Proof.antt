@@ -213,7 +213,7 @@ returns c = λ stack.
     let start = from.before.before.before.before in
     rw (
       c.past.ensures _ stack,
-      c.before.reset-bit.ensures start.requires.0,
+      c.before.reset_bit.ensures start.requires.0,
       ← from.operation-in.ensures start.requires.1,
       c.before.before.before.before.bit.given.1,
     ))
@@ -225,7 +225,7 @@ returns-2 c = λ stack.
     let start = from.before.before.before.before in
     rw (
       c.past2.ensures _ stack,
-      c.before.set-bit.ensures start.requires.0,
+      c.before.set_bit.ensures start.requires.0,
       ← from.operation-in.ensures start.requires.1,
       c.before.before.before.before.bit2.given.1,
     ))

@@ -105,7 +105,7 @@ returns-5 c =
       ← f.requests-fit.ensures,
       not-false f.requests-fit.result c.before.before.before.if4.false,
     )
-    c.by-store.ensures))
+    c.by_store.ensures))
 
 pub run-lent-spec : {M : Type 1} → statement M
 run-lent-spec =

@@ -82,7 +82,7 @@ loop-again c =
       rw told at part.steps-in-mode.ensures.2,
       rw told at part.steps-in-mode.ensures.3,
       ap (λ (x : Run). is_well_formed x.machine) ran
-          ∙ stays_well_formed.by-steps a.image.now (λ j. (known.given j).fits) a.requests.now first
+          ∙ stays_well_formed.by_steps a.image.now (λ j. (known.given j).fits) a.requests.now first
           start.requires.3 _,
       search rules,
       part.steps-in-mode.ensures.4,

@@ -24,7 +24,7 @@ need-at-requires c κs = search rules
 add-need : tie.Need-overflow-add-need
 add-need c =
     let entry = c.before.before.before.before.before.before.before.before.before in
-    omega (arith, need_most _ _ c.before.need-at.ensures, entry.requires.1.levels-most)
+    omega (arith, need_most _ _ c.before.need-at.ensures, entry.requires.1.levels_most)
 
 same-length-2 : tie.Need-same-length-2
 same-length-2 c = search rules

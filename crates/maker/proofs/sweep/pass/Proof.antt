@@ -12,7 +12,7 @@ sweep-requires : tie.Need-sweep-requires
 sweep-requires c κs =
     let at-seed = c.before.before.before in
     let entry = at-seed.before.before.before.before in
-    (entry.requires.0, entry.requires.1.image-length, fits (at-seed.seed.ensures _ entry.requires.1).sound)
+    (entry.requires.0, entry.requires.1.image_length, fits (at-seed.seed.ensures _ entry.requires.1).sound)
 
 join-requires : tie.Need-join-requires
 join-requires c κs = search rules
