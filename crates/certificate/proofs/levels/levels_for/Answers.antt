@@ -1,0 +1,17 @@
+-- `levels::levels_for` meets its contract: by whether the source is wired.
+use Rattle.certificate.specs.Levels.{levels_for}
+use Rattle.certificate.proofs.levels.levels_for.Goals as goal
+
+pub returns-then-names : goal.returns-then-names
+unfolding levels_for
+returns-then-names c =
+    rw (
+      ← c.names.ensures,
+      c.if-names.true,
+      ← c.vector_of.ensures,
+      ← c.need_at.ensures,
+    )
+
+pub returns-else-names : goal.returns-else-names
+unfolding levels_for
+returns-else-names c = rw (← c.names.ensures, c.if-names.false)

@@ -1,0 +1,13 @@
+-- `width::start` meets its contract.
+use mathlib.Core.Path.{ap, ◌∙◌}
+use Rattle.machine.specs.declared.Machine.{Machine}
+use Rattle.machine.specs.State.{HostStore, host_store_of}
+use Rattle.gauge.specs.Width.{start_of}
+use Rattle.gauge.proofs.width.start.Goals as goal
+
+pub returns : goal.returns
+unfolding start_of
+returns c =
+    let count = c.args.count in
+    ap (λ (s : HostStore). s.machine) c.host_store-stored.ensures
+    ∙ ap (λ (m : Machine). (host_store_of m 0xC0 count).machine) c.fresh.ensures

@@ -1,0 +1,88 @@
+-- `take::take_digits` meets its contract: each refusal, then the record.
+use Prim.Native.Nat.{◌+◌, ◌*◌}
+use native.Mathlib.Omega.{arith}
+use borrow.Author.Tests.{eq-eqb, ne_eqb}
+use lib.ListN.{length, get_or}
+use Rattle.intel_hex.specs.Digits.{bytes_of}
+use Rattle.intel_hex.specs.Take.{after_digits}
+use Rattle.intel_hex.proofs.DigitLaws.{byte_at_most}
+use Rattle.intel_hex.proofs.take.take_digits.Goals as goal
+
+pub returns-then-not-is_digits : goal.returns-then-not-is_digits
+unfolding after_digits
+returns-then-not-is_digits c =
+    let asked = c.is_digits in
+    rw (← asked.ensures, c.if-not-is_digits.true)
+
+pub returns-then-digits-lt10 : goal.returns-then-digits-lt10
+unfolding after_digits
+returns-then-digits-lt10 c =
+    let at-if1 = c.before in
+    let at-is-digits = at-if1.before in
+    let start = at-is-digits.before.before in
+    let asked = at-is-digits.is_digits in
+    let digits = start.args.digits.now in
+    let count = get_or (bytes_of digits) 0 0 in
+    let short = ne_eqb (length digits) (10 + count * 2) (λ e. omega (arith, e, c.if-digits-lt10.true)) in
+    rw (← asked.ensures, at-if1.if-not-is_digits.false, short)
+
+pub returns-then-digits-count : goal.returns-then-digits-count
+unfolding after_digits
+returns-then-digits-count c =
+    let at-byte-in = c.before in
+    let at-if1 = at-byte-in.before.before in
+    let at-is-digits = at-if1.before in
+    let asked = at-is-digits.is_digits in
+    rw (
+      ← asked.ensures,
+      at-if1.if-not-is_digits.false,
+      ← at-byte-in.byte_in-count.ensures,
+      ne_eqb _ _ c.if-digits-count.true,
+    )
+
+pub sum_of-requires : goal.sum_of-requires
+sum_of-requires c =
+    let at-byte-in = c.before in
+    let start = at-byte-in.before.before.before.before.before in (
+      omega (arith, c.if-digits-count.false),
+      omega
+          (arith, at-byte-in.byte_in-count.ensures, byte_at_most start.args.digits.now 0),
+    )
+
+pub returns-then-sum_of-ne0 : goal.returns-then-sum_of-ne0
+unfolding after_digits
+returns-then-sum_of-ne0 c =
+    let at-sum-of = c.before in
+    let at-if3 = at-sum-of.before in
+    let at-byte-in = at-if3.before in
+    let at-if1 = at-byte-in.before.before in
+    let at-is-digits = at-if1.before in
+    let asked = at-is-digits.is_digits in
+    rw (
+      ← asked.ensures,
+      at-if1.if-not-is_digits.false,
+      ← at-byte-in.byte_in-count.ensures,
+      eq-eqb _ _ at-if3.if-digits-count.false,
+      ← at-sum-of.sum_of.ensures,
+      ne_eqb _ _ c.if-sum_of-ne0.true,
+    )
+
+pub returns : goal.returns
+unfolding after_digits
+returns c =
+    let at-if4 = c.before.before in
+    let at-sum-of = at-if4.before in
+    let at-if3 = at-sum-of.before in
+    let at-byte-in = at-if3.before in
+    let at-if1 = at-byte-in.before.before in
+    let at-is-digits = at-if1.before in
+    let asked = at-is-digits.is_digits in
+    rw (
+      ← asked.ensures,
+      at-if1.if-not-is_digits.false,
+      ← at-byte-in.byte_in-count.ensures,
+      eq-eqb _ _ at-if3.if-digits-count.false,
+      ← at-sum-of.sum_of.ensures,
+      eq-eqb _ _ at-if4.if-sum_of-ne0.false,
+    )
+    c.take_record.ensures

@@ -1,0 +1,18 @@
+-- `encode::bit_jump` meets its contract.
+use borrow.Author.Tests.{lt-ltb, le-ltb}
+use Rattle.isa.proofs.Finite.{kept}
+use Rattle.isa.proofs.encode.bit_jump.Goals as goal
+
+pub returns-then-bit-lt8 : goal.returns-then-bit-lt8
+returns-then-bit-lt8 c =
+    rw (
+      lt-ltb _ _ c.if-bit-lt8.true,
+      lt-ltb _ 128 c.ranges.displacement.sfits,
+      ← kept c.ranges.displacement,
+      ← c.long_byte.ensures,
+      ← c.with_bit.ensures,
+    )
+    c.with_bytes.ensures
+
+pub returns-else-bit-lt8 : goal.returns-else-bit-lt8
+returns-else-bit-lt8 c = rw (le-ltb _ _ c.if-bit-lt8.false)

@@ -1,0 +1,11 @@
+-- `address_line::mark_text` meets its contract.
+use Rattle.listing.specs.AddressLine.{mark_text}
+use Rattle.listing.proofs.LineLaws.{both}
+use Rattle.listing.proofs.address_line.mark_text.Goals as goal
+
+pub returns : goal.returns
+unfolding mark_text
+returns c =
+    let at_byte = c.before.before.before.before in
+    let byte = both at_byte.byte.ensures c.word.ensures in
+    rw (← at_byte.mark_at-mark.ensures) (both (both byte c.kind_name-named.ensures) c.need_text.ensures)

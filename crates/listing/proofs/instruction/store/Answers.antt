@@ -1,0 +1,6 @@
+-- `instruction::store` meets its contract.
+use Rattle.listing.proofs.LineLaws.{both}
+use Rattle.listing.proofs.instruction.store.Goals as goal
+
+pub returns : goal.returns
+returns c = both c.on_operand.ensures c.word.ensures

@@ -1,0 +1,28 @@
+-- `steps::by_store` meets its contract.
+use borrow.Author.Rules.{rules}
+use Rattle.machine.proofs.Store.{coherent_none}
+use Rattle.machine.proofs.steps.by_store.Goals as goal
+
+pub all_steps-requires : goal.all_steps-requires
+all_steps-requires c =
+    let start = c.before.before.before.before.before.before.before.before in (
+      start.requires.0,
+      c.timings-table.ensures,
+      start.requires.1,
+      start.requires.2,
+      start.requires.3,
+      search rules,
+      coherent_none start.args.image.now 64,
+    )
+
+pub all_steps-requires-2 : goal.all_steps-requires-2
+all_steps-requires-2 c =
+    let start = c.before.before.before.before.before.before.before.before in (
+      start.requires.0,
+      c.timings-table.ensures,
+      start.requires.1,
+      start.requires.2,
+      start.requires.3,
+      search rules,
+      coherent_none start.args.image.now 4096,
+    )

@@ -1,0 +1,60 @@
+-- `header::find_long_body` meets its contract: each refusal by its case, then where the body begins.
+use Prim.Native.Nat.{◌+◌, ◌≤◌}
+use native.Mathlib.Omega.{arith}
+use mathlib.Core.Path.{◌≡◌}
+use lib.ListN.{length}
+use Rattle.isa.specs.Refusals.{plain}
+use Rattle.playback.specs.Record.{long_count_of, BodyFound}
+use Rattle.playback.specs.Refusals as why
+use Rattle.playback.proofs.HeaderCases.{starts, refuses}
+use Rattle.playback.proofs.header.find_long_body.Goals as goal
+
+pub returns-then-recording-lt-LONG_HEADER_BYTES : goal.returns-then-recording-lt-LONG_HEADER_BYTES
+unfolding BodyFound
+returns-then-recording-lt-LONG_HEADER_BYTES c =
+    let pre = c.requires in
+    refuses _ (plain 28) (why.under_four (omega (arith, pre.0, c.if-recording-lt-LONG_HEADER_BYTES.true)) pre.1)
+
+pub returns-then-recording-count : goal.returns-then-recording-count
+unfolding BodyFound
+returns-then-recording-count c =
+    let counted = c.before in
+    let start = counted.before.before.before in
+    refuses _ (plain 28)
+    (why.wrong_long_count counted.if-recording-lt-LONG_HEADER_BYTES.false start.requires.1
+    (λ is. c.if-recording-count.true (omega (arith, is, counted.long_count_of-count.ensures))))
+
+pub returns-then-count-lt-LEAST_LONG : goal.returns-then-count-lt-LEAST_LONG
+unfolding BodyFound
+returns-then-count-lt-LEAST_LONG c =
+    let counted = c.before.before in
+    let start = counted.before.before.before in
+    let same : length start.args.recording.now ≡ 4 + long_count_of start.args.recording.now =
+    omega (arith, counted.if-recording-lt-LONG_HEADER_BYTES.false, c.if-recording-count.false, counted.long_count_of-count.ensures) in
+    refuses _ (plain 28)
+    (why.too_few start.requires.1 same (omega (arith, c.if-count-lt-LEAST_LONG.true, counted.long_count_of-count.ensures)))
+
+pub returns-then-count-gt-MOST_LONG : goal.returns-then-count-gt-MOST_LONG
+unfolding BodyFound
+returns-then-count-gt-MOST_LONG c =
+    let counted = c.before.before.before in
+    let start = counted.before.before.before in
+    let same : length start.args.recording.now ≡ 4 + long_count_of start.args.recording.now =
+    omega (arith, counted.if-recording-lt-LONG_HEADER_BYTES.false, c.if-recording-count.false, counted.long_count_of-count.ensures) in
+    refuses _ (plain 30)
+    (why.too_many start.requires.1 same (omega (arith, c.if-count-gt-MOST_LONG.true, counted.long_count_of-count.ensures)))
+
+pub returns : goal.returns
+unfolding BodyFound
+returns c =
+    let counted = c.before.before.before in
+    let start = counted.before.before.before in
+    let long = counted.if-recording-lt-LONG_HEADER_BYTES.false in
+    let same : length start.args.recording.now ≡ 4 + long_count_of start.args.recording.now =
+    omega (arith, long, c.if-recording-count.false, counted.long_count_of-count.ensures) in
+    let least : 65536 ≤ long_count_of start.args.recording.now =
+    omega (arith, c.if-count-lt-LEAST_LONG.false, counted.long_count_of-count.ensures) in
+    let most : long_count_of start.args.recording.now ≤ 1048576 =
+    omega (arith, c.if-count-gt-MOST_LONG.false, counted.long_count_of-count.ensures) in
+    let short : length start.args.recording.now ≤ 0xFFFFFF = omega (arith, same, most) in
+    (long, short, starts start.args.recording.now 4 (why.version_2 start.requires.1 same least most))
