@@ -55,7 +55,7 @@ pub record P10 : Type 0 where
   pub jumps : Reaches (stepped 0x100 (0xD9 ∷ 0x5C ∷ []) (holding 0 0 0) false false) 0x5CD [] 4
 
 -- "P1 to P12 are proved over the definitions, gathered in one table by one proof"
--- proved by bench-cases, proofs/BenchCases
+-- proved by bench_cases, proofs/BenchCases
 pub record BenchCases : Type 0 where
   -- "P1 ADD A,22h: A 20h, cell 33h gives 53h, Z 0, C 0."
   pub p1 : Leaves (stepped 0x100 (0x5F ∷ 0x22 ∷ []) (holding 0x20 0x22 0x33) true true) 0xFF 0x53 false false 4

@@ -31,12 +31,12 @@ certificate11 =
     (put 0xFFC (0x30 ∷ []) blank)))))
 
 -- "wired 01h: .. `accepted 2`"
--- proved by check-cases, proofs/Cases
+-- proved by check_cases, proofs/Cases
 abbrev pub P11 : Type 0
 P11 = check_of image11 certificate11 0x01 ≡ accepted 2
 
 -- "the same with 20h at 883h .. `refused 17 883`"
--- proved by check-cases, proofs/Cases
+-- proved by check_cases, proofs/Cases
 abbrev pub P12 : Type 0
 P12 = check_of image11 (put 0x883 (0x20 ∷ []) certificate11) 0x01 ≡ refused (located 17 0x883)
 
@@ -49,7 +49,7 @@ abbrev starting_with : (mark : ℕ) → List ℕ
 starting_with mark = put 0xFFE (mark ∷ []) (put 0xFFC (0x30 ∷ []) (put 0xFF6 (0x30 ∷ []) blank))
 
 -- the check's cases in one table
--- proved by check-cases, proofs/Cases
+-- proved by check_cases, proofs/Cases
 pub record CheckCases : Type 0 where
   pub p11 : P11
   pub p12 : P12

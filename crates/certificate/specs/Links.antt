@@ -29,6 +29,6 @@ pub record RuleByLinks (certificate : List ℕ) (a : ℕ) (flow : Flow) (next : 
   pub rule : Linked certificate a flow next → FlowRule certificate a flow next
 
 -- for every certificate, address, flow and next address
--- proved by flow-rule-exactly, proofs/Links
+-- proved by flow_rule_exactly, proofs/Links
 abbrev pub FlowRuleExactly : Type 0
 FlowRuleExactly = (certificate : List ℕ) (a : ℕ) (flow : Flow) (next : ℕ) → RuleByLinks certificate a flow next

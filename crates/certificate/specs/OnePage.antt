@@ -29,7 +29,7 @@ check_unpaged image certificate wired =
     (and_then (marks_unpaged image certificate (lowest certificate) certificate) (vectors_found certificate wired))
     (levels_found certificate wired)))))
 
--- proved by check-as-before, proofs/OnePage
+-- proved by check_as_before, proofs/OnePage
 abbrev pub CheckAsBefore : Type 0
 CheckAsBefore =
     (image : List ℕ) → is_space (length image) ≡ true → (certificate : List ℕ) (wired : ℕ) →

@@ -158,7 +158,7 @@ Described qs levels (done number) = None qs × (number ≡ levels)
 Described qs levels (refused r) = FirstApplies qs r
 
 -- every refusal that the check gives applies, and none before it in the order does; it accepts where none applies
--- proved by answers-first, proofs/Refusals
+-- proved by answers_first, proofs/Refusals
 abbrev pub AnswersFirst : Type 0
 AnswersFirst =
     (image certificate : List ℕ) (wired : ℕ)

@@ -23,7 +23,7 @@ pub record Formed (stack : List ℕ) (c : Control) : Type 0 where
   pub levels : c.levels ≤ 6
   pub addresses : (k : ℕ) → k < c.levels → get_or stack k 0 < 0x1000
 
--- proved by formed-exactly, proofs/StaysWellFormed
+-- proved by formed_exactly, proofs/StaysWellFormed
 pub record FormedExactly : Type 0 where
   pub facts : (stack : List ℕ) (c : Control) → well_formed stack c ≡ true → Formed stack c
   pub test : (stack : List ℕ) (c : Control) → Formed stack c → well_formed stack c ≡ true
@@ -32,7 +32,7 @@ abbrev pub FormedAfter : Transferred → Type 0
 FormedAfter t = Formed t.stack t.control
 
 -- control and stack stay well formed, wherever an instruction's flow or a request takes them
--- proved by stays-formed, proofs/StaysWellFormed
+-- proved by stays_formed, proofs/StaysWellFormed
 pub record StaysFormed : Type 0 where
   pub by_flow :
       (stack : List ℕ) (c : Control) → Formed stack c → (f : Flow) → InRange f → (jumps : Bool) (next : ℕ) →

@@ -23,6 +23,6 @@ pub data ComesFrom (image bytes : List ℕ) (a : ℕ) : (byte : ℕ) → Origin 
       0x40 ≤ a → a < 0x80 → rom_at image (window_address bytes a) ≡ Outside → ComesFrom image bytes a 0 NoRom
 
 -- the byte that is read comes from the origin that is told
--- proved by byte-comes-from, proofs/Origins
+-- proved by byte_comes_from, proofs/Origins
 abbrev pub ByteComesFrom : Type 0
 ByteComesFrom = (image bytes : List ℕ) (a : ℕ) → ComesFrom image bytes a (read_of image bytes a) (origin_of image bytes a)

@@ -40,7 +40,7 @@ pub record Sized (m : Machine) : Type 0 where
   pub bytes : length m.bytes ≡ 256
 
 -- packing and unpacking a machine undo each other
--- proved by packing-inverts, proofs/Inverse
+-- proved by packing_inverts, proofs/Inverse
 pub record PackingInverts : Type 0 where
   pub unpack_pack : (m : Machine) → Sized m → unpacked (packed m) ≡ valid m
   pub pack_unpack : (s : List ℕ) → Bytes s → (m : Machine) → unpacked s ≡ valid m → packed m ≡ s
@@ -79,7 +79,7 @@ displacement_of I.Stop = pos 0
 displacement_of I.Wait = pos 0
 
 -- fields are read as the one instruction whose row they are
--- proved by fields-invert, proofs/Reading
+-- proved by fields_invert, proofs/Reading
 pub record FieldsInvert : Type 0 where
   pub read_row :
       (i : Instruction) → in_field 8 (displacement_of i) ≡ true → (more : List ℕ)
@@ -87,27 +87,27 @@ pub record FieldsInvert : Type 0 where
   pub row_read : (s : List ℕ) (i : Instruction) → unpacked_instruction s ≡ Is i → take 7 s ≡ packed_instruction i
 
 -- bits 0 to 7, 8 to 23 and from 24
--- proved by word-reads, proofs/Inverse
+-- proved by word_reads, proofs/Inverse
 pub record WordReads : Type 0 where
   pub number : (n a v : ℕ) → n < 0x100 → a < 0x10000 → word n a v % 0x100 ≡ n
   pub address : (n a v : ℕ) → n < 0x100 → a < 0x10000 → word n a v / 0x100 % 0x10000 ≡ a
   pub value : (n a v : ℕ) → n < 0x100 → a < 0x10000 → word n a v / 0x1000000 ≡ v
 
 -- bits 24 to 39 the width, bits 40 to 55 the steps
--- proved by size-reads, proofs/Inverse
+-- proved by size_reads, proofs/Inverse
 pub record SizeReads : Type 0 where
   pub width : (w s : ℕ) → w < 0x10000 → size_word (done (size_as w s)) / 0x1000000 % 0x10000 ≡ w
   pub steps : (w s : ℕ) → w < 0x10000 → size_word (done (size_as w s)) / 0x10000000000 ≡ s
 
 -- bits 24 to 31 the byte or the cycles, bits 32 to 39 the origin's number, from bit 40 the ROM address
--- proved by origin-reads, proofs/Inverse
+-- proved by origin_reads, proofs/Inverse
 pub record OriginReads : Type 0 where
   pub value : (v : ℕ) (r : OriginRead) → v < 0x100 → origin_word v r / 0x1000000 % 0x100 ≡ v
   pub origin : (v : ℕ) (r : OriginRead) → v < 0x100 → origin_word v r / 0x100000000 % 0x100 ≡ origin_number r
   pub address : (v : ℕ) (r : OriginRead) → v < 0x100 → origin_word v r / 0x10000000000 ≡ rom_address r
 
 -- a run is refused exactly where one of its own refusals applies: 1, 2, 12, 11
--- proved by refused-runs, proofs/Runs
+-- proved by refused_runs, proofs/Runs
 abbrev pub RefusedRuns : Type 0
 RefusedRuns =
     (image : List ℕ) → Bytes image → (m : Machine) (requests : List ℕ) (n : ℕ) →
@@ -170,7 +170,7 @@ pub record PlayLeaves (image recording s before : List ℕ) (l : LentRun) : Type
 -- "A refusal is a number, and leaves buffers and machine untouched", of every function that is lent a buffer. A job's
 -- own refusals, 20 to 22 and the check's, are lines that are written; what is refused is a buffer too short for the
 -- line, with 9.
--- proved by refusals-leave, proofs/RefusalsLeave
+-- proved by refusals_leave, proofs/RefusalsLeave
 pub record RefusalsLeave : Type 0 where
   pub by_decode : (image : List ℕ) (address bank : ℕ) (out : List ℕ) → Leaves out (decode_lent image address bank out)
   pub by_write : (fields out : List ℕ) → Leaves out (write_lent fields out)

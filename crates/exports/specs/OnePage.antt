@@ -7,7 +7,7 @@ use Rattle.gauge.specs.OnePage.{GaugeAsBefore}
 use Rattle.playback.specs.OnePage.{PlaybackAsBefore}
 
 -- for images of 2,048 and of 4,096 bytes every operation answers what it answered, by its definition as it was
--- proved by one-page-is-four-k, proofs/OnePage
+-- proved by one_page_is_four_k, proofs/OnePage
 pub record OnePageIsFourK : Type 0 where
   -- decode, whatever the bank byte; step, with the origin of its operand; run; reading; reset, but for 0CAh
   pub machine : MachineAsBefore

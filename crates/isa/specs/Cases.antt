@@ -24,7 +24,7 @@ Decodes a bs i n cycles f =
     ((bank : ℕ) → decode_in (placed a bs) bank a ≡ done (instruction i n cycles)) × (flow_of i a ≡ f)
 
 -- "The long one is a signed byte counted from the opcode plus 2, by the manual's range −126 to +129."
--- proved by decoding-cases, proofs/Cases
+-- proved by decoding_cases, proofs/Cases
 pub record LongEnds : Type 0 where
   pub farthest :
       Decodes 0x200 (0x03 ∷ 0x00 ∷ 0x7F ∷ []) (I.Jrr 0 0x00 (pos 127)) 3 5 (flow.Branch (Bit 0x00 0 false) 0x281)
@@ -32,19 +32,19 @@ pub record LongEnds : Type 0 where
       Decodes 0x200 (0x03 ∷ 0x00 ∷ 0x80 ∷ []) (I.Jrr 0 0x00 (negsuc 127)) 3 5 (flow.Branch (Bit 0x00 0 false) 0x182)
 
 -- "The opcode map's scan shows RET at both 4Dh and CDh: 4Dh is RETI."
--- proved by decoding-cases, proofs/Cases
+-- proved by decoding_cases, proofs/Cases
 pub record ReturnOpcodes : Type 0 where
   pub of_interrupt : Decodes 0x100 (0x4D ∷ []) I.Reti 1 2 flow.ReturnFromInterrupt
   pub of_subroutine : Decodes 0x100 (0xCD ∷ []) I.Ret 1 2 flow.Return
 
 -- "A bit number is the opcode's top three bits reversed: 23h tests bit 4."
--- proved by decoding-cases, proofs/Cases
+-- proved by decoding_cases, proofs/Cases
 abbrev pub TestedBit : Type 0
 TestedBit = (first second : ℕ) → form_of 0x23 first second ≡ Is (I.Jrr 4 first (long_displacement second))
 
 -- "NOP is 04h, a JRZ to the next address. CLR A is DF FF, SLA A is 5F FF, and CLR of a data address is an LDI of 0.
 -- None of these four, NOP included, is a form of its own."
--- proved by decoding-cases, proofs/Cases
+-- proved by decoding_cases, proofs/Cases
 pub record NoFormsOfTheirOwn : Type 0 where
   pub nop : Decodes 0x100 (0x04 ∷ []) (I.Jrz (pos 0)) 1 2 (flow.Branch (Zero true) 0x101)
   pub clear_a : Decodes 0x100 (0xDF ∷ 0xFF ∷ []) (I.Sub (Direct 0xFF)) 2 4 flow.Next
@@ -52,7 +52,7 @@ pub record NoFormsOfTheirOwn : Type 0 where
   pub clear : (d : ℕ) → Decodes 0x100 (0x0D ∷ d ∷ 0x00 ∷ []) (I.LoadImmediate d 0x00) 3 4 flow.Next
 
 -- all of them; P7 to P10 stand in the one table of bench cases
--- proved by decoding-cases, proofs/Cases
+-- proved by decoding_cases, proofs/Cases
 pub record DecodingCases : Type 0 where
   pub long_ends : LongEnds
   pub return_opcodes : ReturnOpcodes

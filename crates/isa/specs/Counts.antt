@@ -44,7 +44,7 @@ member k [] = false
 member k (x ∷ xs) = eqb k x || member k xs
 
 -- these and no others, whatever bytes follow; and "the twelve undefined ones hold 0 and 0"
--- proved by undefined-listed, proofs/Counts
+-- proved by undefined_listed, proofs/Counts
 pub record UndefinedListed : Type 0 where
   pub exactly : (k first second : ℕ) → k < 256 → is_undefined (form_of k first second) ≡ member k undefined_opcodes
   pub no_length : (k : ℕ) → k < 256 → member k undefined_opcodes ≡ true → bytes_of (entry_of k) ≡ 0

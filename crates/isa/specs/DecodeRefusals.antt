@@ -26,7 +26,7 @@ pub record Cut (image : List ℕ) (bank a k : ℕ) : Type 0 where
 -- "Decode at an address: 1 image length; 3 address above FFFh; 4 opcode byte outside ROM; 5 undefined opcode; 4 operand
 -- byte outside ROM." "The first that applies is given, and never where it doesn't apply." 4 and 5 "also give the
 -- instruction's address"
--- proved by decode-refusals, proofs/DecodeRefusals
+-- proved by decode_refusals, proofs/DecodeRefusals
 pub record DecodeRefusals : Type 0 where
   pub image_length :
       (image : List ℕ) (bank a : ℕ) → is_image (length image) ≡ false → decode_in image bank a ≡ refused (plain 1)

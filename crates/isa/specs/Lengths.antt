@@ -46,7 +46,7 @@ length_of I.Stop = 1
 length_of I.Wait = 1
 
 -- the length that decoding answers, from the table, is that of the instruction's form
--- proved by decoded-length, proofs/DecodedLength
+-- proved by decoded_length, proofs/DecodedLength
 abbrev pub DecodedLength : Type 0
 DecodedLength =
     (image : List ℕ) (bank a : ℕ) (i : Instruction) (n cycles : ℕ) →

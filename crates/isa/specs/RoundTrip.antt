@@ -22,7 +22,7 @@ Holds image a bs = (j : ℕ) → j < length bs → rom_at image (forward_of a j)
 
 -- "An instruction decodes to one of the manual's forms with its operands": every instruction that is not refused does,
 -- wherever its bytes stand, in a page too, and with the length and the cycles of its opcode
--- proved by written-decodes, proofs/InImage
+-- proved by written_decodes, proofs/InImage
 abbrev pub WrittenDecodes : Type 0
 WrittenDecodes =
     (i : Instruction) → (encode_of i ≡ Unencodable → ⊥) →
@@ -33,7 +33,7 @@ WrittenDecodes =
 
 -- "It is written from the buffer's first byte": what was decoded is written as the bytes that stand there, as many as
 -- decoding answered
--- proved by decoded-writes, proofs/InImage
+-- proved by decoded_writes, proofs/InImage
 abbrev pub DecodedWrites : Type 0
 DecodedWrites =
     (image : List ℕ) → Bytes image →
@@ -47,6 +47,6 @@ Undecoded i =
 
 -- "8 operand beyond its field, or of a kind the map lacks for it", and "never where it doesn't apply": refused are the
 -- instructions that no bytes decode to
--- proved by refused-exactly, proofs/RefusedExactly
+-- proved by refused_exactly, proofs/RefusedExactly
 abbrev pub RefusedExactly : Type 0
 RefusedExactly = (i : Instruction) (size : ℕ) → (outcome (encode_of i) size ≡ refused (plain 8)) ↔ Undecoded i

@@ -7,7 +7,7 @@ abbrev pub short_formula : ℕ → ℤ
 short_formula opcode = pos ((opcode / 8 + 16) % 32) -ℤ pos 16
 
 -- of every opcode
--- proved by short-displacement-formula, proofs/ShortDisplacement
+-- proved by short_displacement_formula, proofs/ShortDisplacement
 pub record ShortDisplacementFormula : Type 0 where
   -- "proved once over all 256 opcodes that this equals document 01's signed value"
   pub equal : (opcode : ℕ) → opcode < 256 → short_formula opcode ≡ short_displacement opcode

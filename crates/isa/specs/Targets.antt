@@ -19,7 +19,7 @@ InRange flow.ReturnFromInterrupt = Unit {0}
 InRange flow.Sleep = Unit {0}
 
 -- "The program counter has 12 bits and all its arithmetic is modulo 4096"
--- proved by targets-in-range, proofs/Targets
+-- proved by targets_in_range, proofs/Targets
 abbrev pub TargetsInRange : Type 0
 TargetsInRange =
     (image : List ℕ) → Bytes image → (bank a : ℕ) (i : Instruction) (n cycles : ℕ) →

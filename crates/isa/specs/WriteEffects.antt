@@ -9,7 +9,7 @@ use Rattle.isa.specs.declared.Encoded.TheVariants.{Unencodable}
 -- "Write an instruction: 8 .. ; 9 buffer shorter than the instruction. It is written from the buffer's first byte;
 -- bytes after it stay." "A refusal is a number, and leaves buffers and machine untouched." When it is 8 says
 -- `RefusedExactly`
--- proved by write-effects, proofs/WriteEffects
+-- proved by write_effects, proofs/WriteEffects
 pub record WriteEffects : Type 0 where
   pub beyond : (size : ℕ) → outcome Unencodable size ≡ refused (plain 8)
   pub too_short : (e : Encoded) (size : ℕ) → size < length (bytes e) → outcome e size ≡ refused (plain 9)

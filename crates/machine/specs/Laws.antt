@@ -39,7 +39,7 @@ pub record IsStop (m : Machine) (r : Numbered) : Type 0 where
   pub is : r ≡ located number m.control.pc
 
 -- .. of every case in which a step stops
--- proved by stops-numbered, proofs/StepDoes
+-- proved by stops_numbered, proofs/StepDoes
 abbrev pub StopsNumbered : Type 0
 StopsNumbered =
     (image : List ℕ) (m : Machine) (request : ℕ) → is_space (length image) ≡ true → is_well_formed m ≡ true →
@@ -61,7 +61,7 @@ pub data Does (image : List ℕ) (m : Machine) (request : ℕ) : Step → Type 0
       Does image m request (done_of (after_of m (execution_at image m i bytes)) cycles)
 
 -- of every step to which 1, 2 and 11 do not apply
--- proved by step-does, proofs/StepDoes
+-- proved by step_does, proofs/StepDoes
 abbrev pub StepDoes : Type 0
 StepDoes =
     (image : List ℕ) (m : Machine) (request : ℕ) → is_image (length image) ≡ true → is_well_formed m ≡ true →
@@ -75,14 +75,14 @@ pub record GoesOn (image : List ℕ) (m : Machine) (i : Instruction) (bytes cycl
   pub stack : (executed_of image m i bytes cycles).machine.stack ≡ m.stack
   pub answer : (executed_of image m i bytes cycles).answer ≡ done cycles
 
--- proved by data-goes-on, proofs/Laws
+-- proved by data_goes_on, proofs/Laws
 abbrev pub DataGoesOn : Type 0
 DataGoesOn =
     (image : List ℕ) (m : Machine) (i : Instruction) (bytes cycles : ℕ) → flow_of i m.control.pc ≡ flow.Next →
     GoesOn image m i bytes cycles
 
 -- a machine that is well formed stays so under every operation; reset makes one of any machine
--- proved by stays-well-formed, proofs/StaysWellFormed
+-- proved by stays_well_formed, proofs/StaysWellFormed
 pub record StaysWellFormed : Type 0 where
   pub by_step :
       (image : List ℕ) → Bytes image → (m : Machine) → is_well_formed m ≡ true → (request : ℕ) →
@@ -102,7 +102,7 @@ abbrev pub StopsOnly : Machine → Ended → Type 0
 StopsOnly m (done tt) = Unit {0}
 StopsOnly m (refused r) = IsStop m r
 
--- proved by run-ends-by-stop, proofs/Laws
+-- proved by run_ends_by_stop, proofs/Laws
 abbrev pub RunEndsByStop : Type 0
 RunEndsByStop =
     (image : List ℕ) → Bytes image → is_image (length image) ≡ true → (requests : List ℕ) (n : ℕ) →
@@ -117,7 +117,7 @@ followed_by r s =
 
 -- "A run of n steps is n single steps": a run of one is the step, and a run of n + k is a run of n, then, where that
 -- completes, of k
--- proved by run-is-steps, proofs/Laws
+-- proved by run_is_steps, proofs/Laws
 pub record RunIsSteps : Type 0 where
   pub one :
       (image : List ℕ) (m : Machine) (q : ℕ) (n : Machine) (cycles : ℕ) → step_of image m q ≡ done_of n cycles →
@@ -133,7 +133,7 @@ pub record RunIsSteps : Type 0 where
 
 -- "a sleeping step with nothing to take is idle, 0 cycles": without requests there is nothing to take, so a sleeping
 -- machine stays as it is
--- proved by sleeper-stays, proofs/Laws
+-- proved by sleeper_stays, proofs/Laws
 pub record SleeperStays : Type 0 where
   pub by_step :
       (image : List ℕ) (m : Machine) → is_image (length image) ≡ true → is_well_formed m ≡ true →

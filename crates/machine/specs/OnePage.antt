@@ -63,7 +63,7 @@ reset_unpaged m = machine_of reset_control (replicate 6 0) cleared_pairs (set (s
 abbrev pub with_bank_cleared : Machine → Machine
 with_bank_cleared m = machine_of m.control m.stack m.flags (set m.bytes 0xCA 0)
 
--- proved by machine-as-before, proofs/OnePage
+-- proved by machine_as_before, proofs/OnePage
 pub record MachineAsBefore : Type 0 where
   pub decode :
       (image : List ℕ) → is_space (length image) ≡ true → (bank a : ℕ) → decode_in image bank a ≡ decode_at image a

@@ -145,7 +145,7 @@ pub record Matters (i : Instruction) : Type 0 where
       ⊥
 
 -- "Each step tells the origin of the data operand it read, or that it read none"
--- proved by origin-told, proofs/OriginTold
+-- proved by origin_told, proofs/OriginTold
 pub record OriginTold : Type 0 where
   -- a step that comes to an instruction which reads is done, and tells the origin that the reading gives at the
   -- operand's address on the machine before the step

@@ -23,7 +23,7 @@ pair_number NmiOverNormal = 3
 pair_number NmiOverInterrupt = 3
 
 -- a step changes only the flag pair of its own mode
--- proved by other-pairs-kept, proofs/PairUse
+-- proved by other_pairs_kept, proofs/PairUse
 abbrev pub OtherPairsKept : Type 0
 OtherPairsKept =
     (image : List ℕ) (m : Machine) (request : ℕ) (mode : Mode) → pair_number m.control.mode ≢ pair_number mode →
@@ -42,7 +42,7 @@ pub record Alike (mode : Mode) (s t : Step) : Type 0 where
   pub pair : pair_of s.machine.flags mode ≡ pair_of t.machine.flags mode
 
 -- a step reads only the flag pair of its own mode: machines that differ in other pairs step alike
--- proved by own-pair-read, proofs/PairUse
+-- proved by own_pair_read, proofs/PairUse
 abbrev pub OwnPairRead : Type 0
 OwnPairRead =
     (image : List ℕ) (m : Machine) (request : ℕ) (flags : FlagPairs) →
@@ -50,7 +50,7 @@ OwnPairRead =
     Alike m.control.mode (step_of image m request) (step_of image (with_flags m flags) request)
 
 -- not "Flags of the wrong pair after RETI": the flags in use after it are those that the mode returned to had before it
--- proved by flags-after-reti, proofs/PairUse
+-- proved by flags_after_reti, proofs/PairUse
 abbrev pub FlagsAfterReti : Type 0
 FlagsAfterReti =
     (image : List ℕ) (m n : Machine) (request bytes cycles used : ℕ) → TakesNone m request →
@@ -59,7 +59,7 @@ FlagsAfterReti =
     pair_of n.flags n.control.mode ≡ pair_of m.flags (mode_beneath m.control.mode)
 
 -- not "Treating a second NMI as nested": in both NMI modes a step with requests is the step without
--- proved by nmi-not-nested, proofs/PairUse
+-- proved by nmi_not_nested, proofs/PairUse
 abbrev pub NmiNotNested : Type 0
 NmiNotNested =
     (image : List ℕ) (m : Machine) (request : ℕ) →

@@ -70,7 +70,7 @@ pub record DoneIn (a : Answer ℕ) : Type 0 where
   pub is : a ≡ done cycles
 
 -- a step is refused in these cases, and leaves the machine as it was; only in these; and else it is done
--- proved by step-refusals, proofs/Refusals
+-- proved by step_refusals, proofs/Refusals
 pub record StepRefusals : Type 0 where
   pub given :
       (image : List ℕ) (m : Machine) (request : ℕ) (r : Numbered) → StepRefused image m request r →
@@ -94,7 +94,7 @@ pub data RunRefused (image : List ℕ) (m : Machine) (requests : List ℕ) (n : 
 
 -- a run is refused in these cases: "these report 0 steps, 0 cycles", and leave the machine as it was; else it is n
 -- single steps
--- proved by run-refusals, proofs/Refusals
+-- proved by run_refusals, proofs/Refusals
 pub record RunRefusals : Type 0 where
   pub given :
       (image : List ℕ) (m : Machine) (requests : List ℕ) (n : ℕ) (r : Numbered) → RunRefused image m requests n r →
@@ -110,7 +110,7 @@ pub data StoreRefused (m : Machine) (a : ℕ) : Numbered → Type 0 where
   window_address : is_well_formed m ≡ true → 0x40 ≤ a → a < 0x80 → StoreRefused m a (plain 10)
 
 -- a host store is refused in these cases, and leaves the machine as it was; else the byte is stored
--- proved by store-refusals, proofs/Refusals
+-- proved by store_refusals, proofs/Refusals
 pub record StoreRefusals : Type 0 where
   pub given :
       (m : Machine) (a value : ℕ) (r : Numbered) → StoreRefused m a r → host_store_of m a value ≡ host_stored m (refused r)
@@ -124,7 +124,7 @@ pub data ReadingRefused (image : List ℕ) (m : Machine) : Numbered → Type 0 w
   ill_formed : is_image (length image) ≡ true → is_well_formed m ≡ false → ReadingRefused image m (plain 2)
 
 -- a reading is refused in these cases; else it is the byte with its origin
--- proved by reading-refusals, proofs/Refusals
+-- proved by reading_refusals, proofs/Refusals
 pub record ReadingRefusals : Type 0 where
   pub given :
       (image : List ℕ) (m : Machine) (a : ℕ) (r : Numbered) → ReadingRefused image m r →

@@ -37,7 +37,7 @@ KeptUnder m n = SameUnder m.bytes n.bytes
 
 -- the bytes under the window are never looked at: machines that agree but for them answer alike, and agree but for them
 -- afterwards
--- proved by never-looked-at, proofs/UnderWindow
+-- proved by never_looked_at, proofs/UnderWindow
 pub record NeverLookedAt : Type 0 where
   pub by_step :
       (image : List ℕ) (m m' : Machine) (request : ℕ) → AlikeButUnder m m' →
@@ -56,7 +56,7 @@ pub record NeverLookedAt : Type 0 where
   pub by_reset : (m m' : Machine) → AlikeButUnder m m' → AlikeButUnder (reset_of m) (reset_of m')
 
 -- .. and never change; reset keeps them too, as "other data"
--- proved by never-changed, proofs/UnderWindow
+-- proved by never_changed, proofs/UnderWindow
 pub record NeverChanged : Type 0 where
   pub by_step : (image : List ℕ) (m : Machine) (request : ℕ) → KeptUnder m (step_of image m request).machine
   pub by_run :

@@ -19,7 +19,7 @@ use Rattle.machine.specs.Reading.{reading_as, reading_of}
 use Rattle.machine.specs.OriginTold.{Executes, StepsAlike}
 
 -- 0C8h and 0C9h, in every image and machine
--- proved by write-only, proofs/WriteOnly
+-- proved by write_only, proofs/WriteOnly
 pub record WriteOnly : Type 0 where
   -- "a program's read of either gives 0"
   pub reads : (image : List ℕ) (m : Machine) (a : ℕ) → is_write_only a ≡ true → read_of image m.bytes a ≡ 0
@@ -69,7 +69,7 @@ pub data FromZero (bytes : List ℕ) (a : ℕ) : Instruction → (value : ℕ) �
   decrement : (o : Operand) → address_of bytes o ≡ a → FromZero bytes a (I.Dec o) 0xFF
 
 -- what SET, RES, INC and DEC store at 0C8h and 0C9h
--- proved by stores-from-zero, proofs/WriteOnly
+-- proved by stores_from_zero, proofs/WriteOnly
 pub record StoresFromZero : Type 0 where
   -- "so SET 4,0C8h stores 10h whatever was there"
   pub example :

@@ -33,7 +33,7 @@ IsMade image wired certificate levels =
     → Makes image wired before after answer
     → (answer ≡ done levels) × (after ≡ certificate)
 
--- proved by make-cases, proofs/Cases
+-- proved by make_cases, proofs/Cases
 pub record MakeCases : Type 0 where
   -- the certificate of document 01's P11 is the least one of its image with NMI wired, and so what the maker writes
   pub p11 : Least image11 0x01 certificate11 2

@@ -62,7 +62,7 @@ MakesUnpaged image wired before after (done levels) =
 MakesUnpaged image wired before after (refused r) =
     FirstApplies (questions_unpaged image wired before) r × (after ≡ before)
 
--- proved by maker-as-before, proofs/OnePage
+-- proved by maker_as_before, proofs/OnePage
 abbrev pub MakerAsBefore : Type 0
 MakerAsBefore =
     (image : List ℕ) → is_space (length image) ≡ true → (wired : ℕ) (before after : List ℕ) (answer : Answer ℕ) →

@@ -40,7 +40,7 @@ pub record MadeLeast (image : List ℕ) (wired : ℕ) (certificate : List ℕ) (
 
 -- "Given image and wired byte, write into a lent buffer the accepted certificate that marks only addresses reachable
 -- from FFEh or a wired vector, with the least need at each, so no accepted one has a smaller need anywhere."
--- proved by made-is-least, proofs/Outcomes
+-- proved by made_is_least, proofs/Outcomes
 abbrev pub MadeIsLeast : Type 0
 MadeIsLeast =
     (image : List ℕ) (wired : ℕ) (before after : List ℕ) (levels : ℕ) → Makes image wired before after (done levels)
@@ -78,7 +78,7 @@ pub record Refuses (image : List ℕ) (wired : ℕ) (before after : List ℕ) (a
 
 -- "It refuses with 1, then 11, then 25 when the buffer isn't the image's length, then 26 exactly when no certificate
 -- would be accepted."
--- proved by refusals-exactly, proofs/Outcomes
+-- proved by refusals_exactly, proofs/Outcomes
 abbrev pub RefusalsExactly : Type 0
 RefusalsExactly =
     (image : List ℕ) (wired : ℕ) (before after : List ℕ) (answer : Answer ℕ) → Makes image wired before after answer
@@ -86,7 +86,7 @@ RefusalsExactly =
 
 -- the program has no choice: two answers to the same image, wired byte and buffer are the same, and so is what the
 -- buffer holds afterwards. There is one least certificate.
--- proved by one-answer, proofs/Outcomes
+-- proved by one_answer, proofs/Outcomes
 abbrev pub OneAnswer : Type 0
 OneAnswer =
     (image : List ℕ) (wired : ℕ) (before after after' : List ℕ) (answer answer' : Answer ℕ)

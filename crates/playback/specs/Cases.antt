@@ -17,7 +17,7 @@ abbrev pub recording11 : List ℕ
 recording11 =
     0x01 ∷ 0x00 ∷ 0x0C ∷ 0x00 ∷ 0x00 ∷ 0x00 ∷ 0x00 ∷ 0x00 ∷ 0x00 ∷ 0x00 ∷ 0x01 ∷ 0x01 ∷ 0x40 ∷ 0x30 ∷ 0x02 ∷ []
 
--- proved by p11-played, proofs/Cases
+-- proved by p11_played, proofs/Cases
 pub record P11Played : Type 0 where
   -- "wired 01h: [..] `accepted 2`": it ends with no stop, and within two levels
   pub within : PlaysWithin image11 recording11 entries11 2

@@ -42,7 +42,7 @@ pub data Presses (image : List ℕ) : (entries cycles : ℕ) → Machine → Lis
       held ≡ reset_of m → Presses image (n + 1) cycles held rest p → Presses image n cycles m (Reset ∷ rest) p
 
 -- playing a record's entries is pressing the keys of `bench` in its order on one held machine
--- proved by keys-played, proofs/Keys
+-- proved by keys_played, proofs/Keys
 pub record KeysPlayed : Type 0 where
   -- the playing is what the keys leave and return
   pub pressed :

@@ -26,7 +26,7 @@ pub record PlaysWithoutTrace (image recording : List ℕ) (entries : List Entry)
   pub levels_tell : (s : InService image fresh_of (pressed_in playing entries)) → LevelsTell s
 
 -- of an accepted image and every record whose requests ask for wired sources only
--- proved by played-no-trace, proofs/NoTrace
+-- proved by played_no_trace, proofs/NoTrace
 abbrev pub PlayedNoTrace : Type 0
 PlayedNoTrace =
     (image certificate : List ℕ) (wired levels : ℕ) → check_of image certificate wired ≡ accepted levels

@@ -38,7 +38,7 @@ abbrev pub play_unpaged : (image recording : List ℕ) → Answer Playing
 play_unpaged image recording =
     unless (is_space (length image)) (refused (plain 1)) (played_unpaged image (entries_in recording))
 
--- proved by playback-as-before, proofs/OnePage
+-- proved by playback_as_before, proofs/OnePage
 abbrev pub PlaybackAsBefore : Type 0
 PlaybackAsBefore =
     (image : List ℕ) → is_space (length image) ≡ true → (recording : List ℕ) →

@@ -69,7 +69,7 @@ abbrev pub record_bytes : List Entry → List ℕ
 record_bytes entries = header_bytes (length (body_bytes entries)) ++ body_bytes entries
 
 -- parsing and writing undo each other
--- proved by records-read-back, proofs/Record
+-- proved by records_read_back, proofs/Record
 pub record RecordsReadBack : Type 0 where
   -- every list of entries, written, is read as that list
   pub read_written : (entries : List Entry) → entries_of (body_bytes entries) ≡ done entries

@@ -58,7 +58,7 @@ pub record Plays (image recording : List ℕ) : Type 0 where
   pub plays : play_of image recording ≡ done (play_from image 0 0 fresh_of entries)
 
 -- a record is refused in these cases, and only in these; else its entries are played
--- proved by play-refusals, proofs/Refusals
+-- proved by play_refusals, proofs/Refusals
 pub record PlayRefusals : Type 0 where
   pub given : (image recording : List ℕ) (n : Numbered) → PlayRefused image recording n → play_of image recording
       ≡ refused n

@@ -36,7 +36,7 @@ pub data EndsOrStops (m : Machine) (entries : List Entry) : (number : ℕ) → E
 
 -- "An entry's own refusal or stop ends the playing": with any image it is 10, 11 or a stop, never 1 or 2, since the
 -- image has passed and every machine of a playing is well formed
--- proved by ends-by-entry, proofs/Endings
+-- proved by ends_by_entry, proofs/Endings
 abbrev pub EndsByEntry : Type 0
 EndsByEntry =
     (image : List ℕ) → Bytes image → (recording : List ℕ) (entries : List Entry) → entries_in recording ≡ done entries
@@ -53,7 +53,7 @@ pub record PlaysWithin (image recording : List ℕ) (entries : List Entry) (leve
 -- "Let an unpaged image, a set of wired interrupt sources and a certificate be accepted with some number of levels."
 -- Then every record whose requests ask for wired sources only ends early only with 11 at a step or 10 at a store, never
 -- with a stop, and the machine that it leaves is within the number.
--- proved by played-safely, proofs/Safety
+-- proved by played_safely, proofs/Safety
 abbrev pub PlayedSafely : Type 0
 PlayedSafely =
     (image certificate : List ℕ) (wired levels : ℕ) → check_of image certificate wired ≡ accepted levels

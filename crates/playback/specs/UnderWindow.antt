@@ -15,7 +15,7 @@ pub record SamePlaying (p p' : Playing) : Type 0 where
   pub ending : p.ending ≡ p'.ending
   pub machine : AlikeButUnder p.machine p'.machine
 
--- proved by played-alike, proofs/UnderWindow
+-- proved by played_alike, proofs/UnderWindow
 pub record PlayedAlike : Type 0 where
   -- entries played from two machines that agree but for the bytes under the window
   pub alike :

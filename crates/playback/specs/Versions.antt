@@ -12,7 +12,7 @@ use Rattle.playback.specs.Play.{Playing, play_read, play_of}
 abbrev pub play_before : (image recording : List ℕ) → Answer Playing
 play_before image recording = play_read image (read_body (body_of recording))
 
--- proved by old-records-play-as-before, proofs/Versions
+-- proved by old_records_play_as_before, proofs/Versions
 pub record OldRecordsPlayAsBefore : Type 0 where
   -- "Stored version 1 records play as before", and are refused as before
   pub body : (recording : List ℕ) → get_or recording 0 0 ≡ 1 → body_in recording ≡ body_of recording
@@ -37,7 +37,7 @@ pub record Carries (version : ℕ) (entries : List Entry) : Type 0 where
   pub first : get_or recording 0 0 ≡ version
   pub reads : entries_in recording ≡ done entries
 
--- proved by one-version-each, proofs/Versions
+-- proved by one_version_each, proofs/Versions
 pub record OneVersionEach : Type 0 where
   -- of every list of entries at most one version can carry it
   pub at_most_one : (entries : List Entry) (v w : ℕ) → Carries v entries → Carries w entries → v ≡ w

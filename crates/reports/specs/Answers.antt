@@ -12,6 +12,6 @@ answer_text (refused (located number address)) =
     refused_word ++ (decimal_of number ++ (space ++ three_digits address))
 
 -- with its end it is the line that the job program prints
--- proved by first-line-is-the-jobs, proofs/FirstLine
+-- proved by first_line_is_the_jobs, proofs/FirstLine
 abbrev pub FirstLineIsTheJobs : Type 0
 FirstLineIsTheJobs = (answer : Verdict) → answer_text answer ++ newline ≡ line_of answer

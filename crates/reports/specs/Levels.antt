@@ -13,7 +13,7 @@ pub record Parts (certificate : List ℕ) (wired : ℕ) (r : Levels) : Type 0 wh
   pub nmi : r.nmi ≡ levels_for certificate wired Nmi
 
 -- they add up to the number that is accepted
--- proved by parts-add-up, proofs/PartsAddUp
+-- proved by parts_add_up, proofs/PartsAddUp
 abbrev pub PartsAddUp : Type 0
 PartsAddUp =
     (certificate : List ℕ) (wired : ℕ) (r : Levels) → Parts certificate wired r
