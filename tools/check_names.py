@@ -13,7 +13,7 @@ from pathlib import Path
 
 ROOT = Path(__file__).resolve().parent.parent
 # words in backticks that are no names of this repository
-LITERALS = set('rt rattle-kit-5b ensures requires opt-level pump.hex marks.hex crates/NAME/stdout'.split())
+LITERALS = set('rt rattle-kit-13f rattle-kit-5b ensures requires opt-level pump.hex marks.hex crates/NAME/stdout'.split())
 WORD = re.compile(r"[A-Za-z_][\w'-]*")
 TICKED = re.compile(r'`([^`]+)`')
 NAME = re.compile(r"(?![0-9A-F]+h?$)[A-Za-z_.][\w.:/*'-]*(\{[\w, ]+\})?$")
