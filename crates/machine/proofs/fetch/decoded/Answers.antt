@@ -18,10 +18,10 @@ use Rattle.machine.proofs.fetch.decoded.Goals as goal
 
 pub returns-in-Refused : goal.returns-in-Refused
 returns-in-Refused c = (
-      rw c.in-Refused.is at
-          (c.decode_in_range.ensures c.requires.1 c.requires.2 c.requires.0),
-      c.requires.4,
-    )
+  rw c.in-Refused.is at
+      (c.decode_in_range.ensures c.requires.1 c.requires.2 c.requires.0),
+  c.requires.4,
+)
 
 pub returns : goal.returns
 returns c =

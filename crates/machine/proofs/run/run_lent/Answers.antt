@@ -50,11 +50,11 @@ returns-then-not-requests_fit c =
 
 pub by_store-requires : goal.by_store-requires
 by_store-requires c = (
-      c.if-n-gt-MOST_STEPS.false,
-      sym c.is_image_length.ensures ∙ c.if-not-is_image_length.false,
-      sym c.is_well_formed.ensures ∙ c.if-not-is_well_formed.false,
-      sym c.requests_fit.ensures ∙ c.if-not-requests_fit.false,
-    )
+  c.if-n-gt-MOST_STEPS.false,
+  sym c.is_image_length.ensures ∙ c.if-not-is_image_length.false,
+  sym c.is_well_formed.ensures ∙ c.if-not-is_well_formed.false,
+  sym c.requests_fit.ensures ∙ c.if-not-requests_fit.false,
+)
 
 pub returns : goal.returns
 unfolding run_of

@@ -31,9 +31,9 @@ returns-then-not-names_only_sources c =
 
 pub due-action-requires : goal.due-action-requires
 due-action-requires c = (
-      sym c.is_image_length.ensures ∙ c.if-not-is_image_length.false,
-      (formed_exactly.facts _ _ (sym c.is_well_formed.ensures ∙ c.if-not-is_well_formed.false)).pc,
-    )
+  sym c.is_image_length.ensures ∙ c.if-not-is_image_length.false,
+  (formed_exactly.facts _ _ (sym c.is_well_formed.ensures ∙ c.if-not-is_well_formed.false)).pc,
+)
 
 pub act-requires : goal.act-requires
 act-requires c =
