@@ -8,7 +8,7 @@ abbrev pub invariant-loop-stepped : goal.invariant-loop-stepped
 invariant-loop-stepped l = record {
   within : l.steps ≤ 1285;
   reached : l.held ≡ machine_after l.image l.initial.held l.steps;
-  awake : (n : ℕ) → n < l.steps → AwakeAfter l.image l.initial.held n
+  awake : (n : ℕ) → n < l.steps → AwakeAfter l.image l.initial.held n;
 }
 
 abbrev pub decreases-loop-stepped : goal.decreases-loop-stepped

@@ -6,5 +6,5 @@ use Rattle.gauge.proofs.sleep.measure.Given as goal
 abbrev pub invariant-loop-i : goal.invariant-loop-i
 invariant-loop-i l = record {
   reached : l.held ≡ machine_after l.image l.initial.held (l.i * 1285);
-  awake : AwakeAfter l.image l.initial.held (l.i * 1285)
+  awake : AwakeAfter l.image l.initial.held (l.i * 1285);
 }
