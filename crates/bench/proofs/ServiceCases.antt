@@ -18,7 +18,7 @@ use Rattle.isa.specs.declared.Source.{Source}
 use Rattle.isa.specs.declared.Source.TheVariants.{Nmi, First, Second, Third, Fourth}
 use Rattle.control.specs.Modes.{mode_number}
 use Rattle.control.specs.declared.Mode.{Mode}
-use Rattle.control.specs.declared.Mode.TheVariants.{Reset, Normal, Interrupt, NmiOverNormal, NmiOverInterrupt}
+use Rattle.control.specs.declared.Mode.TheVariants.{Interrupt, NmiOverNormal, NmiOverInterrupt}
 use Rattle.control.specs.declared.Control.{Control}
 use Rattle.control.specs.Modes.{is_reset}
 use Rattle.control.specs.declared.Requested.{Requested}

@@ -1,8 +1,7 @@
 -- `sleep::first_sleep` meets its contract: the step after the machine held is one of those until it sleeps.
-use Rattle.std.proofs.Common.{refl, ap, ◌∙◌, arith, rules, below_more}
+use Rattle.std.proofs.Common.{refl, arith, below_more}
 use Rattle.machine.specs.Run.{steps_of}
-use Rattle.gauge.specs.Sleep.{width_shown}
-use Rattle.gauge.proofs.Sleeper.{found_after, still_awake}
+use Rattle.gauge.proofs.Sleeper.{still_awake}
 use Rattle.gauge.proofs.sleep.first_sleep.Goals as goal
 
 pub loop-stepped-init : goal.loop-stepped-init
@@ -29,17 +28,4 @@ loop-stepped-preserved c =
       within = omega (arith, still.left);
       reached = still.next;
       awake = below_more _ _ loop.invariant.awake still.awake;
-    }
-
-pub returns : goal.returns
-returns c =
-    let loop = c.loop-stepped in
-    record {
-      within = loop.invariant.within;
-      asleep =
-          found_after c.args.image.now c.args.m loop.held loop.steps c.is_asleep.result loop.invariant.reached
-          c.is_asleep.ensures
-          ∙ c.loop-stepped-test.false;
-      awake = loop.invariant.awake;
-      shows = c.width_shown.ensures ∙ ap width_shown loop.invariant.reached;
     }

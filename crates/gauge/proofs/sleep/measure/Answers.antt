@@ -18,9 +18,6 @@ first_sleep-slept-requires c =
     sleeps_within c.args.image.now c.args.m c.requires (loop.i * 1285) room loop.held
     loop.invariant.reached (finds ∙ c.if-is_asleep.true)
 
-pub overflow_add-result : goal.overflow_add-result
-overflow_add-result c = omega (arith, c.first_sleep-slept.ensures.within)
-
 pub returns-then-is_asleep : goal.returns-then-is_asleep
 returns-then-is_asleep c =
     let loop = c.loop-i in
