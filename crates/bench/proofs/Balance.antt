@@ -6,16 +6,14 @@ use mathlib.Core.Bool.{Bool, true, false, cond, not, ◌&&◌}
 use mathlib.Core.List.{List, [], ◌∷◌}
 use lib.Dec.{leb}
 use lib.ListN.{length, get_or, take}
-use Rattle.isa.specs.Refusals.{plain, Answer, Ended, done, refused, unless}
+use Rattle.isa.specs.Refusals.{plain, done, refused, unless}
 use Rattle.isa.specs.Sources.{names_only_sources}
 use Rattle.control.specs.declared.Mode.{Mode}
 use Rattle.machine.specs.declared.Machine.{Machine}
-use Rattle.machine.specs.State as state
 use Rattle.data.specs.Space.{in_window}
 use Rattle.machine.specs.State.{HostStore, with_byte, host_store_of, reset_of}
-use Rattle.machine.specs.Step as stepping
 use Rattle.machine.specs.Step.{step_of}
-use Rattle.machine.specs.Run.{Run, refused_run, joined_by, continued_by, steps_of, requests_fit, run_of}
+use Rattle.machine.specs.Run.{refused_run, steps_of, requests_fit, run_of}
 use Rattle.machine.proofs.StepByStep.{fits_at}
 use Rattle.certificate.specs.Rules.{Rules}
 use Rattle.certificate.proofs.Agreement.{agreement}

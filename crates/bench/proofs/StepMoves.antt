@@ -95,7 +95,7 @@ module _ (image certificate : List ℕ) (wired number : ℕ) (ok : Rules image c
   unfolding call_of push_of
   call slots c to next g move =
       let r = room slots c next g move in
-      rw r.not_full (record { no_stop = refl; six = r.six; moves = rw r.on-top move })
+      rw r.not_full (record { no_stop = refl; six = r.six; moves = rw r.on_top move })
 
   -- a request that is taken
   take : (slots : List ℕ) (c : Control) (source : Source) → Allowed certificate wired c.mode source
@@ -103,9 +103,9 @@ module _ (image certificate : List ℕ) (wired number : ℕ) (ok : Rules image c
       → Goes certificate wired (by_request source) slots c (take_of slots c source)
   unfolding take_of push_of serving_of
   take slots c source a g =
-      let move = moves.takes a.takes a.wired-source in
+      let move = moves.takes a.takes a.wired_source in
       let r = room slots c c.pc g move in
-      rw r.not_full (record { no_stop = refl; six = r.six; moves = rw r.on-top move })
+      rw r.not_full (record { no_stop = refl; six = r.six; moves = rw r.on_top move })
 
   -- RET and RETI, by the number of levels in use
   module _ (slots : List ℕ) (pc : ℕ) (asleep : Bool) where
