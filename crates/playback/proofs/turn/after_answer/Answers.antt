@@ -3,6 +3,16 @@ use native.Mathlib.Omega.{arith}
 use Rattle.playback.proofs.Counted.{within, after_done, after_refused}
 use Rattle.playback.proofs.turn.after_answer.Goals as goal
 
+pub overflow_add-turn : goal.overflow_add-turn
+overflow_add-turn c =
+    let w = within _ _ c.requires.0 c.requires.2 in
+    omega (arith, w.0, w.1, c.requires.3)
+
+pub overflow_add-turn-in-Done : goal.overflow_add-turn-in-Done
+overflow_add-turn-in-Done c =
+    let w = within _ _ c.requires.0 c.requires.2 in
+    omega (arith, w.0, w.1, w.2, c.requires.3)
+
 pub turn_at-requires : goal.turn_at-requires
 turn_at-requires c =
     let w = within _ _ c.requires.0 c.requires.2 in
