@@ -49,7 +49,7 @@ returns-in-Valid c =
     let pre = c.requires in
     rw (
       by_flow c.args.page.now c.args.fixed.now c.args.certificate.now c.args.address c.args.mark c.if-mark-eq0.false
-      c.kind_of.ensures c.if-kind_of-eq0.false pre.1 pre.2 (c.flow_at.ensures pre.1 pre.2 pre.0),
+          c.kind_of.ensures c.if-kind_of-eq0.false pre.1 pre.2 (c.flow_at.ensures pre.1 pre.2 pre.0),
       c.in-Valid.is,
     )
     c.check_flow.ensures
@@ -59,6 +59,6 @@ returns-in-Refused c =
     let pre = c.requires in
     rw (
       by_flow c.args.page.now c.args.fixed.now c.args.certificate.now c.args.address c.args.mark c.if-mark-eq0.false
-      c.kind_of.ensures c.if-kind_of-eq0.false pre.1 pre.2 (c.flow_at.ensures pre.1 pre.2 pre.0),
+          c.kind_of.ensures c.if-kind_of-eq0.false pre.1 pre.2 (c.flow_at.ensures pre.1 pre.2 pre.0),
       c.in-Refused.is,
     )

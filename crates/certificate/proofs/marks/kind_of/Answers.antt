@@ -8,8 +8,8 @@ pub returns-then-kind-gt-SUBROUTINE : goal.returns-then-kind-gt-SUBROUTINE
 returns-then-kind-gt-SUBROUTINE c =
     let mark = c.args.mark in
     elim c.then-kind-gt-SUBROUTINE.branch [
-      then-kind-gt-SUBROUTINE-via-then-kind-gt-SUBROUTINE w ↦ rw (lt-leb (mark / 16) 4 w.if-kind-gt-SUBROUTINE.true)
-    | then-kind-gt-SUBROUTINE-via-else-kind-gt-SUBROUTINE+then-mark-gt-MOST_LEVELS w ↦ rw (le-leb (mark / 16) 4 w.if-kind-gt-SUBROUTINE.false, lt-leb (mark % 16) 6 w.if-mark-gt-MOST_LEVELS.true)
+      | then-kind-gt-SUBROUTINE-via-then-kind-gt-SUBROUTINE w ↦ rw (lt-leb (mark / 16) 4 w.if-kind-gt-SUBROUTINE.true)
+      | then-kind-gt-SUBROUTINE-via-else-kind-gt-SUBROUTINE+then-mark-gt-MOST_LEVELS w ↦ rw (le-leb (mark / 16) 4 w.if-kind-gt-SUBROUTINE.false, lt-leb (mark % 16) 6 w.if-mark-gt-MOST_LEVELS.true)
     ]
 
 pub returns : goal.returns

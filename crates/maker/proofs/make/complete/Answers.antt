@@ -5,14 +5,14 @@ use Rattle.maker.proofs.make.complete.Goals as goal
 
 pub returns-in-Impossible : goal.returns-in-Impossible
 returns-in-Impossible c = (
-      (rw (← c.join.ensures, c.in-Impossible.is) at
-          (begins c.requires.0 c.seed-seeded.ensures c.spread.ensures)).told,
-      refl,
-    )
+  (rw (← c.join.ensures, c.in-Impossible.is) at
+      (begins c.requires.0 c.seed-seeded.ensures c.spread.ensures)).told,
+  refl,
+)
 
 pub settle-requires : goal.settle-requires
 settle-requires c = (
-      c.timings-table.ensures,
-      (begins c.requires.0 c.seed-seeded.ensures c.spread.ensures).sound,
-      c.requires.1,
-    )
+  c.timings-table.ensures,
+  (begins c.requires.0 c.seed-seeded.ensures c.spread.ensures).sound,
+  c.requires.1,
+)

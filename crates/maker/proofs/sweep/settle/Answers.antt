@@ -16,10 +16,10 @@ pass-requires c =
 
 pub returns-in-Same : goal.returns-in-Same
 returns-in-Same c = (
-      none_left c.loop-levels.invariant (rw c.in-Same.is at c.pass.ensures).told.1
-          c.requires.2 (rw c.in-Refused.is at c.check.ensures),
-      refl,
-    )
+  none_left c.loop-levels.invariant (rw c.in-Same.is at c.pass.ensures).told.1
+      c.requires.2 (rw c.in-Refused.is at c.check.ensures),
+  refl,
+)
 
 pub loop-levels-smaller : goal.loop-levels-smaller
 loop-levels-smaller c = (rw c.in-Changed.is at c.pass.ensures).told

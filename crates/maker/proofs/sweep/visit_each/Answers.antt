@@ -10,11 +10,10 @@ pub loop-page-init : goal.loop-page-init
 loop-page-init c = (omega arith, pages_none)
 
 pub loop-page-preserved : goal.loop-page-preserved
-loop-page-preserved c =
-    (
-      omega arith,
-      rw c.join-change.ensures (pages_more c.loop-page.invariant.1 (λ w s. (c.visit-visited.ensures w s).0)),
-    )
+loop-page-preserved c = (
+  omega arith,
+  rw c.join-change.ensures (pages_more c.loop-page.invariant.1 (λ w s. (c.visit-visited.ensures w s).0)),
+)
 
 pub returns : goal.returns
 returns c =
