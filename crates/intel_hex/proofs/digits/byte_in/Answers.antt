@@ -4,10 +4,8 @@ use Rattle.intel_hex.proofs.digits.byte_in.Goals as goal
 
 pub returns : goal.returns
 returns c =
-    let at-digit-of = c.before.before in
-    let start = at-digit-of.before.before.before in
     rw (
-      pair_at_lem start.args.digits.now start.args.k start.requires,
-      at-digit-of.digit_of-high.ensures,
+      pair_at_lem c.args.digits.now c.args.k c.requires,
+      c.digit_of-high.ensures,
       c.digit_of-low.ensures,
     )

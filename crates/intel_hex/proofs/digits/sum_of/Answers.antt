@@ -12,17 +12,13 @@ loop-k-init c = (omega arith, omega arith)
 
 pub loop-k-preserved : goal.loop-k-preserved
 loop-k-preserved c =
-    let at-loop = c.before.before in
-    let start = at-loop.before.before in
-    let digits = start.args.digits.now in
-    let more : at-loop.loop-k.k < length (bytes_of digits) = omega (arith, (pairs digits).1) in
-    (omega arith, omega (arith, c.byte_in-sum.ensures, total_step digits at-loop.loop-k.k more))
+    let digits = c.args.digits.now in
+    let more : c.loop-k.k < length (bytes_of digits) = omega (arith, (pairs digits).1) in
+    (omega arith, omega (arith, c.byte_in-sum.ensures, total_step digits c.loop-k.k more))
 
 pub returns : goal.returns
 returns c =
-    let at-loop-head = c.before in
-    let start = at-loop-head.before.before in
-    let digits = start.args.digits.now in
-    let loop = at-loop-head.loop-k in
+    let digits = c.args.digits.now in
+    let loop = c.loop-k in
     let over = drop_of_length-le (bytes_of digits) {i = loop.k} (omega (arith, (pairs digits).0)) in
     omega (arith, loop.invariant.1, ap total over, total_none)

@@ -10,33 +10,26 @@ returns-then-text-ne2 c = rw (ne_eqb _ _ c.if-text-ne2.true)
 pub returns-then-high-eq16 : goal.returns-then-high-eq16
 unfolding byte_named
 returns-then-high-eq16 c =
-    let high = c.before in
-    rw (eq-eqb _ _ high.if-text-ne2.false, ← high.digit_of-high.ensures, eq-eqb _ _ c.if-high-eq16.true)
+    rw (eq-eqb _ _ c.if-text-ne2.false, ← c.digit_of-high.ensures, eq-eqb _ _ c.if-high-eq16.true)
 
 pub returns-then-low-eq16 : goal.returns-then-low-eq16
 unfolding byte_named
 returns-then-low-eq16 c =
-    let low = c.before in
-    let tested = low.before.before in
-    let high = tested.before in
     rw (
-      eq-eqb _ _ high.if-text-ne2.false,
-      ← high.digit_of-high.ensures,
-      ne_eqb _ _ tested.if-high-eq16.false,
-      ← low.digit_of-low.ensures,
+      eq-eqb _ _ c.if-text-ne2.false,
+      ← c.digit_of-high.ensures,
+      ne_eqb _ _ c.if-high-eq16.false,
+      ← c.digit_of-low.ensures,
       eq-eqb _ _ c.if-low-eq16.true,
     )
 
 pub returns : goal.returns
 unfolding byte_named
 returns c =
-    let low = c.before in
-    let tested = low.before.before in
-    let high = tested.before in
     rw (
-      eq-eqb _ _ high.if-text-ne2.false,
-      ← high.digit_of-high.ensures,
-      ne_eqb _ _ tested.if-high-eq16.false,
-      ← low.digit_of-low.ensures,
+      eq-eqb _ _ c.if-text-ne2.false,
+      ← c.digit_of-high.ensures,
+      ne_eqb _ _ c.if-high-eq16.false,
+      ← c.digit_of-low.ensures,
       ne_eqb _ _ c.if-low-eq16.false,
     )

@@ -3,7 +3,7 @@ use mathlib.Core.Path.{◌∙◌}
 use Rattle.options.proofs.Counting.{counts}
 use Rattle.options.proofs.WiredLaws.{index_in}
 use borrow.Author.Rules.{rules}
-use Rattle.options.proofs.wired.before.Goals as goal
+use Rattle.options.proofs.wired.Goals as goal
 
 pub returns : goal.returns
 returns c =
