@@ -1,8 +1,6 @@
 -- `steps::all_steps` meets its contract. The loop's invariant: the first i steps completed, the machine is well formed
 -- and the store coherent.
-use Prim.Native.Nat.{◌-◌}
 use mathlib.Core.Path.{◌≡◌, refl, ap, ◌∙◌}
-use mathlib.Core.Bool.{true}
 use native.Mathlib.Omega.{arith}
 use borrow.Author.Rules.{rules}
 use Rattle.machine.specs.State.{machine_of, is_well_formed}

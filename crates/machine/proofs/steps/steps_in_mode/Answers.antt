@@ -1,9 +1,7 @@
 -- `steps::steps_in_mode` meets its contract. The loop's invariant: the steps up to i completed, whatever they
 -- continue; the machine is well formed and the store coherent; as long as the loop goes on the mode and the bank byte
 -- are those of its start, and when it ends a step was made.
-use Prim.Native.Nat.{◌-◌}
 use mathlib.Core.Path.{◌≡◌, refl, sym, ap, ◌∙◌}
-use mathlib.Core.Bool.{true, false}
 use native.Mathlib.Omega.{arith}
 use borrow.Author.Rules.{rules}
 use Rattle.isa.proofs.Halves.{same_space}
