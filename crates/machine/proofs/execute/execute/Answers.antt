@@ -1,10 +1,10 @@
 -- `execute::execute` meets its contract.
 use borrow.Author.Rules.{rules}
 use mathlib.Core.Path.{◌≡◌, ap, ◌∙◌}
-use borrow.Enum.Refused.{opened}
+use native.Mathlib.Omega.{arith}
+use Rattle.std.proofs.lemmas.Grind.{common_steps}
 use Rattle.isa.specs.declared.Flow.TheVariants as flow
 use Rattle.isa.specs.ControlFlow.{flow_of}
-use Rattle.isa.proofs.GoesOn.{goes_on_lem}
 use Rattle.data.specs.Effect.{data_of, effect_of}
 use Rattle.control.specs.Transfers.{advance_of}
 use Rattle.machine.specs.Execute.{execution_by, execute_of}
@@ -112,8 +112,8 @@ unfolding execute_of advance_of flow_of effect_of
 returns-in-Wait c = rw (c.goes_on-in-Wait.ensures _ _, c.sleep-in-Wait.ensures, c.in-Wait.is)
 
 pub returns-in_default : goal.returns-in_default
-unfolding execute_of advance_of
+unfolding execute_of advance_of flow_of
 returns-in_default c =
     let a = c.args in
-    let on : flow_of a.instruction a.c.pc ≡ flow.Next = goes_on_lem _ _ (opened c.in_default.in_default-own.keys13) in
+    let on : flow_of a.instruction a.c.pc ≡ flow.Next = grind (arith, common_steps) in
     rw on (c.on_data.ensures _)

@@ -1,10 +1,11 @@
 -- `execute_word::on_transfer` meets its contract.
 use borrow.Author.Rules.{rules}
-use mathlib.Core.Path.{ap, ◌∙◌}
-use borrow.Enum.Refused.{opened}
+use mathlib.Core.Path.{◌≡◌, ap, ◌∙◌}
+use native.Mathlib.Omega.{arith}
+use Rattle.std.proofs.lemmas.Grind.{common_steps}
+use Rattle.isa.specs.declared.Flow.TheVariants as flow
 use Rattle.isa.specs.declared.Instruction.{Instruction}
 use Rattle.isa.specs.ControlFlow.{flow_of}
-use Rattle.isa.proofs.GoesOn.{goes_on_lem}
 use Rattle.isa.proofs.Words.{is_next, below, never}
 use Rattle.data.specs.Effect.{data_of, effect_of}
 use Rattle.control.specs.Transfers.{advance_of}
@@ -112,8 +113,9 @@ returns-in-Wait c =
     )
 
 pub returns-in_default : goal.returns-in_default
+unfolding flow_of
 returns-in_default c =
+    let on : flow_of c.transfer_in.result 0 ≡ flow.Next = grind (arith, common_steps) in
     absurd
-    (never (goes_on_lem _ 0 (opened c.in_default.in_default-own.keys13))
-    (ap (λ (i : Instruction). is_next (flow_of i 0)) (c.transfer_in.ensures c.requires.1)
+    (never on (ap (λ (i : Instruction). is_next (flow_of i 0)) (c.transfer_in.ensures c.requires.1)
     ∙ below _ _ _ 0 _ c.requires.1))

@@ -1,8 +1,6 @@
 -- `steps::all_steps` meets its contract. The loop's invariant: the first i steps completed, the machine is well formed
 -- and the store coherent.
-use Prim.Native.Nat.{◌-◌}
 use mathlib.Core.Path.{◌≡◌, refl, ap, ◌∙◌}
-use mathlib.Core.Bool.{true}
 use native.Mathlib.Omega.{arith}
 use borrow.Author.Rules.{rules}
 use Rattle.machine.specs.State.{machine_of, is_well_formed}
@@ -49,12 +47,11 @@ loop-i-preserved c =
     let ran =
     c.steps_in_mode-after.ensures.0 loop.flags first
     (rw (c.pair.ensures, put_back loop.flags loop.c.mode) loop.invariant.5) in
-    let told = c.in-Done.is in
-    let known = c.shared_slice_known-1 in (
+    let told = c.in-Done.is in (
       rw told at c.steps_in_mode-after.ensures.2,
       rw told at c.steps_in_mode-after.ensures.3,
       ap (λ (x : Run). is_well_formed x.machine) ran
-          ∙ stays_well_formed.by_steps a.image.now (λ j. (known.given j).fits) a.requests.now first
+          ∙ stays_well_formed.by_steps a.image.now (λ j. (c.type_inv.image j).fits) a.requests.now first
           c.requires.3 _,
       search rules,
       c.steps_in_mode-after.ensures.4,

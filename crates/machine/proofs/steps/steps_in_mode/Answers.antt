@@ -1,9 +1,7 @@
 -- `steps::steps_in_mode` meets its contract. The loop's invariant: the steps up to i completed, whatever they
 -- continue; the machine is well formed and the store coherent; as long as the loop goes on the mode and the bank byte
 -- are those of its start, and when it ends a step was made.
-use Prim.Native.Nat.{◌-◌}
 use mathlib.Core.Path.{◌≡◌, refl, sym, ap, ◌∙◌}
-use mathlib.Core.Bool.{true, false}
 use native.Mathlib.Omega.{arith}
 use borrow.Author.Rules.{rules}
 use Rattle.isa.proofs.Halves.{same_space}
@@ -54,7 +52,6 @@ returns-in-Refused c =
     let loop = c.loop-same in
     let image = c.args.image.now in
     let requests = c.args.requests.now in
-    let mode = c.args.start.mode in
     let n = c.args.n in
     let goes = loop.invariant.6 c.loop-same-test.true in
     let all : settled c.part.result.report n ≡ n = rw c.part.ensures.3 in (
@@ -84,14 +81,12 @@ loop-same-preserved c =
     let loop = c.loop-same in
     let image = c.args.image.now in
     let requests = c.args.requests.now in
-    let mode = c.args.start.mode in
     let n = c.args.n in
-    let goes = loop.invariant.6 c.loop-same-test.true in
-    let known = c.shared_slice_known-1 in (
+    let goes = loop.invariant.6 c.loop-same-test.true in (
       omega (arith, loop.invariant.0),
       omega (arith, goes.0),
-      omega (arith, loop.invariant.2, c.loop-same.invariant.2),
-      formed_step image (λ j. (known.given j).fits)
+      omega (arith, loop.invariant.2),
+      formed_step image (λ j. (c.type_inv.image j).fits)
           (machine_of loop.c loop.stack (with_pair_of cleared_pairs loop.c.mode loop.flags) loop.bytes)
           loop.invariant.3 _ _
           (c.advance-after.ensures.0 cleared_pairs),
