@@ -23,7 +23,7 @@ use Rattle.bench.specs.Session.{levels_in_use}
 use Rattle.bench.specs.StackEffect.{StackEffect, stack_effect_of}
 use Rattle.bench.specs.Balance.{Tally, cleared, counted, step_counted, steps_counted, call_counted, all_counted}
 use Rattle.bench.specs.Balance.{Balances, BalancesAfter, Balanced, LevelsCounted}
-use Rattle.bench.proofs.Stack.{length_inUse}
+use Rattle.bench.proofs.Stack.{length_in_use}
 use Rattle.bench.proofs.Moves as moves
 use Rattle.bench.proofs.Moves.{Moves}
 use Rattle.bench.proofs.Invariant.{MachineInvariant, reset_invariant, well_formed_lem}
@@ -33,7 +33,7 @@ use Rattle.bench.proofs.Unrolled.{continued_machine, asks_take, asks_unrolled}
 
 pub levels_counted : LevelsCounted
 unfolding levels_in_use
-levels_counted m = length_inUse m.control.levels m.stack
+levels_counted m = length_in_use m.control.levels m.stack
 
 -- a move has one address more exactly where it pushes, and one less where it pops
 pub move_balances : {certificate : List ℕ} {wired : ℕ} {d : StackEffect} {m m' : Mode} {p p' : ℕ} {s s' : List ℕ}
