@@ -5,13 +5,25 @@ use native.Mathlib.Omega.{arith}
 use lib.ListN.{length, length-drop}
 use Rattle.isa.specs.Rom.{is_image}
 use Rattle.playback.specs.Play.{play_of}
-use Rattle.playback.proofs.HeaderCases.{starts_at, starts_nowhere}
+use Rattle.playback.proofs.HeaderCases.{BodyStarts, starts_at, starts_nowhere}
 use Rattle.playback.proofs.play.play.Goals as goal
 
 pub returns-then-not-is_image_length : goal.returns-then-not-is_image_length
 unfolding play_of
 returns-then-not-is_image_length c =
     rw (← c.is_image_length.ensures, c.if-not-is_image_length.true) c.refused_play.ensures
+
+pub slice_bounds-play_body-count : goal.slice_bounds-play_body-count
+slice_bounds-play_body-count c =
+    let body : BodyStarts c.args.recording.now c.in-From.start =
+    starts_at c.args.recording.now c.find_body-body.result c.in-From.start c.find_body-body.ensures c.in-From.is in
+    body.fits
+
+pub slice_bounds-play_body-start : goal.slice_bounds-play_body-start
+slice_bounds-play_body-start c =
+    let body : BodyStarts c.args.recording.now c.in-From.start =
+    starts_at c.args.recording.now c.find_body-body.result c.in-From.start c.find_body-body.ensures c.in-From.is in
+    omega (arith, body.fits)
 
 pub play_body-requires : goal.play_body-requires
 play_body-requires c =

@@ -13,9 +13,10 @@ loop-turn-init c = record {
 }
 
 pub gather-count-requires : goal.gather-count-requires
-gather-count-requires c =
-    ((c.loop-turn-test.true, is_step c.loop-turn.turn c.if-turn-eq0.true, c.loop-turn.invariant.kept, c.requires.1),
-    c.loop-turn.invariant.room)
+gather-count-requires c = (
+  (c.loop-turn-test.true, is_step c.loop-turn.turn c.if-turn-eq0.true, c.loop-turn.invariant.kept, c.requires.1),
+  c.loop-turn.invariant.room,
+)
 
 pub loop-turn-smaller-then-turn-eq0 : goal.loop-turn-smaller-then-turn-eq0
 loop-turn-smaller-then-turn-eq0 c = (after_run _ _ _ _ _ c.after_run-turn.ensures _ c.gather-count.ensures).1

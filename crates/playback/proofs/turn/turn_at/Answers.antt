@@ -13,10 +13,12 @@ returns-in_default c =
 
 pub overflow_add-start : goal.overflow_add-start
 overflow_add-start c =
-    omega (arith,
-    size_fits _ _ _ _ c.requires.3 _ _
-    (part_leads _ _ c.requires.0 _ _ c.in-Entry.is c.first_entry-leading.ensures)
-    c.requires.0 c.requires.1 c.requires.2)
+    omega (
+      arith,
+      size_fits _ _ _ _ c.requires.3 _ _
+          (part_leads _ _ c.requires.0 _ _ c.in-Entry.is c.first_entry-leading.ensures)
+          c.requires.0 c.requires.1 c.requires.2,
+    )
 
 pub returns : goal.returns
 returns c =
