@@ -9,5 +9,5 @@ returns c =
     (record {
       made = made_of c.make.result;
       makes = rw c.clamp_byte.ensures at c.make.ensures;
-      answer_is = c.made_Word.ensures;
+      answer_is = c.made_word.ensures;
     })
