@@ -15,8 +15,8 @@ unfolding unpacked_instruction
 returns-then-begins_with c =
     let own = packed_instruction c.candidate-i.result in
     let tested : c.begins_with.result ≡ every (agree c.args.fields.now own) 7 =
-      c.begins_with.ensures
-      ∙ begins_with c.args.fields.now _ own (0 ∷ 0 ∷ 0 ∷ []) _ c.put_row.ensures (seven c.candidate-i.result) in
+    c.begins_with.ensures
+    ∙ begins_with c.args.fields.now _ own (0 ∷ 0 ∷ 0 ∷ []) _ c.put_row.ensures (seven c.candidate-i.result) in
     rw (le-leb _ _ c.if-fields-lt7.false, ← c.candidate-i.ensures, ← tested, c.if-begins_with.true)
 
 pub returns-else-begins_with : goal.returns-else-begins_with
@@ -24,6 +24,6 @@ unfolding unpacked_instruction
 returns-else-begins_with c =
     let own = packed_instruction c.candidate-i.result in
     let tested : c.begins_with.result ≡ every (agree c.args.fields.now own) 7 =
-      c.begins_with.ensures
-      ∙ begins_with c.args.fields.now _ own (0 ∷ 0 ∷ 0 ∷ []) _ c.put_row.ensures (seven c.candidate-i.result) in
+    c.begins_with.ensures
+    ∙ begins_with c.args.fields.now _ own (0 ∷ 0 ∷ 0 ∷ []) _ c.put_row.ensures (seven c.candidate-i.result) in
     rw (le-leb _ _ c.if-fields-lt7.false, ← c.candidate-i.ensures, ← tested, c.if-begins_with.false)
