@@ -3,7 +3,7 @@
 use Prim.Native.Nat.{ℕ, zero, suc, ◌+◌, ◌-◌, ◌≤◌, ◌<◌}
 use native.Mathlib.Nat.{add-zero}
 use native.Mathlib.Omega.{arith}
-use mathlib.Core.Path.{◌≡◌, refl, sym, ◌∙◌}
+use mathlib.Core.Path.{◌≡◌, refl, sym}
 use mathlib.Core.Bool.{Bool, true, false}
 use mathlib.Core.List.{List, [], ◌∷◌}
 use borrow.Author.Count.{below_more}
@@ -16,7 +16,7 @@ use Rattle.isa.specs.Refusals.{Numbered, located, unless}
 use Rattle.certificate.specs.Marks.{kind_of, lowest}
 use Rattle.certificate.specs.Findings.{Found, passes, fault, and_then}
 use Rattle.certificate.specs.Check.{decoded_found, pages_found, mark_found, marks_found}
-use Rattle.certificate.specs.Passes.{page_found, Ends, Searched}
+use Rattle.certificate.specs.Passes.{page_found, Searched}
 use Rattle.certificate.proofs.Facts.{not_both, unless_passes, both_pass}
 
 -- one mark, with each page

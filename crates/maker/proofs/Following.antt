@@ -30,7 +30,7 @@ use Rattle.certificate.proofs.Sound.{marked_in_rom}
 use Rattle.maker.specs.declared.Change.{Change}
 use Rattle.maker.specs.declared.Change.TheVariants.{Same, Changed, Impossible}
 use Rattle.maker.specs.Reach.{Continues, goes_next, wakes, jumps, branches, passes_by, calls, comes_back}
-use Rattle.maker.specs.Reach.{ends_start_up, Leads, Reachable, onward, UsesLevels, here, along}
+use Rattle.maker.specs.Reach.{ends_start_up, Reachable, onward, UsesLevels, here, along}
 use Rattle.maker.specs.Making.{Sound, Kept, Worked, joined, Demanded, Small, LeadsTo, HasKind, Followed}
 use Rattle.maker.specs.Making.{EdgeTo, Visited}
 use Rattle.maker.proofs.Rising.{then, by}

@@ -1,10 +1,6 @@
 -- `check::check` meets its contract: 1, 13 and 11, then the rules.
-use native.Mathlib.Omega.{arith}
-use mathlib.Core.Path.{sym, ◌∙◌}
-use lib.ListN.{length}
 use borrow.Author.Tests.{eq-eqb, ne_eqb}
 use Rattle.certificate.specs.Check.{check_of}
-use Rattle.certificate.proofs.Facts.{at_most_4096}
 use Rattle.certificate.proofs.check.check.Goals as goal
 
 pub returns-then-not-is_image_length : goal.returns-then-not-is_image_length
@@ -33,16 +29,6 @@ returns-then-not-names_only_sources c =
       eq-eqb _ _ c.if-certificate-marks_in.false,
       ← c.names_only_sources.ensures,
       c.if-not-names_only_sources.true,
-    )
-
-pub check_rules-requires : goal.check_rules-requires
-check_rules-requires c =
-    let asked = c in
-    let image = asked.args.image.now in
-    let is-image =
-    sym asked.is_image_length.ensures ∙ c.if-not-is_image_length.false in (
-      is-image,
-      omega (arith, at_most_4096 (length image), c.marks_in.ensures, c.if-certificate-marks_in.false),
     )
 
 pub returns : goal.returns

@@ -8,7 +8,7 @@ use borrow.Author.Tests.{lt-ltb, le-ltb}
 use Rattle.isa.specs.Refusals.{Answer}
 use Rattle.isa.specs.Rom.{Halves}
 use Rattle.isa.specs.Decode.{decode_of}
-use Rattle.isa.specs.FlowAt.{Continuing, continuation_of, continuation_from}
+use Rattle.isa.specs.FlowAt.{Continuing, continuation_from}
 use Rattle.isa.proofs.AtAddress.{in_range}
 use Rattle.isa.proofs.Halves.{halves_space}
 use Rattle.certificate.specs.Marks.{kind_of}

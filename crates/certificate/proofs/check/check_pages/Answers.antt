@@ -6,11 +6,8 @@ use borrow.Author.Rules.{rules}
 use lib.ListN.{length}
 use Rattle.isa.specs.Rom.{space_of, spaces_in, pages_in}
 use Rattle.isa.proofs.Halves.{halves}
-use Rattle.certificate.proofs.Pages.{known_none, known_more, known_all}
+use Rattle.certificate.proofs.Pages.{known_more, known_all}
 use Rattle.certificate.proofs.check.check_pages.Goals as goal
-
-pub loop-page-init : goal.loop-page-init
-loop-page-init c = (search rules, known_none _ _)
 
 pub check_marks-search-requires : goal.check_marks-search-requires
 check_marks-search-requires c =

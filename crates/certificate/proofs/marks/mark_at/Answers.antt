@@ -1,5 +1,4 @@
 -- `marks::mark_at` meets its contract: by where the address lies.
-use native.Mathlib.Omega.{arith}
 use mathlib.Core.Logic.{⊎_elim}
 use borrow.Author.Tests.{lt-ltb, le-ltb, le-leb, lt-leb}
 use Rattle.certificate.specs.Marks.{mark_at}

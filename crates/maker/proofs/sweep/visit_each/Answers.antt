@@ -3,11 +3,8 @@ use native.Mathlib.Omega.{arith}
 use mathlib.Core.Path.{◌≡◌}
 use lib.ListN.{length}
 use Rattle.isa.specs.Rom.{spaces_in}
-use Rattle.maker.proofs.Sweeps.{pages_none, pages_more, pages_all}
+use Rattle.maker.proofs.Sweeps.{pages_more, pages_all}
 use Rattle.maker.proofs.sweep.visit_each.Goals as goal
-
-pub loop-page-init : goal.loop-page-init
-loop-page-init c = (omega arith, pages_none)
 
 pub loop-page-preserved : goal.loop-page-preserved
 loop-page-preserved c = (

@@ -1,9 +1,0 @@
--- `check::marks_in` meets its contract.
-use borrow.Author.Tests.{eq-eqb, ne_eqb}
-use Rattle.certificate.proofs.check.marks_in.Goals as goal
-
-pub returns-then-length-eq-HALF_SPACE : goal.returns-then-length-eq-HALF_SPACE
-returns-then-length-eq-HALF_SPACE c = rw (eq-eqb _ _ c.if-length-eq-HALF_SPACE.true)
-
-pub returns-else-length-eq-HALF_SPACE : goal.returns-else-length-eq-HALF_SPACE
-returns-else-length-eq-HALF_SPACE c = rw (ne_eqb _ _ c.if-length-eq-HALF_SPACE.false)
