@@ -10,7 +10,7 @@ use lib.Dec.{eqb}
 use lib.ListN.{length, take, drop}
 use lib.Seq.{take_all}
 use borrow.Author.Tests.{eq-eqb, lt-ltb, le-ltb, ne_eqb}
-use Rattle.slices.specs.Bytes.{index_after, index_of, slice}
+use Rattle.slices.specs.Bytes.{index_after, index_of}
 use Rattle.intel_hex.specs.Lines.{before}
 use Rattle.intel_hex.proofs.LineLaws.{to_end}
 use Rattle.options.specs.declared.numbers.Parsed.{Parsed}
@@ -20,12 +20,17 @@ use Rattle.options.specs.declared.wired.Request.TheVariants as request
 use Rattle.options.specs.Numbers.{decimal_named}
 use Rattle.options.specs.Wired.{bit_named, parts_of, request_named, request_of, wired_after}
 
--- the index in all of a text
-pub index_in : (letter : ℕ) (text : List ℕ) → 0 + index_of letter (slice 0 (length text) text) ≡ index_of letter text
-unfolding slice
-index_in letter text =
-    let all : take (length text) text ≡ text = take_all (length text) text (omega arith) in
-    rw all (omega arith)
+-- the index is within the text, or its length
+pub index_within : (letter : ℕ) (text : List ℕ) → index_of letter text ≤ length text
+unfolding index_of index_after
+index_within letter [] = omega arith
+index_within letter (c ∷ rest) = go (eqb c letter) (index_within letter rest)
+  where
+    go :
+        (t : Bool) → index_of letter rest ≤ length rest
+        → index_after t (index_of letter rest) ≤ suc (length rest)
+    go true ih = omega arith
+    go false ih = omega arith
 
 -- the first part ends at the letter, and the parts after it follow; or it is all of the text
 pub first_part :
