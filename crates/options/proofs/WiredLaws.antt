@@ -22,7 +22,7 @@ use Rattle.options.specs.Wired.{bit_named, parts_of, request_named, request_of, 
 
 -- the index is within the text, or its length
 pub index_within : (letter : ℕ) (text : List ℕ) → index_of letter text ≤ length text
-unfolding index_of index_after
+unfolding index_of
 index_within letter [] = omega arith
 index_within letter (c ∷ rest) = go (eqb c letter) (index_within letter rest)
   where
@@ -36,7 +36,7 @@ index_within letter (c ∷ rest) = go (eqb c letter) (index_within letter rest)
 pub first_part :
     (letter : ℕ) (text : List ℕ) → index_of letter text < length text
     → parts_of letter text ≡ take (index_of letter text) text ∷ parts_of letter (drop (suc (index_of letter text)) text)
-unfolding parts_of index_of index_after
+unfolding parts_of index_of
 first_part letter [] h = absurd (omega arith)
 first_part letter (c ∷ rest) h = go (eqb c letter) h (first_part letter rest)
   where
@@ -52,7 +52,7 @@ first_part letter (c ∷ rest) h = go (eqb c letter) h (first_part letter rest)
     go false h ih = rw (ih (omega arith))
 
 pub only_part : (letter : ℕ) (text : List ℕ) → index_of letter text ≡ length text → parts_of letter text ≡ text ∷ []
-unfolding parts_of index_of index_after
+unfolding parts_of index_of
 only_part letter [] e = refl
 only_part letter (c ∷ rest) e = go (eqb c letter) e (only_part letter rest)
   where
@@ -67,7 +67,7 @@ only_part letter (c ∷ rest) e = go (eqb c letter) e (only_part letter rest)
 first_of :
     (letter : ℕ) (text : List ℕ)
     → parts_of letter text ≡ take (index_of letter text) text ∷ drop 1 (parts_of letter text)
-unfolding parts_of index_of index_after
+unfolding parts_of index_of
 first_of letter [] = refl
 first_of letter (c ∷ rest) = go (eqb c letter) (first_of letter rest)
   where
