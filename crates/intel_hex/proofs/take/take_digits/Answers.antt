@@ -41,11 +41,10 @@ returns-then-digits-count c =
     )
 
 pub sum_of-requires : goal.sum_of-requires
-sum_of-requires c =
-    (
-      omega (arith, c.if-digits-count.false),
-      omega (arith, c.byte_in-count.ensures, byte_at_most c.args.digits.now 0),
-    )
+sum_of-requires c = (
+  omega (arith, c.if-digits-count.false),
+  omega (arith, c.byte_in-count.ensures, byte_at_most c.args.digits.now 0),
+)
 
 pub returns-then-sum_of-ne0 : goal.returns-then-sum_of-ne0
 unfolding after_digits
