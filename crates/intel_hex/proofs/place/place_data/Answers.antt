@@ -1,11 +1,29 @@
 -- `place::place_data` meets its contract. The loop's invariant: placing the data from k on decides.
-use Prim.Native.Nat.{ℕ, ◌-◌}
+use Prim.Native.Nat.{ℕ, ◌+◌, ◌-◌}
 use native.Mathlib.Omega.{arith}
 use mathlib.Core.Path.{sym, ap, ◌∙◌}
 use Rattle.intel_hex.specs.Digits.{bytes_of}
 use Rattle.intel_hex.specs.Place.{data_of, placed}
+use Rattle.intel_hex.proofs.DigitLaws.{byte_at_most}
 use Rattle.intel_hex.proofs.PlaceLaws.{turn_outside, turn_differs, turn_placed, turns_end, inside_below}
 use Rattle.intel_hex.proofs.place.place_data.Goals as goal
+
+pub overflow_mul-start : goal.overflow_mul-start
+overflow_mul-start c = omega (arith, c.byte_in.ensures, byte_at_most c.args.digits.now 1)
+
+pub overflow_add-start : goal.overflow_add-start
+overflow_add-start c =
+    let digits = c.args.digits.now in
+    omega (arith, c.byte_in.ensures, c.byte_in-2.ensures, byte_at_most digits 1, byte_at_most digits 2)
+
+pub overflow_add-address : goal.overflow_add-address
+overflow_add-address c =
+    let digits = c.args.digits.now in
+    omega (arith, c.byte_in.ensures, c.byte_in-2.ensures, byte_at_most digits 1, byte_at_most digits 2, c.requires)
+
+pub overflow_cast-memory : goal.overflow_cast-memory
+overflow_cast-memory c =
+    omega (arith, c.byte_in-byte.ensures, byte_at_most c.args.digits.now (4 + c.loop-k.k))
 
 pub loop-k-init : goal.loop-k-init
 loop-k-init c =

@@ -13,7 +13,7 @@ pub returns-then-not-is_space_length : goal.returns-then-not-is_space_length
 returns-then-not-is_space_length c =
     let args = c.args in
     let asked = c.is_space_length in
-    reads_nothing args.text.now args.fill args.image-1.now
+    reads_nothing args.text.now args.fill args.image.now
     (sym asked.ensures ∙ c.if-not-is_space_length.true)
 
 pub fill_image-requires : goal.fill_image-requires
@@ -29,10 +29,9 @@ returns-in-Refused c =
     let args = c.args in
     let asked = c.is_space_length in
     let called = c.read_lines-reading in
-    let given = c.reading-1.given in
-    reads_refused args.text.now args.fill args.image-1.now
+    reads_refused args.text.now args.fill args.image.now
     (sym asked.ensures ∙ c.if-not-is_space_length.false) called.result _ called.ensures
-    given.0.0 given.0.1.0 given.1
+    c.in-Refused.line c.in-Refused.fault c.in-Refused.is
 
 pub returns-in-Whole : goal.returns-in-Whole
 unfolding none_named
@@ -40,6 +39,6 @@ returns-in-Whole c =
     let args = c.args in
     let asked = c.is_space_length in
     let called = c.read_lines-reading in
-    reads_whole args.text.now args.fill args.image-1.now
+    reads_whole args.text.now args.fill args.image.now
     (sym asked.ensures ∙ c.if-not-is_space_length.false) called.result _ called.ensures
     c.in-Whole.is _ _ c.fill_image.ensures c.lowest_of.ensures

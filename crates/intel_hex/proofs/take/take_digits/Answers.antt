@@ -23,6 +23,12 @@ returns-then-digits-lt10 c =
     let short = ne_eqb (length digits) (10 + count * 2) (λ e. omega (arith, e, c.if-digits-lt10.true)) in
     rw (← asked.ensures, c.if-not-is_digits.false, short)
 
+pub overflow_mul-count : goal.overflow_mul-count
+overflow_mul-count c = omega (arith, c.byte_in-count.ensures, byte_at_most c.args.digits.now 0)
+
+pub overflow_add-count : goal.overflow_add-count
+overflow_add-count c = omega (arith, c.byte_in-count.ensures, byte_at_most c.args.digits.now 0)
+
 pub returns-then-digits-count : goal.returns-then-digits-count
 unfolding after_digits
 returns-then-digits-count c =
@@ -35,12 +41,10 @@ returns-then-digits-count c =
     )
 
 pub sum_of-requires : goal.sum_of-requires
-sum_of-requires c =
-(
-      omega (arith, c.if-digits-count.false),
-      omega
-          (arith, c.byte_in-count.ensures, byte_at_most c.args.digits.now 0),
-    )
+sum_of-requires c = (
+  omega (arith, c.if-digits-count.false),
+  omega (arith, c.byte_in-count.ensures, byte_at_most c.args.digits.now 0),
+)
 
 pub returns-then-sum_of-ne0 : goal.returns-then-sum_of-ne0
 unfolding after_digits

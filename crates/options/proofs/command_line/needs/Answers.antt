@@ -33,4 +33,4 @@ returns-in-Play c =
 
 pub returns-in_default : goal.returns-in_default
 returns-in_default c =
-    rw (no_needs_lem c.args.command c.in_default.in_default-own.keys6, ne_eqb _ _ c.if-places-eq0.false)
+    rw (no_needs_lem c.args.command c.in_default.not-Check c.in_default.not-Certify c.in_default.not-Trace c.in_default.not-Size c.in_default.not-Play, ne_eqb _ _ c.if-places-eq0.false)

@@ -16,4 +16,4 @@ returns-else-places-eq0-2 c =
 
 pub returns-in_default : goal.returns-in_default
 returns-in_default c =
-    rw (no_files_lem c.args.command c.in_default.in_default-own.keys2, ne_eqb _ _ c.if-places-eq0.false)
+    rw (no_files_lem c.args.command c.in_default.not-Play, ne_eqb _ _ c.if-places-eq0.false)

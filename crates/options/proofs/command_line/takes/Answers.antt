@@ -118,4 +118,4 @@ pub returns-in_default : goal.returns-in_default
 unfolding has_option
 returns-in_default c =
     let args = c.args in
-    rw (← c.is_common.ensures, c.if-is_common.false, no_options_lem args.command c.in_default.in_default-own.keys6)
+    rw (← c.is_common.ensures, c.if-is_common.false, no_options_lem args.command c.in_default.not-Check c.in_default.not-Certify c.in_default.not-List c.in_default.not-Trace c.in_default.not-Size)

@@ -48,8 +48,8 @@ returns c =
     let args = c.args in
     let most = (sized (length args.file.now) is).most in
     let filled =
-    part_filled args.space-1.now (20480 - length args.file.now) (omega (arith, c.requires)) args.file.now _
-    (omega (arith, c.requires)) c.copy.ensures.1 in
+    part_filled args.space.now (20480 - length args.file.now) (omega (arith, c.requires)) args.file.now _
+    (omega (arith, c.requires)) c.copy.ensures.copied in
     rw (
       ← test.ensures,
       c.if-not-is_image_length.false,
