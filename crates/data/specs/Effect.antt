@@ -1,6 +1,6 @@
 -- What each instruction does to data space and to the flag pair in use (the manual's instruction pages; document 01,
 -- "Flags by the manual").
-use Rattle.std.specs.Prelude.{ℕ, Bool, true, false, List, get_or}
+use Rattle.std.specs.Prelude.{ℕ, Bool, List, get_or}
 use Rattle.alu.specs.declared.Flags.{Flags}
 use Rattle.alu.specs.declared.Outcome.{Outcome}
 use Rattle.alu.specs.Alu.{

@@ -15,7 +15,7 @@ use Rattle.isa.specs.Displacement.{forward_of}
 use Rattle.isa.specs.Table.{bytes_of}
 use Rattle.isa.specs.Map.{entry_of, form_of}
 use Rattle.isa.specs.Rom.{space_of, rom_at, operand_at}
-use Rattle.isa.specs.Decode.{Decoding, with_form, with_second, with_first, decode_at, decode_in}
+use Rattle.isa.specs.Decode.{with_form, with_second, with_first, decode_at, decode_in}
 use Rattle.isa.specs.Counts.{is_undefined, member, undefined_opcodes}
 use Rattle.isa.specs.DecodeRefusals.{Opcode, Cut, DecodeRefusals}
 use Rattle.isa.proofs.AtAddress.{in_space}

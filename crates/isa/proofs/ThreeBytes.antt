@@ -1,13 +1,13 @@
 -- Of the two bytes that follow an opcode, those that its instruction does not have do not matter.
 use Prim.Native.Nat.{ℕ}
-use mathlib.Core.Path.{◌≡◌, refl, sym, ◌∙◌}
+use mathlib.Core.Path.{◌≡◌, refl}
 use mathlib.Core.Bool.{Bool, true, false, cond}
 use mathlib.Core.List.{List}
 use lib.Dec.{ltb}
 use Rattle.isa.specs.declared.rom.RomByte.TheVariants.{Byte}
 use Rattle.isa.specs.Displacement.{forward_of}
 use Rattle.isa.specs.Table.{bytes_of}
-use Rattle.isa.specs.Map.{Addressing, rr, short, [X], [Y], Entry, JRNZ, JRNC, JRZ, JRC, CALL, JP, JRR, JRS, RES}
+use Rattle.isa.specs.Map.{rr, short, [X], [Y], Entry, JRNZ, JRNC, JRZ, JRC, CALL, JP, JRR, JRS, RES}
 use Rattle.isa.specs.Map.{SET, LD-A, LD-to, INC, DEC, ADD, SUB, AND, CP, LDI-A, LDI-rr, ADDI, SUBI, ANDI, CPI}
 use Rattle.isa.specs.Map.{COM, RLC, RET, RETI, STOP, WAIT, #, entry_of, form_as, form_of}
 use Rattle.isa.specs.Rom.{rom_at, operand_at}

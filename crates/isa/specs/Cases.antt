@@ -9,7 +9,7 @@ use Rattle.isa.specs.declared.Operand.TheVariants.{Direct}
 use Rattle.isa.specs.declared.Instruction.{Instruction}
 use Rattle.isa.specs.declared.Instruction.TheVariants as I
 use Rattle.isa.specs.declared.Form.TheVariants.{Is}
-use Rattle.isa.specs.declared.Condition.TheVariants.{Zero, Carry, Bit}
+use Rattle.isa.specs.declared.Condition.TheVariants.{Zero, Bit}
 use Rattle.isa.specs.declared.Flow.{Flow}
 use Rattle.isa.specs.declared.Flow.TheVariants as flow
 

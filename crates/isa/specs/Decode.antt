@@ -1,6 +1,6 @@
 -- Decoding at a program address of an image (document 01, "Program space and data space" and "Decode at an address").
 use Rattle.std.specs.Prelude.{ℕ, cond, List, ltb, length}
-use Rattle.isa.specs.Refusals.{Numbered, plain, located, numbered, Answer, done, refused}
+use Rattle.isa.specs.Refusals.{plain, located, numbered, Answer, done, refused}
 use Rattle.isa.specs.Rom.{is_space, is_image, space_of, rom_at, operand_at}
 use Rattle.isa.specs.Table.{bytes_of, cycles_of}
 use Rattle.isa.specs.Map.{entry_of, form_of}

@@ -1,5 +1,5 @@
 -- Signed displacements, as the manual's relative addressing has them.
-use Rattle.std.specs.Prelude.{ℕ, ◌+◌, ◌-◌, ◌/◌, ◌%◌, ◌^◌, Bool, true, false, cond, ltb, ℤ, pos, negsuc, ◌+ℤ◌, ◌-ℤ◌}
+use Rattle.std.specs.Prelude.{ℕ, ◌+◌, ◌-◌, ◌/◌, ◌%◌, ◌^◌, cond, ltb, ℤ, pos, negsuc, ◌+ℤ◌, ◌-ℤ◌}
 
 -- the number n of the given count of bits, read as signed: from half their range up it stands for a negative number
 abbrev pub signed : ℕ → ℕ → ℤ

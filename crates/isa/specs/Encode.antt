@@ -1,8 +1,7 @@
 -- The bytes of each instruction, by the opcodes of the manual's pages, and writing them (document 01, "Write an
 -- instruction").
-use Rattle.std.specs.Prelude.{◌≡◌, ℕ, ◌+◌, ◌-◌, ◌*◌, ◌/◌, ◌%◌, ◌^◌, Bool, true, false, cond, ◌&&◌, List, [], ◌∷◌, ◌++◌, ltb, leb, ℤ, pos, negsuc, length, drop}
+use Rattle.std.specs.Prelude.{ℕ, ◌+◌, ◌-◌, ◌*◌, ◌/◌, ◌%◌, ◌^◌, Bool, cond, ◌&&◌, List, [], ◌∷◌, ltb, ℤ}
 use Rattle.std.specs.Int.Signed.{mag}
-use Rattle.isa.specs.Refusals.{Numbered, plain, numbered}
 use Rattle.isa.specs.Displacement.{modulo}
 use Rattle.isa.specs.declared.Operand.{Operand}
 use Rattle.isa.specs.declared.Operand.TheVariants.{Direct, Short, ThroughX, ThroughY}
@@ -10,8 +9,6 @@ use Rattle.isa.specs.declared.Instruction.{Instruction}
 use Rattle.isa.specs.declared.Instruction.TheVariants as I
 use Rattle.isa.specs.declared.Encoded.{Encoded}
 use Rattle.isa.specs.declared.Encoded.TheVariants.{One, Two, Three, Unencodable}
-use Rattle.isa.specs.declared.Written.{Written}
-use Rattle.isa.specs.declared.Written.TheVariants.{Done, Refused}
 
 -- whether a displacement lies in a signed field of the given count of bits; `mag` is n for n and for -(n + 1)
 abbrev pub in_field : ℕ → ℤ → Bool

@@ -1,6 +1,6 @@
 -- Where the instruction at an address continues: what decoding answers, seen through where its instruction continues.
 use Rattle.std.specs.Prelude.{ℕ}
-use Rattle.isa.specs.Refusals.{Numbered, numbered, Answer, done, refused}
+use Rattle.isa.specs.Refusals.{numbered, Answer, done, refused}
 use Rattle.isa.specs.Displacement.{forward_of}
 use Rattle.isa.specs.Decode as decode
 use Rattle.isa.specs.Decode.{Decoding}

@@ -1,6 +1,6 @@
 -- Writing an instruction into a buffer (document 01, "Write an instruction").
 use Rattle.std.specs.Prelude.{ℕ, ◌≡◌, cond, List, ◌++◌, leb, length, drop}
-use Rattle.isa.specs.Refusals.{Numbered, plain, numbered, Answer, done, refused}
+use Rattle.isa.specs.Refusals.{plain, numbered, Answer, done, refused}
 use Rattle.isa.specs.Encode.{bytes}
 use Rattle.isa.specs.declared.Encoded.{Encoded}
 use Rattle.isa.specs.declared.Encoded.TheVariants.{One, Two, Three, Unencodable}

@@ -1,7 +1,5 @@
 -- `well_formed::addresses_fit` meets its contract. The loop's invariant: the first i addresses fit.
-use Prim.Native.Nat.{◌-◌}
 use mathlib.Core.Path.{◌≡◌, refl, sym}
-use mathlib.Core.Bool.{true}
 use native.Mathlib.Omega.{arith}
 use native.Mathlib.Numerals.{add-one}
 use borrow.Author.Rules.{rules}

@@ -1,7 +1,4 @@
 -- `effect::effect` meets its contract.
-use mathlib.Core.Logic.{⊎_elim}
-use borrow.Enum.Known.{lives_at}
-use Rattle.isa.specs.contracts.Instruction as Instruction
 use Rattle.data.specs.Effect.{effect_of}
 use Rattle.std.proofs.Common.{arith}
 use Rattle.std.proofs.lemmas.Grind.{common_steps}

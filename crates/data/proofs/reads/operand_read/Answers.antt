@@ -1,7 +1,4 @@
 -- `reads::operand_read` meets its contract: each form that reads, and all others at once.
-use mathlib.Core.Logic.{⊎_elim}
-use borrow.Enum.Known.{lives_at}
-use Rattle.isa.specs.contracts.Instruction as Instruction
 use Rattle.data.specs.Reads.{operand_read_of}
 use Rattle.std.proofs.Common.{arith}
 use Rattle.std.proofs.lemmas.Grind.{common_steps}

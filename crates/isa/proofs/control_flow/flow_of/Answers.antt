@@ -1,6 +1,5 @@
 -- `control_flow::flow_of` meets its contract: the instructions that its last arm takes all continue at the next
 -- address.
-use mathlib.Core.Path.{sym}
 use borrow.Author.Rules.{rules}
 use Rattle.isa.specs.ControlFlow.{flow_of}
 use Rattle.std.proofs.Common.{arith}

@@ -1,9 +1,8 @@
 -- `decode::decode` meets its contract.
 use borrow.Author.Tests.{lt-ltb, le-ltb}
-use Rattle.std.proofs.Common.{◌≡◌, ℕ, List, ◌<◌, true, sym, ◌∙◌}
-use Rattle.isa.specs.Refusals.{Answer}
+use Rattle.std.proofs.Common.{◌≡◌, ℕ, List, ◌<◌, sym, ◌∙◌}
 use Rattle.isa.specs.Rom.{IsImage, space_of}
-use Rattle.isa.specs.Decode.{Decoding, answer_of, decode_at, decode_in, decode_of}
+use Rattle.isa.specs.Decode.{answer_of, decode_at, decode_in, decode_of}
 use Rattle.isa.specs.declared.Decoded.{Decoded}
 use Rattle.isa.proofs.Halves.{is_space_lem}
 use Rattle.isa.proofs.decode.decode.Goals as goal

@@ -1,10 +1,10 @@
 -- `parts::page_in` meets its contract.
 use native.Mathlib.Omega.{arith}
-use Prim.Native.Nat.{◌+◌, ◌-◌, ◌*◌, ◌/◌, ◌%◌, ◌≤◌}
+use Prim.Native.Nat.{◌-◌, ◌/◌}
 use mathlib.Core.Path.{◌≡◌, sym}
-use lib.ListN.{length, length-take}
+use lib.ListN.{length}
 use Rattle.isa.specs.Rom.{spaces_in}
-use Rattle.isa.proofs.Halves.{cancel, page_only, page_fits, page_picked}
+use Rattle.isa.proofs.Halves.{cancel, page_only, page_picked}
 use Rattle.isa.proofs.parts.page_in.Goals as goal
 
 pub returns-then-end-le-HALF_SPACE : goal.returns-then-end-le-HALF_SPACE

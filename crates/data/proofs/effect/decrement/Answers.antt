@@ -1,7 +1,0 @@
--- `effect::decrement` meets its contract.
-use Rattle.data.proofs.effect.decrement.Goals as goal
-
-pub returns : goal.returns
-returns c is =
-    let k = c.before.before in
-    rw (c.store_result.ensures, k.decremented-result.ensures, k.read.ensures is)
