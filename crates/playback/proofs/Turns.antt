@@ -1,7 +1,7 @@
 -- Laws of turns, for those who play by them.
-use Prim.Native.Nat.{ℕ, zero, suc}
+use Prim.Native.Nat.{ℕ}
 use mathlib.Core.Path.{◌≡◌, refl, ap, ◌∙◌}
-use mathlib.Core.Bool.{true, false}
+use mathlib.Core.Bool.{false}
 use mathlib.Core.List.{List}
 use Rattle.isa.specs.Refusals.{Answer, Ended, done, refused}
 use Rattle.machine.specs.declared.Machine.{Machine}
@@ -9,11 +9,11 @@ use Rattle.machine.specs.State.{fresh_of, ended_of, reset_of, host_stored, host_
 use Rattle.machine.specs.Steps.{Reported}
 use Rattle.machine.specs.Run.{run_of}
 use Rattle.playback.specs.declared.Entry.{Entry}
-use Rattle.playback.specs.declared.Entry.TheVariants.{Step, Store, Reset}
+use Rattle.playback.specs.declared.Entry.TheVariants.{Step}
 use Rattle.playback.specs.declared.turn.Turn.{Turn}
 use Rattle.playback.specs.Entries.{entries_of}
 use Rattle.playback.specs.Play.{playing_as, played_by}
-use Rattle.playback.specs.Turn.{entry_by, entry_of, played_from, plays_on, Kept, FirstTurn}
+use Rattle.playback.specs.Turn.{entry_of, played_from, plays_on, Kept, FirstTurn}
 use Rattle.playback.specs.Turn.{After, AfterStore, AfterReset, Gathered, run_left, AfterRun}
 
 -- the entry of a turn, by its kind: of a step (the check finds the others by itself)
