@@ -1,7 +1,7 @@
 -- Laws of turns, for those who play by them.
-use Prim.Native.Nat.{ℕ, zero, suc}
+use Prim.Native.Nat.{ℕ}
 use mathlib.Core.Path.{◌≡◌, refl, ap, ◌∙◌}
-use mathlib.Core.Bool.{true, false}
+use mathlib.Core.Bool.{false}
 use mathlib.Core.List.{List}
 use Rattle.isa.specs.Refusals.{Answer, Ended, done, refused}
 use Rattle.machine.specs.declared.Machine.{Machine}
@@ -9,27 +9,16 @@ use Rattle.machine.specs.State.{fresh_of, ended_of, reset_of, host_stored, host_
 use Rattle.machine.specs.Steps.{Reported}
 use Rattle.machine.specs.Run.{run_of}
 use Rattle.playback.specs.declared.Entry.{Entry}
-use Rattle.playback.specs.declared.Entry.TheVariants.{Step, Store, Reset}
+use Rattle.playback.specs.declared.Entry.TheVariants.{Step}
 use Rattle.playback.specs.declared.turn.Turn.{Turn}
 use Rattle.playback.specs.Entries.{entries_of}
 use Rattle.playback.specs.Play.{playing_as, played_by}
-use Rattle.playback.specs.Turn.{entry_by, entry_of, played_from, plays_on, Kept, FirstTurn}
+use Rattle.playback.specs.Turn.{entry_of, played_from, plays_on, Kept, FirstTurn}
 use Rattle.playback.specs.Turn.{After, AfterStore, AfterReset, Gathered, run_left, AfterRun}
 
--- the entry of a turn, by its kind
+-- the entry of a turn, by its kind: of a step (the check finds the others by itself)
 pub is_step : (t : Turn) → t.kind ≡ 0 → entry_of t ≡ Step t.first
 is_step t h = rw h refl
-
-pub is_store : (t : Turn) → t.kind ≡ 1 → entry_of t ≡ Store t.first t.second
-is_store t h = rw h refl
-
-pub is_reset_lem : (t : Turn) → (t.kind ≡ 0 → ⊥) → (t.kind ≡ 1 → ⊥) → entry_of t ≡ Reset
-is_reset_lem t no_step no_store = by_kind t.kind no_step no_store
-  where
-    by_kind : (kind : ℕ) → (kind ≡ 0 → ⊥) → (kind ≡ 1 → ⊥) → entry_by kind t.first t.second ≡ Reset
-    by_kind zero no_step no_store = absurd (no_step refl)
-    by_kind (suc zero) no_step no_store = absurd (no_store refl)
-    by_kind (suc (suc kind)) no_step no_store = refl
 
 -- the playing is over
 pub is_over :

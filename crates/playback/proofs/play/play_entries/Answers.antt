@@ -1,7 +1,7 @@
 -- `play::play_entries` meets its contract: what each key leaves is what its entry, or the row of steps, leaves.
 use mathlib.Core.Path.{sym, ◌∙◌}
 use Rattle.std.proofs.Common.{rules}
-use Rattle.playback.proofs.Turns.{is_step, is_store, is_reset_lem, is_over, first_kept, first_plays}
+use Rattle.playback.proofs.Turns.{is_step, is_over, first_kept, first_plays}
 use Rattle.playback.proofs.Turns.{after_run, after_store, after_reset}
 use Rattle.playback.proofs.play.play_entries.Goals as goal
 
