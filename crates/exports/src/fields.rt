@@ -78,6 +78,7 @@ fn on(form: u8, operand: Operand) -> [u8; 7]
 }
 
 // The seven fields that an instruction is read from.
+#[tactic(auto, unfolding(crate::specs::Fields::packed_instruction))]
 fn fields_of(i: Instruction) -> [u8; 7]
     ensures { result ≡ packed_instruction i }
 {
@@ -134,6 +135,7 @@ pub fn put_row(out: &mut [u8], i: Instruction, bytes: u8, cycles: u8)
     out[9] = 0;
 }
 
+#[tactic(auto, unfolding(crate::specs::Fields::operand_by))]
 fn operand_of(kind: u8, value: u8) -> Operand
     ensures { result ≡ operand_by kind value }
 {
@@ -146,6 +148,7 @@ fn operand_of(kind: u8, value: u8) -> Operand
 }
 
 // The instruction of a form, from the fields that the form uses.
+#[tactic(auto, unfolding(crate::specs::Fields::instruction_by, crate::specs::Fields::instructions))]
 fn of_form(form: u8, o: Operand, n: u8, target: u16, second: u8, bit: u8, d: i8) -> Instruction
     ensures { result ≡ instruction_by form o n target second bit d }
 {
@@ -184,6 +187,7 @@ fn of_form(form: u8, o: Operand, n: u8, target: u16, second: u8, bit: u8, d: i8)
 }
 
 // The one instruction that seven fields can be of.
+#[tactic(auto, unfolding(crate::specs::Fields::instruction_at))]
 fn candidate(fields: &[u8]) -> Instruction
     requires { 7 ≤ length fields.now }
     ensures { result ≡ instruction_at fields.now }

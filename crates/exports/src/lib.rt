@@ -63,6 +63,7 @@ fn decode_with(image: &[u8], address: u32, bank: u8, out: &mut [u8]) -> u64
 
 // Decodes at an address of the image into `out`.
 #[unsafe(no_mangle)]
+#[tactic(auto, unfolding(crate::specs::Lent::decode_lent))]
 pub extern "C" fn st62_decode(image: &[u8], address: u32, bank: u32, out: &mut [u8]) -> u64
     ensures { lent result out.new ≡ decode_lent image.now address bank out.old }
 {
@@ -74,6 +75,7 @@ pub extern "C" fn st62_decode(image: &[u8], address: u32, bank: u32, out: &mut [
 
 // Writes the instruction of the first seven fields into `out`.
 #[unsafe(no_mangle)]
+#[tactic(auto, unfolding(crate::specs::Lent::write_lent))]
 pub extern "C" fn st62_write(fields: &[u8], out: &mut [u8]) -> u64
     ensures { lent result out.new ≡ write_lent fields.now out.old }
 {
@@ -84,6 +86,7 @@ pub extern "C" fn st62_write(fields: &[u8], out: &mut [u8]) -> u64
 }
 
 #[unsafe(no_mangle)]
+#[tactic(auto, using(crate::proofs::Pasting::valid_length), unfolding(crate::specs::Lent::reset_lent, crate::specs::States::unpacked))]
 pub extern "C" fn st62_reset(state: &mut [u8]) -> u64
     ensures { lent result state.new ≡ reset_lent state.old }
 {
@@ -97,6 +100,7 @@ pub extern "C" fn st62_reset(state: &mut [u8]) -> u64
 
 // The host's store of a value at a data address.
 #[unsafe(no_mangle)]
+#[tactic(auto, using(crate::proofs::Pasting::valid_length), unfolding(crate::specs::Lent::store_lent, crate::specs::States::unpacked))]
 pub extern "C" fn st62_store(state: &mut [u8], address: u32, value: u32) -> u64
     ensures { lent result state.new ≡ store_lent state.old address value }
 {
@@ -117,6 +121,7 @@ pub extern "C" fn st62_store(state: &mut [u8], address: u32, value: u32) -> u64
 }
 
 #[unsafe(no_mangle)]
+#[tactic(auto, using(crate::proofs::Pasting::valid_length), unfolding(crate::specs::Lent::step_lent, crate::specs::States::unpacked, crate::specs::States::machine_at))]
 pub extern "C" fn st62_step(image: &[u8], state: &mut [u8], request: u32) -> u64
     ensures { lent result state.new ≡ step_lent image.now state.old request }
 {
@@ -137,6 +142,7 @@ pub extern "C" fn st62_step(image: &[u8], state: &mut [u8], request: u32) -> u64
 
 // Reads a data byte of a machine, with its origin.
 #[unsafe(no_mangle)]
+#[tactic(auto, using(crate::proofs::Pasting::valid_length), unfolding(crate::specs::Lent::read_word, crate::specs::States::unpacked))]
 pub extern "C" fn st62_read(image: &[u8], state: &[u8], address: u32) -> u64
     ensures { result ≡ read_word image.now state.now address }
 {
@@ -151,6 +157,7 @@ pub extern "C" fn st62_read(image: &[u8], state: &[u8], address: u32) -> u64
 
 // A run of n steps. A refused one, and one without room for its report, leave state and report.
 #[unsafe(no_mangle)]
+#[tactic(auto, using(crate::proofs::Pasting::valid_length), unfolding(crate::specs::Lent::run_lent, crate::specs::Lent::ran_lent, crate::specs::Lent::report_bytes, crate::specs::States::unpacked, crate::specs::States::machine_at))]
 pub extern "C" fn st62_run(
     image: &[u8],
     state: &mut [u8],
@@ -188,6 +195,7 @@ pub extern "C" fn st62_run(
 // Plays a session's record on a fresh machine, whatever the state held before. Where nothing is played, where the state
 // has not 280 bytes, and where the report has fewer than eight, both are left.
 #[unsafe(no_mangle)]
+#[tactic(auto, unfolding(crate::specs::Lent::play_lent, crate::specs::Lent::played_lent, crate::specs::Lent::report_bytes))]
 pub extern "C" fn st62_play(
     image: &[u8],
     recording: &[u8],
@@ -219,6 +227,7 @@ pub extern "C" fn st62_play(
 }
 
 #[unsafe(no_mangle)]
+#[tactic(auto, using(crate::proofs::Clamping::check_clamped))]
 pub extern "C" fn st62_check(image: &[u8], certificate: &[u8], wired: u32) -> u64
     ensures { result ≡ answer_word (check_of image.now certificate.now wired) }
 {
@@ -246,6 +255,7 @@ pub extern "C" fn st62_width(image: &[u8], certificate: &[u8], count: u32) -> u6
 
 // Answers a job with its line, written into `line`.
 #[unsafe(no_mangle)]
+#[tactic(auto, unfolding(crate::specs::Lent::job_lent))]
 pub extern "C" fn st62_job(job: &[u8], line: &mut [u8]) -> u64
     ensures { lent result line.new ≡ job_lent job.now line.old }
 {

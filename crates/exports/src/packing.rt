@@ -29,6 +29,7 @@ fn high(n: u16) -> u8
 }
 
 // The twelve bytes of control and flags.
+#[tactic(auto, unfolding(crate::specs::States::control_bytes))]
 fn control_bytes(c: Control, f: FlagPairs) -> [u8; 12]
     ensures { result ≡ control_bytes c f }
 {
@@ -52,6 +53,7 @@ fn control_bytes(c: Control, f: FlagPairs) -> [u8; 12]
     ]
 }
 
+#[tactic(auto, unfolding(crate::specs::States::stack_bytes))]
 fn stack_bytes(stack: &[u16; 6]) -> [u8; 12]
     ensures { result ≡ stack_bytes stack.now }
 {
@@ -111,6 +113,7 @@ fn digit(n: u32, weight: u32) -> u8
 }
 
 // A run's report: steps and cycles, four bytes each.
+#[tactic(auto, unfolding(crate::specs::Lent::report_bytes))]
 pub fn report_bytes(steps: u32, cycles: u32) -> [u8; 8]
     ensures { result ≡ report_bytes steps cycles }
 {

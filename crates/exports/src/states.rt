@@ -26,6 +26,7 @@ fn flags_valid(state: &[u8]) -> bool
 }
 
 // Whether a slice is a valid state.
+#[tactic(auto, unfolding(crate::specs::States::is_valid))]
 pub fn is_valid(state: &[u8]) -> bool
     ensures { result ≡ is_valid state.now }
 {
@@ -50,6 +51,7 @@ fn word_at(state: &[u8], at: usize) -> u16
 }
 
 // The mode of a number from 0 to 4.
+#[tactic(auto, unfolding(crate::specs::States::mode_of))]
 fn mode_of(number: u8) -> Mode
     ensures { result ≡ mode_of number }
 {
@@ -75,6 +77,7 @@ pub fn data_of(state: &[u8]) -> [u8; 256]
     bytes
 }
 
+#[tactic(auto, unfolding(crate::specs::States::stack_at))]
 pub fn stack_of(state: &[u8]) -> [u16; 6]
     requires { length state.now ≡ 280 }
     ensures { result ≡ stack_at state.now }
@@ -100,6 +103,7 @@ fn pair_at(state: &[u8], at: usize) -> Flags
     }
 }
 
+#[tactic(auto, unfolding(crate::specs::States::pairs_at))]
 pub fn pairs_of(state: &[u8]) -> FlagPairs
     requires { length state.now ≡ 280 }
     ensures { result ≡ pairs_at state.now }
@@ -111,6 +115,7 @@ pub fn pairs_of(state: &[u8]) -> FlagPairs
     }
 }
 
+#[tactic(auto, unfolding(crate::specs::States::control_at))]
 pub fn control_of(state: &[u8]) -> Control
     requires { length state.now ≡ 280 }
     ensures { result ≡ control_at state.now }
@@ -124,6 +129,7 @@ pub fn control_of(state: &[u8]) -> Control
 }
 
 // The machine of a state.
+#[tactic(auto, unfolding(crate::specs::States::machine_at))]
 pub fn unpack(state: &[u8]) -> Machine
     requires { length state.now ≡ 280 }
     ensures { result ≡ machine_at state.now }
