@@ -139,10 +139,6 @@ pub record Known (image certificate : List ℕ) (pages end : ℕ) (f : Found) : 
       → page_found (space_of image j) certificate (lowest certificate + i) (get_or certificate i 0) ≡ passes
   pub first : First image certificate pages end f
 
-pub known_none : (image certificate : List ℕ) → Known image certificate 0 (length certificate) passes
-known_none image certificate =
-    record { fits = omega arith; before = λ i j h l. absurd (omega arith); first = refl }
-
 module _ (image certificate : List ℕ) (k : ℕ) where
   -- with one page more
   more_pages : (i : ℕ)

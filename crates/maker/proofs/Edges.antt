@@ -12,7 +12,6 @@ use lib.Seq.{get_or-set_other}
 use borrow.Author.Tests.{eqb-true, eqb-false, lt-ltb, le-ltb}
 use Rattle.certificate.specs.Marks.{mark_at, kind_at, need_at}
 use Rattle.maker.specs.declared.Change.{Change}
-use Rattle.maker.specs.declared.Change.TheVariants.{Same}
 use Rattle.maker.specs.Reach.{along}
 use Rattle.maker.specs.Making.{Sound, Kept, Worked, joined, Demanded, Edge, leaves, FirstEdge}
 use Rattle.maker.specs.Making.{link_at, NoEdges, Known, Explored, Raised, Spread}
@@ -110,21 +109,6 @@ recorded_one edges edge to levels earlier v low v-is image certificate known eac
         let other = get_or-set_other edges edge e v 0 (eqb-false e edge p) in
         rw other (known.edge e (λ z. n (rw other z)))
 
--- then another
-pub recorded_two : {before middle after : List ℕ} {P Q : List ℕ → List ℕ → Type 0}
-    → ((image certificate : List ℕ) → Known image certificate before → P image certificate × Unit {0} →
-    Known image certificate middle)
-    → ((image certificate : List ℕ) → Known image certificate middle → Q image certificate × Unit {0} →
-    Known image certificate after)
-    → (image certificate : List ℕ) → Known image certificate before → P image certificate × (Q image certificate
-    × Unit {0})
-    → Known image certificate after
-recorded_two f g image certificate known each = g image certificate (f image certificate known (each.0, tt)) each.1
-
--- addresses are explored
-pub explored_none : {image certificate edges : List ℕ} → Explored image certificate certificate edges edges Same
-explored_none wired s known = (record { sound = s; told = (refl, tt); kept = λ b h. refl }, known)
-
 -- an address is visited, and the edges that leave it are noted
 pub explored_one : {image before after edges edges' : List ℕ} {p : Change} {Q : List ℕ → Type 0}
     {P : List ℕ → List ℕ → Type 0}
@@ -145,9 +129,6 @@ explored_more f g wired s known =
     (by (λ z. tt) (then t.0 u.0), u.1)
 
 -- needs are raised
-pub raised_none : {edges certificate : List ℕ} → Raised edges certificate certificate Same
-raised_none image wired s known = record { sound = s; told = (refl, tt); kept = λ b h. refl }
-
 pub raised_one : {edges before after : List ℕ} {p : Change} (number link : ℕ)
     → link ≡ link_at edges number → link ≢ 0
     → Demanded before after (leaves number) (kind_at before (leaves number))

@@ -89,34 +89,6 @@ follows_free {before} {middle} {a} {kind} {s} {p} d n free image wired so r each
       λ z. ((t.1 n).kind_is, tt),
     )
 
-pub follows_none : {certificate : List ℕ} {a kind : ℕ} → Followed certificate certificate a kind [] Same
-follows_none image wired s r each = (record { sound = s; told = (refl, tt); kept = λ b h. refl }, λ n. tt)
-
--- where nothing is refused, no part is
-joined_impossible : (p : Change) → joined p Impossible ≡ Impossible
-joined_impossible Same = refl
-joined_impossible Changed = refl
-joined_impossible Impossible = refl
-
-possible_first : {p : Change} (q : Change) → (joined p q ≡ Impossible → ⊥) → p ≡ Impossible → ⊥
-possible_first q n e = n (rw e)
-
-possible_second : (p : Change) {q : Change} → (joined p q ≡ Impossible → ⊥) → q ≡ Impossible → ⊥
-possible_second p n e = n (rw e (joined_impossible p))
-
-pub follows_two : {before middle after : List ℕ} {a kind : ℕ} {s t : Successor} {p q : Change}
-    → Followed before middle a kind (s ∷ []) p → Followed middle after a kind (t ∷ []) q
-    → Followed before after a kind (s ∷ t ∷ []) (joined p q)
-follows_two {s = s} {p = p} {q = q} f g image wired so r each =
-    let u = f image wired so r (each.0, tt) in
-    let v = g image wired u.0.sound r each.1 in
-    let least = (reached_kind s.address s.kind (onward r each.0)).0 in (
-      by (λ z. (z.0.0, z.1)) (then u.0 v.0),
-      λ n.
-          let k = (u.1 (possible_first q n)).0 in
-          (v.0.kept s.address (rw k least) ∙ k, v.1 (possible_second p n)),
-    )
-
 -- what holds of every successor, put otherwise
 every_by : {P Q : Successor → Type 0} → ((s : Successor) → P s → Q s) → (l : List Successor) → Every P l → Every Q l
 every_by f [] e = tt

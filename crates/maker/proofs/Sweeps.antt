@@ -1,9 +1,9 @@
 -- Sweeps over all addresses, and the demands at the vectors.
 use Prim.Native.Nat.{ℕ, ◌+◌, ◌-◌, ◌≤◌, ◌<◌}
 use native.Mathlib.Omega.{arith}
-use mathlib.Core.Path.{◌≡◌, refl, sym, ◌∙◌}
+use mathlib.Core.Path.{◌≡◌, refl}
 use mathlib.Core.Logic.{◌⊎◌, inl, inr}
-use mathlib.Core.Bool.{Bool, true, false, false≢true}
+use mathlib.Core.Bool.{Bool, true, false}
 use mathlib.Core.List.{List}
 use lib.Dec.{ltb}
 use lib.ListN.{length}
@@ -65,9 +65,6 @@ PassedPages image before after a end p =
     (wired : ℕ) → Sound image wired before
     → Worked image wired (λ m. (k : ℕ) → k < end → RunsAt image k a m) before after p
 
-pub pages_none : {image certificate : List ℕ} {a : ℕ} → PassedPages image certificate certificate a 0 Same
-pages_none wired s = record { sound = s; told = (refl, λ k h. absurd (omega arith)); kept = λ b h. refl }
-
 pub pages_more : {image before middle after : List ℕ} {a i : ℕ} {p q : Change}
     → PassedPages image before middle a i p
     → ((wired : ℕ) → Sound image wired middle → Worked image wired (RunsAt image i a) middle after q)
@@ -97,11 +94,6 @@ passed_all {before = before} h f wired s =
 pub seeds : {before after : List ℕ} {p : Change} (wired : ℕ) (k : Source) → is_named wired k ≡ true
     → Demanded before after (vector_of k) 3 0 p → Seeds wired (SourceKind wired k) before after p
 seeds wired k w d image s = by (λ m. λ w. m.kind_is) (d image wired s (at_vector k w) here).0
-
-pub seeds_none : {certificate : List ℕ} (wired : ℕ) (k : Source) → is_named wired k ≡ false
-    → Seeds wired (SourceKind wired k) certificate certificate Same
-seeds_none wired k f image s =
-    record { sound = s; told = (refl, λ t. absurd (false≢true (sym f ∙ t))); kept = λ b h. refl }
 
 -- all vectors, one after the other
 pub seeds_all : {a b c d e f g : List ℕ} {p p₀ p₁ p₂ p₃ p₄ : Change} (wired : ℕ) → Demanded a b reset_vector 1 0 p
