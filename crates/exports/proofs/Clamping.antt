@@ -1,14 +1,13 @@
 -- A number beyond its range is refused as the one that stands in for it.
 use Prim.Native.Nat.{ℕ}
 use mathlib.Core.Path.{◌≡◌, refl, sym, ◌∙◌}
-use mathlib.Core.Logic.{inl, inr}
 use mathlib.Core.Bool.{Bool, true, false, cond}
 use mathlib.Core.List.{List}
 use native.Mathlib.Omega.{arith}
 use borrow.Author.Tests.{ltb-false, le-ltb}
 use lib.Dec.{eqb, ltb}
 use lib.ListN.{length}
-use Rattle.isa.specs.Refusals.{plain, Answer, done, refused, unless}
+use Rattle.isa.specs.Refusals.{plain, unless}
 use Rattle.isa.specs.Rom.{is_image}
 use Rattle.isa.specs.Sources.{names_only_sources}
 use Rattle.isa.specs.Decode.{decode_at, decode_in}
@@ -23,8 +22,7 @@ use Rattle.machine.specs.Operands.{read_if_done, step_read_of}
 use Rattle.certificate.specs.Levels.{levels_of}
 use Rattle.certificate.specs.Findings.{fault}
 use Rattle.certificate.specs.Check.{marks_in, verdict, check_of}
-use Rattle.maker.specs.Make.{Makes}
-use Rattle.exports.specs.Lent.{Lent, stepped_lent, MakeLent}
+use Rattle.exports.specs.Lent.{stepped_lent}
 
 step_by_lem : (image : List ℕ) (m : Machine) (n : ℕ) (b : Bool) → ltb n 256 ≡ b
     → step_of image m (cond b n 255) ≡ step_of image m n
@@ -98,22 +96,3 @@ decode_by image bank a false e = rw e
 
 pub decode_clamped : (image : List ℕ) (bank a : ℕ) → decode_in image bank (cond (ltb a 4096) a 4096) ≡ decode_in image bank a
 decode_clamped image bank a = decode_by image bank a (ltb a 4096) refl
-
--- the maker: 255 names no source alone, and neither does a greater number
-make_by : (image : List ℕ) (n : ℕ) (out after : List ℕ) (a : Answer ℕ) (b : Bool) → ltb n 256 ≡ b
-    → Makes image (cond b n 255) out after a → Makes image n out after a
-make_by image n out after a true e m = m
-make_by image n out after (done levels) false e m = absurd (m.0.1.0 refl)
-make_by image n out after (refused r) false e (inl one, kept) = (inl one, kept)
-make_by image n out after (refused r) false e (inr (not-one, inl eleven), kept) =
-    (inr (not-one, inl (le-ltb n 32 (omega (arith, ltb-false n 256 e)), eleven.1)), kept)
-make_by image n out after (refused r) false e (inr (not-one, inr (not-eleven, more)), kept) = absurd (not-eleven refl)
-
-pub make_clamped : {image : List ℕ} {n : ℕ} {out : List ℕ} {l : Lent} → MakeLent image (cond (ltb n 256) n 255) out l
-    → MakeLent image n out l
-make_clamped {image} {n} {out} {l} m =
-    record {
-      made = m.made;
-      makes = make_by image n out l.buffer m.made (ltb n 256) refl m.makes;
-      answer_is = m.answer_is;
-    }

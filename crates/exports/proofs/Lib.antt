@@ -2,7 +2,6 @@ pub mod Every
 pub mod Pasting
 pub mod Rows
 pub mod Clamping
-pub mod JobLine
 pub mod Inverse
 pub mod Runs
 pub mod Plays

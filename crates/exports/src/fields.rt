@@ -205,6 +205,7 @@ fn candidate(fields: &[u8]) -> Instruction
 }
 
 // Whether the first seven bytes of a slice are those of a row.
+#[tactic(auto, using(crate::proofs::Every::every_more, crate::proofs::Every::every_fails), unfolding(crate::specs::Every::every))]
 fn begins_with(fields: &[u8], own: &[u8; 10]) -> bool
     requires { 7 ≤ length fields.now }
     ensures { result ≡ every (agree fields.now own.now) 7 }
@@ -221,6 +222,7 @@ fn begins_with(fields: &[u8], own: &[u8; 10]) -> bool
 
 // Reads an instruction. A row that is not exactly that of its instruction, as one with a byte in a field that the form
 // does not use, is no instruction's.
+#[tactic(auto, using(crate::proofs::Rows::seven, crate::proofs::Rows::begins_with), unfolding(crate::specs::Fields::unpacked_instruction))]
 pub fn read(fields: &[u8]) -> InstructionRead
     ensures { result ≡ unpacked_instruction fields.now }
 {

@@ -41,6 +41,7 @@ use playback::play::play;
 use states::{control_of, data_of, is_valid, pairs_of, stack_of, unpack};
 
 // Decodes at an address of the image with a bank byte into `out`.
+#[tactic(auto, using(crate::proofs::Clamping::decode_clamped), unfolding(crate::specs::Lent::decoded_lent))]
 fn decode_with(image: &[u8], address: u32, bank: u8, out: &mut [u8]) -> u64
     ensures { lent result out.new
         ≡ decoded_lent out.old (decode_in image.now bank address) }
@@ -121,7 +122,7 @@ pub extern "C" fn st62_store(state: &mut [u8], address: u32, value: u32) -> u64
 }
 
 #[unsafe(no_mangle)]
-#[tactic(auto, using(crate::proofs::Pasting::valid_length), unfolding(crate::specs::Lent::step_lent, crate::specs::States::unpacked, crate::specs::States::machine_at))]
+#[tactic(auto, using(crate::proofs::Pasting::valid_length, crate::proofs::Clamping::step_lent_clamped), unfolding(crate::specs::Lent::step_lent, crate::specs::States::unpacked, crate::specs::States::machine_at))]
 pub extern "C" fn st62_step(image: &[u8], state: &mut [u8], request: u32) -> u64
     ensures { lent result state.new ≡ step_lent image.now state.old request }
 {

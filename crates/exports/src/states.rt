@@ -11,6 +11,7 @@ use control::{Control, Mode};
 use machine::{FlagPairs, Machine};
 
 // Whether the seven bytes from 260 on are 0 or 1.
+#[tactic(auto, using(crate::proofs::Every::every_more, crate::proofs::Every::every_fails), unfolding(crate::specs::Every::every))]
 fn flags_valid(state: &[u8]) -> bool
     requires { length state.now ≡ 280 }
     ensures { result ≡ every (is_flag state.now) 7 }
