@@ -3,12 +3,10 @@ use Prim.Native.Nat.{ℕ, suc, ◌+◌, ◌*◌, ◌≤◌, ◌<◌}
 use native.Mathlib.Omega.{arith}
 use native.Mathlib.Numerals.{add-one}
 use mathlib.Core.Path.{◌≡◌, sym, ◌∙◌}
-use mathlib.Core.Bool.{true, false, and-eq-true_iff}
+use mathlib.Core.Bool.{true, false}
 use mathlib.Core.List.{List}
-use lib.Dec.{leb, ltb}
 use lib.ListN.{length, drop, get_or, set, length-take, length-drop, drop_of_length-le}
 use lib.Seq.{drop-cons, get_or-take, get_or-drop}
-use borrow.Author.Tests.{ltb-true}
 use Rattle.intel_hex.specs.declared.Fault.TheVariants.{OutsideImage, DifferingData}
 use Rattle.intel_hex.specs.Digits.{byte_at, bytes_of}
 use Rattle.intel_hex.specs.Place.{faulty, goes, agrees, data_of, is_inside, placed}
@@ -82,7 +80,3 @@ unfolding placed
 turns_end first address memory digits count k whole end =
     let over = drop_of_length-le (data_of count (bytes_of digits)) {i = k} (rw (data_length digits count whole) end) in
     rw over
-
--- an address inside is one of program space
-pub inside_below : (first address : ℕ) → is_inside first address ≡ true → address < 4096
-inside_below first address e = ltb-true address 4096 ((and-eq-true_iff (leb first address) (ltb address 4096)).0 e).1

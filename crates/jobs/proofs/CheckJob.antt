@@ -1,27 +1,16 @@
--- Laws of a job: its count is that of two equal halves and the wired byte, and a job put together is taken apart into
--- its parts.
+-- Laws of a job: a job put together is taken apart into its parts.
 use Prim.Native.Nat.{ℕ, ◌+◌, ◌-◌, ◌/◌, ◌≤◌}
 use native.Mathlib.Omega.{arith}
 use native.Mathlib.Nat.{div-add-mod'}
 use mathlib.Core.Path.{◌≡◌, refl}
-use mathlib.Core.Bool.{Bool, true, false, ◌||◌, false≢true}
+use mathlib.Core.Bool.{true}
 use mathlib.Core.List.{List, ◌++◌}
-use lib.Dec.{eqb}
 use lib.ListN.{length, take, drop, length-append}
 use lib.Seq.{take_at, drop_at, take_all, drop-drop}
-use borrow.Author.Tests.{eq-eqb, eqb-true, le-leb}
+use borrow.Author.Tests.{eq-eqb, le-leb}
 use Rattle.isa.proofs.Halves.{by_length}
 use Rattle.certificate.specs.Check.{check_of}
 use Rattle.jobs.specs.CheckJob.{is_count, count_of, job_of, job_for, JobsAreChecked}
-
--- a count is that of the wired byte, and of the image and the certificate, which have as many bytes each
-pub halves : (n : ℕ) → is_count n ≡ true → n ≡ 1 + ((n - 1) / 2 + (n - 1) / 2)
-halves n e = go (eqb n 4097) (eqb n 8193) refl refl e
-  where
-    go : (s t : Bool) → eqb n 4097 ≡ s → eqb n 8193 ≡ t → (s || t) ≡ true → n ≡ 1 + ((n - 1) / 2 + (n - 1) / 2)
-    go true t p q e = let h = eqb-true n 4097 p in omega arith
-    go false true p q e = let h = eqb-true n 8193 q in omega arith
-    go false false p q e = absurd (false≢true e)
 
 module _ (wired : ℕ) (image certificate : List ℕ) (same : length certificate ≡ length image) where
   abbrev job : List ℕ

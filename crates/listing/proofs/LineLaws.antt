@@ -4,7 +4,7 @@ use native.Mathlib.Omega.{arith}
 use native.Mathlib.Numerals.{add-one}
 use mathlib.Core.Path.{◌≡◌, refl, ap, sym, ◌∙◌}
 use mathlib.Core.List.{List, [], ◌∷◌, ◌++◌, append_assoc, append-nil}
-use lib.ListN.{length, take, drop, set, take-append-drop, length-append, length-take, replicate-append-replicate}
+use lib.ListN.{length, take, set, length-append, length-take, replicate-append-replicate}
 use lib.Seq.{length-take-le, take_all, take-append_seam, take-suc-set}
 use Rattle.listing.specs.declared.Line.{Line}
 use Rattle.listing.specs.Pieces.{content_of, Holds, Adds, pad_to, spaces}
@@ -24,10 +24,6 @@ both {a} {b} {s} p q =
 -- a piece after what a line holds
 pub then : {a b : List ℕ} {s t : Line} → Holds a s → Adds b s t → Holds (a ++ b) t
 then {a} {b} p q = record { content = q.content ∙ rw p.content (cut_once 128 a b) }
-
--- .. and has at most 128 bytes
-pub added_most : {b : List ℕ} {s t : Line} → Adds b s t → length (content_of t) ≤ 128
-added_most p = rw (p.content, length-take) (omega arith)
 
 -- a line has at most as many bytes as its array
 content_most : (letters : List ℕ) (count : ℕ) → length letters ≡ 128 → length (take count letters) ≤ 128
@@ -55,13 +51,6 @@ module _ (letters : List ℕ) (count : ℕ) (array : length letters ≡ 128) whe
       let short : length (take count letters ++ (letter ∷ [])) ≤ 128 = rw (length-append, size) (omega arith) in
       rw (add-one, take_all 128 (take count letters ++ (letter ∷ [])) short) (take-suc-set letters count letter within)
 
-  -- how many bytes a line has
-  pub room_length : count < 128 → count ≡ length (take count letters)
-  room_length h = sym (length-take-le count letters (omega arith))
-
-  pub full_length : 128 ≤ count → 128 ≡ length (take count letters)
-  full_length h = rw (take_all count letters (omega arith)) (sym array)
-
 -- a line that stays as it is
 pub unchanged : (s : Line) → length s.letters ≡ 128 → Adds [] s s
 unchanged s array = record { content = same_content s.letters s.count array }
@@ -69,10 +58,6 @@ unchanged s array = record { content = same_content s.letters s.count array }
 -- the first letters, as many as a line has bytes
 pub content_within : (letters : List ℕ) (count : ℕ) → length (take count letters) ≤ length letters
 content_within letters count = rw length-take (omega arith)
-
-pub content_prefix : (letters : List ℕ) (count : ℕ) → take (length (take count letters)) letters ≡ take count letters
-content_prefix letters count =
-    rw (take-append-drop count letters) at (take-append_seam (take count letters) (drop count letters))
 
 -- so many spaces that the line is full either way
 cut_spaces :

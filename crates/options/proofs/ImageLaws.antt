@@ -1,10 +1,10 @@
 -- Laws of the image that a file holds.
 use Prim.Native.Nat.{ℕ, ◌+◌, ◌-◌, ◌≤◌}
 use native.Mathlib.Omega.{arith}
-use mathlib.Core.Path.{◌≡◌, refl, sym, ap, ◌∙◌}
+use mathlib.Core.Path.{◌≡◌, refl}
 use mathlib.Core.Bool.{Bool, true, false, cond}
 use mathlib.Core.List.{List, [], ◌∷◌, ◌++◌, append-nil}
-use lib.ListN.{length, take, drop, get_or, drop_of_length-le, length-drop}
+use lib.ListN.{length, take, drop, drop_of_length-le, length-drop}
 use lib.Seq.{take_all}
 use lib.Dec.{eqb}
 use borrow.Author.Tests.{eqb-true, eqb-false}
@@ -64,14 +64,6 @@ module _ (space : List ℕ) (start : ℕ) (fits : start ≤ length space) where
         rw (part_back after, i)
 
 module _ (space : List ℕ) (whole : length space ≡ 20480) where
-  -- there is room for a file in as many of the last bytes as it has
-  pub part_room :
-      (size : ℕ) → size ≤ 20480
-      → size ≤ length (mid_of (20480 - size) (length space - (20480 - size)) space)
-  part_room size most =
-      let count = part_length space (20480 - size) (omega arith) in
-      rw (part space (20480 - size) (omega arith)) (omega arith)
-
   module _ (file : List ℕ) (fill : ℕ) (after : List ℕ) (answer : HexAnswer) (r : ImageRead) where
     -- a HEX file read as 2K, as 4K, and by the lowest address that it names
     pub small_read :

@@ -3,7 +3,7 @@ use Prim.Native.Nat.{ℕ}
 use native.Mathlib.Omega.{arith}
 use mathlib.Core.Path.{◌≡◌, refl}
 use mathlib.Core.Bool.{Bool, true, false, cond}
-use mathlib.Core.List.{List, [], ◌∷◌}
+use mathlib.Core.List.{[], ◌∷◌}
 use Rattle.isa.specs.Refusals.{unless}
 use Rattle.options.specs.declared.command_line.Usage.{Usage}
 use Rattle.options.specs.declared.command_line.Usage.TheVariants as usage

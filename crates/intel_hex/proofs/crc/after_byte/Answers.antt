@@ -1,12 +1,9 @@
 -- `crc::after_byte` meets its contract. The loop's invariant: the bits from i on decide.
 use Prim.Native.Nat.{◌+◌, ◌-◌}
 use native.Mathlib.Omega.{arith}
-use mathlib.Core.Path.{◌≡◌, refl, ◌∙◌}
+use mathlib.Core.Path.{◌≡◌, ◌∙◌}
 use Rattle.intel_hex.proofs.CrcLaws.{bit_more, no_bits}
 use Rattle.intel_hex.proofs.crc.after_byte.Goals as goal
-
-pub loop-i-init : goal.loop-i-init
-loop-i-init c = (omega arith, refl)
 
 pub loop-i-preserved : goal.loop-i-preserved
 loop-i-preserved c =

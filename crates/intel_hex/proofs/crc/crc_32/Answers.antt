@@ -1,14 +1,10 @@
 -- `crc::crc_32` meets its contract. The loop's invariant: the bytes from i on decide.
-use Prim.Native.Nat.{◌-◌}
 use native.Mathlib.Omega.{arith}
-use mathlib.Core.Path.{refl, ◌∙◌}
+use mathlib.Core.Path.{◌∙◌}
 use lib.ListN.{drop_of_length-le}
 use Rattle.intel_hex.specs.Crc.{crc_of}
 use Rattle.intel_hex.proofs.CrcLaws.{byte_more, no_bytes}
 use Rattle.intel_hex.proofs.crc.crc_32.Goals as goal
-
-pub loop-i-init : goal.loop-i-init
-loop-i-init c = (omega arith, refl)
 
 pub loop-i-preserved : goal.loop-i-preserved
 loop-i-preserved c =

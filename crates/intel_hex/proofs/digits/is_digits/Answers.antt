@@ -1,14 +1,10 @@
 -- `digits::is_digits` meets its contract. The loop's invariant: the digits from i on decide.
-use Prim.Native.Nat.{◌-◌}
 use native.Mathlib.Omega.{arith}
-use mathlib.Core.Path.{refl, sym, ap, ◌∙◌}
+use mathlib.Core.Path.{sym, ap, ◌∙◌}
 use lib.ListN.{drop_of_length-le}
 use Rattle.intel_hex.specs.Digits.{are_digits}
 use Rattle.intel_hex.proofs.DigitLaws.{no_digit, one_digit, no_more}
 use Rattle.intel_hex.proofs.digits.is_digits.Goals as goal
-
-pub loop-i-init : goal.loop-i-init
-loop-i-init c = (omega arith, refl)
 
 pub returns-then-digit_of-eq16 : goal.returns-then-digit_of-eq16
 returns-then-digit_of-eq16 c =

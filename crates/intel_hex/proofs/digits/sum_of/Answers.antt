@@ -1,14 +1,11 @@
 -- `digits::sum_of` meets its contract. The loop's invariant: with the bytes from k on, the sum is that of all.
-use Prim.Native.Nat.{◌-◌, ◌<◌}
+use Prim.Native.Nat.{◌<◌}
 use native.Mathlib.Omega.{arith}
 use mathlib.Core.Path.{ap}
 use lib.ListN.{length, drop_of_length-le}
 use Rattle.intel_hex.specs.Digits.{bytes_of, total}
 use Rattle.intel_hex.proofs.DigitLaws.{pairs, total_at_most, total_step, total_none}
 use Rattle.intel_hex.proofs.digits.sum_of.Goals as goal
-
-pub loop-k-init : goal.loop-k-init
-loop-k-init c = (omega arith, omega arith)
 
 pub overflow_add-sum : goal.overflow_add-sum
 overflow_add-sum c =

@@ -1,14 +1,11 @@
 -- `image::fill_image` meets its contract. The loop's invariant: the first i bytes are written.
-use Prim.Native.Nat.{◌-◌, ◌<◌}
+use Prim.Native.Nat.{◌<◌}
 use native.Mathlib.Omega.{arith}
-use mathlib.Core.Path.{◌≡◌, refl, sym, ◌∙◌}
+use mathlib.Core.Path.{◌≡◌, sym, ◌∙◌}
 use lib.ListN.{length, get_or, length-set}
 use Rattle.intel_hex.specs.Image.{filled}
 use Rattle.intel_hex.proofs.ImageLaws.{filled_length, filled_at, stored, stored_all}
 use Rattle.intel_hex.proofs.image.fill_image.Goals as goal
-
-pub loop-i-init : goal.loop-i-init
-loop-i-init c = (omega arith, refl, refl)
 
 pub loop-i-preserved : goal.loop-i-preserved
 loop-i-preserved c =

@@ -1,12 +1,9 @@
 -- `image::lowest_of` meets its contract. The loop's invariant: the cells from i on decide.
 use Prim.Native.Nat.{◌+◌, ◌-◌}
 use native.Mathlib.Omega.{arith}
-use mathlib.Core.Path.{◌≡◌, refl, sym, ◌∙◌}
+use mathlib.Core.Path.{◌≡◌, sym, ◌∙◌}
 use Rattle.intel_hex.proofs.ImageLaws.{named_here, named_later, named_none}
 use Rattle.intel_hex.proofs.image.lowest_of.Goals as goal
-
-pub loop-i-init : goal.loop-i-init
-loop-i-init c = (omega arith, refl)
 
 pub returns-then-memory-i-lt256 : goal.returns-then-memory-i-lt256
 returns-then-memory-i-lt256 c =

@@ -1,14 +1,10 @@
 -- `lines::line_size` meets its contract. The loop's invariant: i, and the size from i on, make the size.
-use Prim.Native.Nat.{◌-◌}
 use native.Mathlib.Omega.{arith}
 use mathlib.Core.Path.{ap}
 use lib.ListN.{drop_of_length-le}
 use Rattle.intel_hex.specs.Lines.{line_size}
 use Rattle.intel_hex.proofs.LineLaws.{size_ends, size_more, size_none}
 use Rattle.intel_hex.proofs.lines.line_size.Goals as goal
-
-pub loop-i-init : goal.loop-i-init
-loop-i-init c = (omega arith, omega arith)
 
 pub returns-then-text-i-eq10 : goal.returns-then-text-i-eq10
 returns-then-text-i-eq10 c =

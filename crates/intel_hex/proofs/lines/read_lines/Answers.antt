@@ -1,16 +1,13 @@
 -- `lines::read_lines` meets its contract. The loop's invariant: the lines from here on decide.
 use Prim.Native.Nat.{◌≤◌}
 use native.Mathlib.Omega.{arith}
-use mathlib.Core.Path.{refl, sym, ◌∙◌}
+use mathlib.Core.Path.{sym, ◌∙◌}
 use mathlib.Core.Bool.{false}
 use lib.ListN.{length, take}
 use lib.Seq.{length-take-le}
 use Rattle.intel_hex.proofs.LineLaws.{size_within, rest_less}
 use Rattle.intel_hex.proofs.ReadLaws.{line_faulty, line_on, turn_refused, turn_on, text_ends, text_breaks, number_next}
 use Rattle.intel_hex.proofs.lines.read_lines.Goals as goal
-
-pub loop-rest-init : goal.loop-rest-init
-loop-rest-init c = (omega arith, refl)
 
 pub slice_bounds-without_last-end : goal.slice_bounds-without_last-end
 slice_bounds-without_last-end c =

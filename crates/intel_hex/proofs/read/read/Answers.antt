@@ -1,11 +1,7 @@
 -- `read::read` meets its contract: the image is written only after every line.
-use native.Mathlib.Omega.{arith}
-use mathlib.Core.Path.{◌≡◌, sym, ◌∙◌}
+use mathlib.Core.Path.{sym, ◌∙◌}
 use mathlib.Core.Bool.{true}
-use lib.ListN.{length}
-use Rattle.isa.specs.Rom.{is_space}
 use Rattle.intel_hex.specs.Place.{none_named}
-use Rattle.isa.proofs.Halves.{space_most}
 use Rattle.intel_hex.proofs.ReadLaws.{reads_nothing, reads_refused, reads_whole}
 use Rattle.intel_hex.proofs.read.read.Goals as goal
 
@@ -15,13 +11,6 @@ returns-then-not-is_space_length c =
     let asked = c.is_space_length in
     reads_nothing args.text.now args.fill args.image.now
     (sym asked.ensures ∙ c.if-not-is_space_length.true)
-
-pub fill_image-requires : goal.fill_image-requires
-fill_image-requires c =
-    let asked = c.is_space_length in
-    let size = length c.args.image.now in
-    let is : is_space size ≡ true = sym asked.ensures ∙ c.if-not-is_space_length.false in
-    omega (arith, space_most size is)
 
 pub returns-in-Refused : goal.returns-in-Refused
 unfolding none_named

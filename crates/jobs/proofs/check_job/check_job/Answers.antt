@@ -1,10 +1,7 @@
 -- `check_job::check_job` meets its contract: 20, 21, 22, then the check of the parts.
-use native.Mathlib.Omega.{arith}
-use mathlib.Core.Path.{◌≡◌, sym, ◌∙◌}
 use mathlib.Core.Bool.{true}
 use borrow.Author.Tests.{eq-eqb, ne_eqb, le-leb, lt-leb}
 use Rattle.jobs.specs.CheckJob.{is_count, job_of}
-use Rattle.jobs.proofs.CheckJob.{halves}
 use Rattle.jobs.proofs.check_job.check_job.Goals as goal
 
 pub returns-then-job-lt3 : goal.returns-then-job-lt3
@@ -39,13 +36,6 @@ returns-then-job-count c =
       c.if-not-is_count.false,
       ne_eqb _ _ c.if-job-count.true,
     )
-
-pub check_parts-requires : goal.check_parts-requires
-check_parts-requires c =
-    let n = c.count_of-count.result in
-    let asked = c.is_count in
-    let is : is_count n ≡ true = sym asked.ensures ∙ c.if-not-is_count.false in
-    omega (arith, halves n is, c.if-job-count.false, c.if-job-lt3.false)
 
 pub returns : goal.returns
 unfolding job_of

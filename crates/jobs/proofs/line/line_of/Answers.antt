@@ -16,7 +16,3 @@ unfolding line_of
 returns-in-Accepted c =
     rw c.in-Accepted.is
     (then c.new.ensures (both c.decimal.ensures c.letter.ensures))
-
-pub returns-in-Refused : goal.returns-in-Refused
-returns-in-Refused c =
-    rw (c.in-Refused.is, ← c.number_of.ensures) c.refusal_line.ensures

@@ -14,9 +14,6 @@ loop-at-init c =
     let none : c.length-at.result - c.length-at.result ≡ 0 = omega arith in
     (rw none (record { content = same_content line.letters line.count (search rules) }), omega arith, omega arith)
 
-pub loop-at-smaller : goal.loop-at-smaller
-loop-at-smaller c = omega arith
-
 pub loop-at-preserved : goal.loop-at-preserved
 loop-at-preserved c =
     let loop = c.loop-at in
@@ -32,11 +29,3 @@ returns-else-at-lt-MOST c =
     (omega (arith, counted.ensures, c.if-at-lt-MOST.false))
     (omega (arith, counted.ensures, c.if-at-lt-MOST.false))
     loop.invariant.0
-
-pub returns-after-loop-at : goal.returns-after-loop-at
-returns-after-loop-at c =
-    let loop = c.loop-at in
-    let counted = c.length-at in
-    let same : c.args.column - length (content_of c.args.self) ≡ loop.at - counted.result =
-    omega (arith, counted.ensures) in
-    rw same loop.invariant.0

@@ -16,6 +16,3 @@ pub returns-else-lowest-ge-HALF_SPACE : goal.returns-else-lowest-ge-HALF_SPACE
 unfolding sized_for
 returns-else-lowest-ge-HALF_SPACE c =
     rw (c.in-Read.is, lt-leb _ _ c.if-lowest-ge-PROGRAM_SPACE.false, lt-leb _ _ c.if-lowest-ge-HALF_SPACE.false)
-
-pub returns-in-Refused : goal.returns-in-Refused
-returns-in-Refused c = rw c.in-Refused.is

@@ -5,7 +5,7 @@ use mathlib.Core.Path.{◌∙◌, sym}
 use lib.ListN.{length}
 use Rattle.isa.proofs.Halves.{sized}
 use Rattle.options.specs.Image.{raw_got}
-use Rattle.options.proofs.ImageLaws.{part_filled, part_room}
+use Rattle.options.proofs.ImageLaws.{part_filled}
 use Rattle.options.proofs.image.raw_image.Goals as goal
 
 pub returns-then-not-is_image_length : goal.returns-then-not-is_image_length
@@ -13,11 +13,6 @@ unfolding raw_got
 returns-then-not-is_image_length c =
     let test = c.is_image_length in
     rw (← test.ensures, c.if-not-is_image_length.true)
-
-pub size_of-rom-requires : goal.size_of-rom-requires
-size_of-rom-requires c =
-    let test = c.is_image_length in
-    sym test.ensures ∙ c.if-not-is_image_length.false
 
 pub returns-then-not-may_be : goal.returns-then-not-may_be
 unfolding raw_got
@@ -31,13 +26,6 @@ returns-then-not-may_be c =
       ← asked.ensures,
       c.if-not-may_be.true,
     )
-
-pub copy-requires : goal.copy-requires
-copy-requires c =
-    let test = c.is_image_length in
-    let is = sym test.ensures ∙ c.if-not-is_image_length.false in
-    part_room c.args.space.now c.requires (length c.args.file.now)
-    (sized (length c.args.file.now) is).most
 
 pub returns : goal.returns
 unfolding raw_got

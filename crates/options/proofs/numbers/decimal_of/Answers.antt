@@ -1,16 +1,12 @@
 -- `numbers::decimal_of` meets its contract. The loop's invariant: the value so far, and the letters from i on, decide.
-use Prim.Native.Nat.{◌-◌}
 use native.Mathlib.Omega.{arith}
-use mathlib.Core.Path.{refl, sym, ◌∙◌}
+use mathlib.Core.Path.{sym, ◌∙◌}
 use Rattle.options.proofs.NumberLaws.{above_digits, all_digits, below_digits, no_text, one_more, some_text}
 use Rattle.options.proofs.NumberLaws.{too_large}
 use Rattle.options.proofs.numbers.decimal_of.Goals as goal
 
 pub returns-then-text-eq0 : goal.returns-then-text-eq0
 returns-then-text-eq0 c = sym (no_text c.args.text.now c.if-text-eq0.true)
-
-pub loop-i-init : goal.loop-i-init
-loop-i-init c = (omega arith, omega arith, refl)
 
 pub returns-then-letter-lt48 : goal.returns-then-letter-lt48
 returns-then-letter-lt48 c =

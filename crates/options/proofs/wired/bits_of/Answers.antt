@@ -1,12 +1,8 @@
 -- `wired::bits_of` meets its contract. The loop's invariant: the byte so far, and the names in the rest, decide.
-use native.Mathlib.Omega.{arith}
-use mathlib.Core.Path.{refl, sym, ◌∙◌}
+use mathlib.Core.Path.{sym, ◌∙◌}
 use Rattle.options.proofs.WiredLaws.{last_source, no_source, one_source}
 use borrow.Author.Rules.{rules}
 use Rattle.options.proofs.wired.bits_of.Goals as goal
-
-pub loop-rest-init : goal.loop-rest-init
-loop-rest-init c = (omega arith, refl)
 
 pub returns-then-bit-eq0 : goal.returns-then-bit-eq0
 returns-then-bit-eq0 c =

@@ -1,7 +1,6 @@
 -- `words::is` meets its contract. The loop's invariant: the letters from i on decide.
-use Prim.Native.Nat.{◌-◌}
 use native.Mathlib.Omega.{arith}
-use mathlib.Core.Path.{refl, sym, ◌∙◌}
+use mathlib.Core.Path.{sym, ◌∙◌}
 use Rattle.options.proofs.WordLaws.{no_letters, other_length, other_letter, same_letter}
 use Rattle.options.proofs.words.is.Goals as goal
 
@@ -9,9 +8,6 @@ pub returns-then-word-name : goal.returns-then-word-name
 returns-then-word-name c =
     let args = c.args in
     sym (other_length args.word.now args.name.now c.if-word-name.true)
-
-pub loop-i-init : goal.loop-i-init
-loop-i-init c = (omega arith, refl)
 
 pub returns-then-word-i : goal.returns-then-word-i
 returns-then-word-i c =

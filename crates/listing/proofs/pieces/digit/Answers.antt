@@ -1,9 +1,0 @@
--- `pieces::digit` meets its contract.
-use borrow.Author.Tests.{lt-ltb, le-ltb}
-use Rattle.listing.proofs.pieces.digit.Goals as goal
-
-pub returns-then-low-lt10 : goal.returns-then-low-lt10
-returns-then-low-lt10 c = rw (lt-ltb _ _ c.if-low-lt10.true)
-
-pub returns-else-low-lt10 : goal.returns-else-low-lt10
-returns-else-low-lt10 c = rw (le-ltb _ _ c.if-low-lt10.false)
