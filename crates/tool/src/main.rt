@@ -17,14 +17,18 @@ mod trace;
 use arguments::read_arguments;
 use options::command_line::Usage;
 use options::words::PLACES;
+use std::process::ExitCode;
 
-// The program: answers its exit status.
-#[unsafe(no_mangle)]
-pub extern "C" fn st62_main() -> i32 {
+// Does what the arguments ask for, and answers the exit status.
+fn st62(rt: &HostRuntime) -> u8 {
     let mut places = [0usize; PLACES];
-    let usage = read_arguments(&mut places);
+    let usage = read_arguments(rt, &mut places);
     if let Usage::Fine = usage {
-        return arguments::run(&places) as i32;
+        return arguments::run(rt, &places);
     }
-    help::put_usage(usage) as i32
+    help::put_usage(rt, usage)
+}
+
+fn main(rt: HostRuntime) -> ExitCode {
+    ExitCode::from(st62(&rt))
 }
