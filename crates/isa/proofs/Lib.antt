@@ -5,6 +5,7 @@ pub mod ShortDisplacement
 pub mod Column
 pub mod PlainColumns
 pub mod Prefix
+pub mod FromParts
 pub mod GoesOn
 pub mod EntryFlow
 pub mod Words

@@ -3,6 +3,8 @@ use mathlib.Core.Logic.{⊎_elim}
 use borrow.Enum.Known.{lives_at}
 use Rattle.isa.specs.contracts.Instruction as Instruction
 use Rattle.data.specs.Effect.{effect_of}
+use Rattle.std.proofs.Common.{arith}
+use Rattle.std.proofs.lemmas.Grind.{common_steps}
 use Rattle.data.proofs.effect.effect.Goals as goal
 
 pub returns-in-Jrr : goal.returns-in-Jrr
@@ -103,16 +105,4 @@ returns-in-Rlc c is = rw (c.rotate.ensures, c.in-Rlc.is)
 
 pub returns-in_default : goal.returns-in_default
 unfolding effect_of
-returns-in_default c is =
-    let i = c.args.instruction in
-    ⊎_elim (λ e. rw (lives_at Instruction.enum i 0 e).1)
-    (⊎_elim (λ e. rw (lives_at Instruction.enum i 1 e).1)
-    (⊎_elim (λ e. rw (lives_at Instruction.enum i 2 e).1)
-    (⊎_elim (λ e. rw (lives_at Instruction.enum i 3 e).1)
-    (⊎_elim (λ e. rw (lives_at Instruction.enum i 4 e).1)
-    (⊎_elim (λ e. rw (lives_at Instruction.enum i 5 e).1)
-    (⊎_elim (λ e. rw (lives_at Instruction.enum i 26 e).1)
-    (⊎_elim (λ e. rw (lives_at Instruction.enum i 27 e).1)
-    (⊎_elim (λ e. rw (lives_at Instruction.enum i 28 e).1)
-    (λ e. rw (lives_at Instruction.enum i 29 e).1)))))))))
-    c.in_default.in_default-own.keys21
+returns-in_default c is = grind (arith, common_steps)

@@ -3,6 +3,8 @@ use mathlib.Core.Logic.{⊎_elim}
 use borrow.Enum.Known.{lives_at}
 use Rattle.isa.specs.contracts.Instruction as Instruction
 use Rattle.data.specs.Reads.{operand_read_of}
+use Rattle.std.proofs.Common.{arith}
+use Rattle.std.proofs.lemmas.Grind.{common_steps}
 use Rattle.data.proofs.reads.operand_read.Goals as goal
 
 pub returns-in-LoadA : goal.returns-in-LoadA
@@ -51,25 +53,4 @@ returns-in-Jrs c = rw c.in-Jrs.is
 
 pub returns-in_default : goal.returns-in_default
 unfolding operand_read_of
-returns-in_default c =
-    let i = c.args.instruction in
-    ⊎_elim (λ e. rw (lives_at Instruction.enum i 0 e).1)
-    (⊎_elim (λ e. rw (lives_at Instruction.enum i 1 e).1)
-    (⊎_elim (λ e. rw (lives_at Instruction.enum i 2 e).1)
-    (⊎_elim (λ e. rw (lives_at Instruction.enum i 3 e).1)
-    (⊎_elim (λ e. rw (lives_at Instruction.enum i 4 e).1)
-    (⊎_elim (λ e. rw (lives_at Instruction.enum i 5 e).1)
-    (⊎_elim (λ e. rw (lives_at Instruction.enum i 11 e).1)
-    (⊎_elim (λ e. rw (lives_at Instruction.enum i 12 e).1)
-    (⊎_elim (λ e. rw (lives_at Instruction.enum i 13 e).1)
-    (⊎_elim (λ e. rw (lives_at Instruction.enum i 17 e).1)
-    (⊎_elim (λ e. rw (lives_at Instruction.enum i 19 e).1)
-    (⊎_elim (λ e. rw (lives_at Instruction.enum i 21 e).1)
-    (⊎_elim (λ e. rw (lives_at Instruction.enum i 23 e).1)
-    (⊎_elim (λ e. rw (lives_at Instruction.enum i 24 e).1)
-    (⊎_elim (λ e. rw (lives_at Instruction.enum i 25 e).1)
-    (⊎_elim (λ e. rw (lives_at Instruction.enum i 26 e).1)
-    (⊎_elim (λ e. rw (lives_at Instruction.enum i 27 e).1)
-    (⊎_elim (λ e. rw (lives_at Instruction.enum i 28 e).1)
-    (λ e. rw (lives_at Instruction.enum i 29 e).1))))))))))))))))))
-    c.in_default.in_default-own.keys12
+returns-in_default c = grind (arith, common_steps)

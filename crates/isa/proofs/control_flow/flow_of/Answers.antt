@@ -3,7 +3,8 @@
 use mathlib.Core.Path.{sym}
 use borrow.Author.Rules.{rules}
 use Rattle.isa.specs.ControlFlow.{flow_of}
-use Rattle.isa.proofs.GoesOn.{goes_on_lem}
+use Rattle.std.proofs.Common.{arith}
+use Rattle.std.proofs.lemmas.Grind.{common_steps}
 use Rattle.isa.proofs.control_flow.flow_of.Goals as goal
 
 pub returns-in-Jrnz : goal.returns-in-Jrnz
@@ -55,4 +56,5 @@ unfolding flow_of
 returns-in-Wait c = rw c.in-Wait.is
 
 pub returns-in_default : goal.returns-in_default
-returns-in_default c = sym (goes_on_lem _ _ c.in_default.in_default-own.keys13)
+unfolding flow_of
+returns-in_default c = grind (arith, common_steps)

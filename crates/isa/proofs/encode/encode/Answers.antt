@@ -42,16 +42,14 @@ returns-in-Jp c = rw c.in-Jp.is c.extended_jump-in-Jp.ensures
 pub returns-in-Jrr : goal.returns-in-Jrr
 unfolding encode_of
 returns-in-Jrr c =
-    let jump = c.instruction-in-Jrr-1.given in
-    let fits : SFits w8 jump.0.1.1.0 = search rules in
-    rw jump.1 (c.bit_jump.ensures ∙ ap (bit_jump 3 jump.0.0 jump.0.1.0) (kept fits))
+    let fits : SFits w8 c.in-Jrr.d = search rules in
+    rw c.in-Jrr.is (c.bit_jump.ensures ∙ ap (bit_jump 3 c.in-Jrr.bit c.in-Jrr.address) (kept fits))
 
 pub returns-in-Jrs : goal.returns-in-Jrs
 unfolding encode_of
 returns-in-Jrs c =
-    let jump = c.instruction-in-Jrs-1.given in
-    let fits : SFits w8 jump.0.1.1.0 = search rules in
-    rw jump.1 (c.bit_jump-in-Jrs.ensures ∙ ap (bit_jump 19 jump.0.0 jump.0.1.0) (kept fits))
+    let fits : SFits w8 c.in-Jrs.d = search rules in
+    rw c.in-Jrs.is (c.bit_jump-in-Jrs.ensures ∙ ap (bit_jump 19 c.in-Jrs.bit c.in-Jrs.address) (kept fits))
 
 pub returns-in-Res : goal.returns-in-Res
 unfolding encode_of
