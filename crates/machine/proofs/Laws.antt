@@ -1,19 +1,17 @@
 -- Laws of steps and runs that callers use.
 use Prim.Native.Nat.{ℕ, zero, suc, ◌+◌, ◌≤◌}
 use mathlib.Core.Path.{◌≡◌, refl, sym, ap, ◌∙◌}
-use mathlib.Core.Bool.{Bool, true}
+use mathlib.Core.Bool.{true}
 use mathlib.Core.List.{List, []}
 use native.Mathlib.Omega.{arith}
 use native.Mathlib.Nat.{zero-add, add-zero, add-suc, add_assoc}
 use native.Mathlib.Numerals.{add-one}
 use lib.ListN.{length, get_or, drop}
 use lib.Seq.{get_or-drop}
-use Rattle.isa.specs.Refusals.{Numbered, Answer, Ended, done, refused}
+use Rattle.isa.specs.Refusals.{Answer, Ended, done, refused}
 use Rattle.isa.specs.RoundTrip.{Bytes}
 use Rattle.isa.specs.Sources.{names_only_sources}
 use Rattle.isa.specs.Rom.{is_image}
-use Rattle.isa.specs.declared.Instruction.{Instruction}
-use Rattle.isa.specs.declared.Flow.TheVariants as flow
 use Rattle.control.specs.Requests.{requested_of}
 use Rattle.control.specs.Transfers.{advance_of}
 use Rattle.data.specs.Space.{program_of}
@@ -25,20 +23,7 @@ use Rattle.machine.specs.Advance.{Step, done_of, completed_of, executed_of, acte
 use Rattle.machine.specs.Refusals.{TakesNone}
 use Rattle.machine.specs.Step.{step_of}
 use Rattle.machine.specs.Steps.{Run, run_at, joined_by, joined_of, continued_by, continued_of, steps_of, requests_fit}
-use Rattle.machine.specs.Laws.{
-  Does,
-  stops,
-  takes,
-  idles,
-  executes,
-  GoesOn,
-  DataGoesOn,
-  StopsOnly,
-  RunEndsByStop,
-  followed_by,
-  RunIsSteps,
-  SleeperStays,
-}
+use Rattle.machine.specs.Laws.{Does, stops, takes, idles, executes, DataGoesOn, StopsOnly, RunEndsByStop, followed_by, RunIsSteps, SleeperStays}
 use Rattle.machine.proofs.StepDoes.{step_does, stops_numbered}
 use Rattle.machine.proofs.StepByStep.{fits_at, next_step}
 use Rattle.machine.proofs.Due.{idles_due, action_due}

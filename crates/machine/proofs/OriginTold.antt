@@ -169,12 +169,12 @@ module _ (image : List ℕ) (m : Machine) (image' : List ℕ) (m' : Machine) (re
       MadeApart i → AgreeApart m m' → StepsAlike m m' (step_of image m request) (step_of image' m' request')
   unread_alike made agree =
       both_alike
-      (made.change-of (accumulator_of m.bytes) (get_or m.bytes 0x80 0) (get_or m.bytes 0x81 0) (view_of m).flags)
+      (made.change_of (accumulator_of m.bytes) (get_or m.bytes 0x80 0) (get_or m.bytes 0x81 0) (view_of m).flags)
       (made.jumps (view_of m).flags)
       (made.effect_is (program_of image m.bytes) (view_of m))
       (rw (agree.accumulator, agree.x, agree.y, view_flags) (made.effect_is (program_of image' m'.bytes) (view_of m')))
-      (made.jumps-is (program_of image m.bytes) (view_of m) m.control.pc)
-      (rw view_flags (made.jumps-is (program_of image' m'.bytes) (view_of m') m'.control.pc))
+      (made.jumps_is (program_of image m.bytes) (view_of m) m.control.pc)
+      (rw view_flags (made.jumps_is (program_of image' m'.bytes) (view_of m') m'.control.pc))
 
   used_alike :
       (o : Operand) → MadeOf i o → AgreeOn image m image' m' i o →
@@ -182,7 +182,7 @@ module _ (image : List ℕ) (m : Machine) (image' : List ℕ) (m' : Machine) (re
   unfolding operand_of
   used_alike o made agree =
       both_alike
-      (made.change-of (accumulator_of m.bytes) (operand_of (program_of image m.bytes) m.bytes o) (address_of m.bytes o)
+      (made.change_of (accumulator_of m.bytes) (operand_of (program_of image m.bytes) m.bytes o) (address_of m.bytes o)
       (view_of m).flags)
       (made.jumps (operand_of (program_of image m.bytes) m.bytes o))
       (made.effect_is (program_of image m.bytes) (view_of m))
@@ -194,8 +194,8 @@ module _ (image : List ℕ) (m : Machine) (image' : List ℕ) (m' : Machine) (re
             (address_of m'.bytes o) (view_of m').flags agree.accumulator,
       )
       (made.effect_is (program_of image' m'.bytes) (view_of m')))
-      (made.jumps-is (program_of image m.bytes) (view_of m) m.control.pc)
-      (rw agree.byte (made.jumps-is (program_of image' m'.bytes) (view_of m') m'.control.pc))
+      (made.jumps_is (program_of image m.bytes) (view_of m) m.control.pc)
+      (rw agree.byte (made.jumps_is (program_of image' m'.bytes) (view_of m') m'.control.pc))
 
 -- a step that comes to an instruction which reads is done, and tells its operand's origin
 tells :

@@ -10,7 +10,6 @@ use Rattle.data.specs.Effect.{data_of, effect_of}
 use Rattle.isa.specs.Refusals.{Numbered, Answer, done, refused}
 use Rattle.isa.specs.Displacement.{forward_of}
 use Rattle.isa.specs.ControlFlow.{flow_of}
-use Rattle.isa.specs.declared.Instruction.{Instruction}
 use Rattle.isa.specs.declared.Instruction.TheVariants as I
 use Rattle.control.specs.declared.Mode.{Mode}
 use Rattle.control.specs.declared.Mode.TheVariants.{Reset, Normal, Interrupt, NmiOverNormal, NmiOverInterrupt}

@@ -22,7 +22,7 @@ use Rattle.control.proofs.Stopped.{take_stops, call_stops, pop_stops, return_sto
 use Rattle.data.specs.Space.{program_of}
 use Rattle.machine.specs.declared.Machine.{Machine}
 use Rattle.machine.specs.Execute.{execute_of}
-use Rattle.machine.specs.State.{is_well_formed, with_byte, HostStore, host_stored, host_store_of}
+use Rattle.machine.specs.State.{is_well_formed, with_byte, host_stored, host_store_of}
 use Rattle.machine.specs.Advance.{
   Step,
   refused_of,
@@ -36,7 +36,7 @@ use Rattle.machine.specs.Advance.{
 }
 use Rattle.machine.specs.Actions.{action_of}
 use Rattle.machine.specs.Step.{step_of}
-use Rattle.machine.specs.Steps.{Run, requests_fit, steps_of}
+use Rattle.machine.specs.Steps.{requests_fit, steps_of}
 use Rattle.machine.specs.Run.{refused_run, run_of}
 use Rattle.machine.specs.Reading.{Reading, reading_of}
 use Rattle.machine.specs.Refusals as why

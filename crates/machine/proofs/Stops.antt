@@ -1,7 +1,7 @@
 -- What a step makes of a stop: the machine as it was.
 use Prim.Native.Nat.{ℕ}
 use mathlib.Core.Path.{◌≡◌, refl, sym, ap, ◌∙◌}
-use mathlib.Core.Logic.{◌⊎◌, inl, inr, ⊎_elim}
+use mathlib.Core.Logic.{◌⊎◌, inl, inr}
 use mathlib.Core.List.{List}
 use native.Mathlib.Omega.{arith}
 use Rattle.alu.specs.declared.Flags.{Flags}
@@ -25,7 +25,7 @@ use Rattle.machine.specs.declared.Executed.{Executed}
 use Rattle.machine.specs.Pairs.{with_pair_of}
 use Rattle.machine.specs.Execute.{Execution, execution_of, execution_by, execute_of}
 use Rattle.machine.specs.State.{machine_of, view_of}
-use Rattle.machine.specs.Advance.{Step, done_of, refused_of, taken_by, completed_of, executed_of}
+use Rattle.machine.specs.Advance.{done_of, refused_of, taken_by, completed_of, executed_of}
 use Rattle.machine.proofs.PairTests.{pair_put, put_twice}
 
 -- it goes on, or data and stack are as they were

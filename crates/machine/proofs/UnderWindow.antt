@@ -94,7 +94,7 @@ module _ (image : List ℕ) (d d' : Data) (flags : d.flags ≡ d'.flags) (same :
       let operand = same_operand d.bytes d'.bytes same image o in
       record {
         change =
-            made.change-of (accumulator_of d.bytes) (operand_of image d.bytes o) (address_of d.bytes o)
+            made.change_of (accumulator_of d.bytes) (operand_of image d.bytes o) (address_of d.bytes o)
             d.flags;
         effect = made.effect_is image d;
         effect' =
@@ -105,18 +105,18 @@ module _ (image : List ℕ) (d d' : Data) (flags : d.flags ≡ d'.flags) (same :
               flags,
             )
             (made.effect_is image d');
-        jumps = λ pc. made.jumps-is image d pc ∙ ap made.jumps operand ∙ sym (made.jumps-is image d' pc);
+        jumps = λ pc. made.jumps_is image d pc ∙ ap made.jumps operand ∙ sym (made.jumps_is image d' pc);
       }
   by_operand Nothing e =
       let made = made_apart i e in
       record {
         change =
-            made.change-of (accumulator_of d.bytes) (get_or d.bytes 0x80 0) (get_or d.bytes 0x81 0) d.flags;
+            made.change_of (accumulator_of d.bytes) (get_or d.bytes 0x80 0) (get_or d.bytes 0x81 0) d.flags;
         effect = made.effect_is image d;
         effect' =
             rw (same.elsewhere 0xFF refl, same.elsewhere 0x80 refl, same.elsewhere 0x81 refl, flags)
             (made.effect_is image d');
-        jumps = λ pc. made.jumps-is image d pc ∙ ap made.jumps flags ∙ sym (made.jumps-is image d' pc);
+        jumps = λ pc. made.jumps_is image d pc ∙ ap made.jumps flags ∙ sym (made.jumps_is image d' pc);
       }
 
   one_change : OneChange image d d' i

@@ -1,6 +1,6 @@
 -- When a step, a run, a host store and a reading are refused or stop, and with which number (document 01, "What each
 -- operation turns down"). "The first that applies is given, and never where it doesn't apply."
-use Rattle.std.specs.Prelude.{ℕ, ◌≤◌, ◌<◌, ◌≡◌, Bool, true, false, List, length, get_or}
+use Rattle.std.specs.Prelude.{ℕ, ◌≤◌, ◌<◌, ◌≡◌, true, false, List, length, get_or}
 use Rattle.isa.specs.Refusals.{Numbered, plain, located, Answer, done, refused}
 use Rattle.isa.specs.Sources.{names_only_sources}
 use Rattle.isa.specs.Rom.{is_image}
@@ -15,7 +15,7 @@ use Rattle.control.specs.Modes.{is_reset}
 use Rattle.control.specs.Requests.{requested_of}
 use Rattle.machine.specs.declared.Machine.{Machine}
 use Rattle.machine.specs.State.{is_well_formed, with_byte, host_stored, host_store_of}
-use Rattle.machine.specs.Advance.{Step, refused_of}
+use Rattle.machine.specs.Advance.{refused_of}
 use Rattle.machine.specs.Actions.{enabled_of}
 use Rattle.machine.specs.Step.{step_of}
 use Rattle.machine.specs.Steps.{steps_of}

@@ -2,7 +2,7 @@
 -- operation turns down").
 use Rattle.std.specs.Prelude.{ℕ, Bool, false, not, List, set, replicate}
 use Rattle.alu.specs.declared.Flags.{Flags}
-use Rattle.isa.specs.Refusals.{Numbered, plain, numbered, Ended, done, refused, unless}
+use Rattle.isa.specs.Refusals.{plain, numbered, Ended, done, refused, unless}
 use Rattle.isa.specs.Sources.{reset_vector}
 use Rattle.data.specs.Space.{in_window, store_of}
 use Rattle.data.specs.Effect.{Data, data_of}

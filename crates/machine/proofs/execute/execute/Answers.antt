@@ -1,9 +1,10 @@
 -- `execute::execute` meets its contract.
 use borrow.Author.Rules.{rules}
 use mathlib.Core.Path.{◌≡◌, ap, ◌∙◌}
+use native.Mathlib.Omega.{arith}
+use Rattle.std.proofs.lemmas.Grind.{common_steps}
 use Rattle.isa.specs.declared.Flow.TheVariants as flow
 use Rattle.isa.specs.ControlFlow.{flow_of}
-use Rattle.isa.proofs.GoesOn.{goes_on_lem}
 use Rattle.data.specs.Effect.{data_of, effect_of}
 use Rattle.control.specs.Transfers.{advance_of}
 use Rattle.machine.specs.Execute.{execution_by, execute_of}
@@ -12,48 +13,44 @@ use Rattle.machine.proofs.execute.execute.Goals as goal
 pub returns-in-Jrnz : goal.returns-in-Jrnz
 unfolding execute_of advance_of flow_of effect_of
 returns-in-Jrnz c =
-    let k = c.before.before.before.before.before in
     rw (
       c.goes_on.ensures _ _,
       c.branch-c.ensures,
       c.short_target.ensures,
-      k.in-Jrnz.is,
+      c.in-Jrnz.is,
     )
     (search rules)
 
 pub returns-in-Jrnc : goal.returns-in-Jrnc
 unfolding execute_of advance_of flow_of effect_of
 returns-in-Jrnc c =
-    let k = c.before.before.before.before.before in
     rw (
       c.goes_on-in-Jrnc.ensures _ _,
       c.branch-c-in-Jrnc.ensures,
       c.short_target-in-Jrnc.ensures,
-      k.in-Jrnc.is,
+      c.in-Jrnc.is,
     )
     (search rules)
 
 pub returns-in-Jrz : goal.returns-in-Jrz
 unfolding execute_of advance_of flow_of effect_of
 returns-in-Jrz c =
-    let k = c.before.before.before.before in
     rw (
       c.goes_on-in-Jrz.ensures _ _,
       c.branch-c-in-Jrz.ensures,
       c.short_target-in-Jrz.ensures,
-      k.in-Jrz.is,
+      c.in-Jrz.is,
     )
     (search rules)
 
 pub returns-in-Jrc : goal.returns-in-Jrc
 unfolding execute_of advance_of flow_of effect_of
 returns-in-Jrc c =
-    let k = c.before.before.before.before in
     rw (
       c.goes_on-in-Jrc.ensures _ _,
       c.branch-c-in-Jrc.ensures,
       c.short_target-in-Jrc.ensures,
-      k.in-Jrc.is,
+      c.in-Jrc.is,
     )
     (search rules)
 
@@ -72,30 +69,24 @@ returns-in-Jp c =
 pub returns-in-Jrr : goal.returns-in-Jrr
 unfolding execute_of advance_of flow_of effect_of
 returns-in-Jrr c =
-    let k = c.before.before.before.before in
-    let known = k.before.before in
-    let start = known.before.before.before.before in
     rw (
       c.goes_on-in-Jrr.ensures _ _,
       c.branch-c-in-Jrr.ensures,
       c.long_target.ensures,
-      k.test_bit-after.ensures start.requires,
+      c.test_bit-after.ensures c.requires,
     )
-    (rw known.in-Jrr.is (search (rules, known.known_told-in-Jrr-1.given)))
+    (rw c.in-Jrr.is (search rules))
 
 pub returns-in-Jrs : goal.returns-in-Jrs
 unfolding execute_of advance_of flow_of effect_of
 returns-in-Jrs c =
-    let k = c.before.before.before in
-    let known = k.before.before in
-    let start = known.before.before.before.before in
     rw (
       c.goes_on-in-Jrs.ensures _ _,
       c.branch-c-in-Jrs.ensures,
       c.long_target-in-Jrs.ensures,
-      k.test_bit-after-in-Jrs.ensures start.requires,
+      c.test_bit-after-in-Jrs.ensures c.requires,
     )
-    (rw known.in-Jrs.is (search (rules, known.known_told-in-Jrs-1.given)))
+    (rw c.in-Jrs.is (search rules))
 
 pub returns-in-Ret : goal.returns-in-Ret
 unfolding execute_of advance_of flow_of effect_of
@@ -121,8 +112,8 @@ unfolding execute_of advance_of flow_of effect_of
 returns-in-Wait c = rw (c.goes_on-in-Wait.ensures _ _, c.sleep-in-Wait.ensures, c.in-Wait.is)
 
 pub returns-in_default : goal.returns-in_default
-unfolding execute_of advance_of
+unfolding execute_of advance_of flow_of
 returns-in_default c =
     let a = c.args in
-    let on : flow_of a.instruction-1 a.c.pc ≡ flow.Next = goes_on_lem _ _ c.in_default.in_default-own.keys13 in
+    let on : flow_of a.instruction a.c.pc ≡ flow.Next = grind (arith, common_steps) in
     rw on (c.on_data.ensures _)

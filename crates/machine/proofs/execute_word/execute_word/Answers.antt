@@ -11,19 +11,15 @@ use Rattle.machine.proofs.execute_word.execute_word.Goals as goal
 
 pub on_transfer-requires : goal.on_transfer-requires
 on_transfer-requires c =
-    let k = c.before.before.before in
-    (k.requires, ltb-true _ 12 (sym k.is_transfer.ensures ∙ c.if-is_transfer.true))
+    (c.requires, ltb-true _ 12 (sym c.is_transfer.ensures ∙ c.if-is_transfer.true))
 
 pub on_operation-requires : goal.on_operation-requires
 on_operation-requires c =
-    let k = c.before.before in
-    (k.requires, ltb-false _ 12 (sym k.is_transfer.ensures ∙ c.if-is_transfer.false))
+    (c.requires, ltb-false _ 12 (sym c.is_transfer.ensures ∙ c.if-is_transfer.false))
 
 pub returns : goal.returns
 unfolding execute_of advance_of
 returns c =
-    let k = c.before.before.before in
-    let start = k.before.before in
-    let on : flow_of (instruction_of_word start.args.word) start.args.c.pc ≡ flow.Next =
-    above _ _ _ _ _ (ltb-false _ 12 (sym k.is_transfer.ensures ∙ c.if-is_transfer.false)) in
+    let on : flow_of (instruction_of_word c.args.word) c.args.c.pc ≡ flow.Next =
+    above _ _ _ _ _ (ltb-false _ 12 (sym c.is_transfer.ensures ∙ c.if-is_transfer.false)) in
     rw on (c.on_operation.ensures _)

@@ -17,32 +17,28 @@ use Rattle.machine.proofs.Store.{coherent_set}
 use Rattle.machine.proofs.fetch.decoded.Goals as goal
 
 pub returns-in-Refused : goal.returns-in-Refused
-returns-in-Refused c =
-    let k = c.before.before.before in
-    let start = k.before.before.before in (
-      rw c.in-Refused.is at
-          (k.decode_in_range.ensures start.requires.1 start.requires.2 start.requires.0),
-      start.requires.4,
-    )
+returns-in-Refused c = (
+  rw c.in-Refused.is at
+      (c.decode_in_range.ensures c.requires.1 c.requires.2 c.requires.0),
+  c.requires.4,
+)
 
 pub returns : goal.returns
 returns c =
-    let k = c.before.before.before.before in
-    let start = k.before.before.before in
-    let image = start.args.image.now in
-    let space = space_of image start.args.bank in
-    let d = c.instruction-1.given in
-    let decoded : done (decode.instruction-1 d.0.0 d.0.1.0 d.0.1.1.0) ≡ decode_of space
-    start.args.address =
-    rw d.1 at (k.decode_in_range.ensures start.requires.1 start.requires.2 start.requires.0) in
-    let long : d.0.1.0 ≡ length_of d.0.0 = decoded_length image _ _ _ _ _
-    (in_space image _ _ start.requires.1 ∙ sym (in_range space _ (is_space_lem image _ start.requires.1) start.requires.2)
+    let image = c.args.image.now in
+    let space = space_of image c.args.bank in
+    let v = c.in-Valid in
+    let decoded : done (decode.instruction v.instruction v.length v.cycles) ≡ decode_of space
+    c.args.address =
+    rw v.is at (c.decode_in_range.ensures c.requires.1 c.requires.2 c.requires.0) in
+    let long : v.length ≡ length_of v.instruction = decoded_length image _ _ _ _ _
+    (in_space image _ _ c.requires.1 ∙ sym (in_range space _ (is_space_lem image _ c.requires.1) c.requires.2)
     ∙ sym decoded) in
-    let digit : d.0.1.1.0 % 16 ≡ d.0.1.1.0 = omega (arith, cycles_fit space _ _ _ _ decoded) in
+    let digit : v.cycles % 16 ≡ v.cycles = omega (arith, cycles_fit space _ _ _ _ decoded) in
     let made = c.predecode-word.ensures in
-    let whole : fetched_as (Word c.predecode-word.result) ≡ decode_of space start.args.address =
-    rw (made.instruction-1, made.timed, digit, ← long) decoded in (
+    let whole : fetched_as (Word c.predecode-word.result) ≡ decode_of space c.args.address =
+    rw (made.instruction, made.timed, digit, ← long) decoded in (
       whole,
-      coherent_set image start.args.store.now _ _ _ _ start.requires.3 start.requires.4 start.requires.2
+      coherent_set image c.args.store.now _ _ _ _ c.requires.3 c.requires.4 c.requires.2
           made.tagged whole,
     )

@@ -12,29 +12,23 @@ returns-then-not-is_image_length c =
 pub returns-then-not-is_well_formed : goal.returns-then-not-is_well_formed
 unfolding reading_of
 returns-then-not-is_well_formed c =
-    let w = c.before in
-    let k = w.before.before.before.before in
-    let i = k.is_image_length in
+    let i = c.is_image_length in
     rw (
       ← i.ensures,
-      k.if-not-is_image_length.false,
-      ← w.is_well_formed.ensures,
+      c.if-not-is_image_length.false,
+      ← c.is_well_formed.ensures,
       c.if-not-is_well_formed.true,
     )
 
 pub returns : goal.returns
 unfolding reading_of
 returns c =
-    let read = c.before.before in
-    let left = read.before.before.before in
-    let w = left.before in
-    let k = w.before.before.before.before in
-    let i = k.is_image_length in
-    let is = sym i.ensures ∙ k.if-not-is_image_length.false in
+    let i = c.is_image_length in
+    let is = sym i.ensures ∙ c.if-not-is_image_length.false in
     rw (
       is,
-      ← w.is_well_formed.ensures,
-      left.if-not-is_well_formed.false,
-      read.read.ensures is,
+      ← c.is_well_formed.ensures,
+      c.if-not-is_well_formed.false,
+      c.read.ensures is,
       c.origin.ensures is,
     )

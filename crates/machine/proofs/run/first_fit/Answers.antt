@@ -1,7 +1,5 @@
 -- `run::first_fit` meets its contract. The loop's invariant: the first i bytes fit.
-use Prim.Native.Nat.{◌-◌}
 use mathlib.Core.Path.{◌≡◌, refl, sym, ap, ◌∙◌}
-use mathlib.Core.Bool.{true}
 use native.Mathlib.Omega.{arith}
 use native.Mathlib.Numerals.{add-one}
 use borrow.Author.Rules.{rules}
@@ -17,24 +15,22 @@ loop-i-init c = (search rules, refl)
 
 pub returns-then-not-names_only_sources : goal.returns-then-not-names_only_sources
 returns-then-not-names_only_sources c =
-    let k = c.before in
-    let at-loop = k.before.before.before in
-    let start = at-loop.before.before in
-    let named : k.names_only_sources.result
+    let at-loop = c in
+    let start = at-loop.before in
+    let named : c.names_only_sources.result
     ≡ names_only_sources (get_or start.args.requests.now at-loop.loop-i.i 0) =
-    k.names_only_sources.ensures ∙ ap names_only_sources k.request_at.ensures in
+    c.names_only_sources.ensures ∙ ap names_only_sources c.request_at.ensures in
     sym (fits_not _ _ at-loop.loop-i.i (omega arith)
     (sym named ∙ c.if-not-names_only_sources.true) _ refl)
 
 pub loop-i-preserved : goal.loop-i-preserved
 unfolding requests_fit
 loop-i-preserved c =
-    let k = c.before in
-    let at-loop = k.before.before.before in
-    let start = at-loop.before.before in
-    let named : k.names_only_sources.result
+    let at-loop = c in
+    let start = at-loop.before in
+    let named : c.names_only_sources.result
     ≡ names_only_sources (get_or start.args.requests.now at-loop.loop-i.i 0) =
-    k.names_only_sources.ensures ∙ ap names_only_sources k.request_at.ensures in (
+    c.names_only_sources.ensures ∙ ap names_only_sources c.request_at.ensures in (
       search rules,
       rw (add-one _, ← named, c.if-not-names_only_sources.false) at-loop.loop-i.invariant.1,
     )

@@ -16,70 +16,57 @@ returns-then-not-is_image_length c =
 pub returns-then-not-is_well_formed : goal.returns-then-not-is_well_formed
 unfolding run_of
 returns-then-not-is_well_formed c =
-    let w = c.before.before in
-    let i = w.before.before.before in
     rw (
-      ← i.is_image_length.ensures,
-      w.if-not-is_image_length.false,
+      ← c.is_image_length.ensures,
+      c.if-not-is_image_length.false,
     )
-    (rw (← w.is_well_formed.ensures, c.if-not-is_well_formed.true)
+    (rw (← c.is_well_formed.ensures, c.if-not-is_well_formed.true)
     (c.refused_run-then-not-is_well_formed.ensures _ _))
 
 pub returns-then-n-gt-MOST_STEPS : goal.returns-then-n-gt-MOST_STEPS
 unfolding run_of
 returns-then-n-gt-MOST_STEPS c =
-    let w = c.before.before.before in
-    let i = w.before.before.before in
     rw (
-      ← i.is_image_length.ensures,
-      w.if-not-is_image_length.false,
+      ← c.is_image_length.ensures,
+      c.if-not-is_image_length.false,
     )
-    (rw (← w.is_well_formed.ensures, c.if-not-is_well_formed.false)
+    (rw (← c.is_well_formed.ensures, c.if-not-is_well_formed.false)
     (rw (lt-leb _ _ c.if-n-gt-MOST_STEPS.true) (c.refused_run-then-n-gt-MOST_STEPS.ensures _ _)))
 
 pub returns-then-not-requests_fit : goal.returns-then-not-requests_fit
 unfolding run_of
 returns-then-not-requests_fit c =
-    let f = c.before.before in
-    let w = f.before.before.before in
-    let i = w.before.before.before in
     rw (
-      ← i.is_image_length.ensures,
-      w.if-not-is_image_length.false,
+      ← c.is_image_length.ensures,
+      c.if-not-is_image_length.false,
     )
-    (rw (← w.is_well_formed.ensures, f.if-not-is_well_formed.false)
+    (rw (← c.is_well_formed.ensures, c.if-not-is_well_formed.false)
     (rw (
-      le-leb _ _ f.if-n-gt-MOST_STEPS.false,
-      ← f.requests_fit.ensures,
+      le-leb _ _ c.if-n-gt-MOST_STEPS.false,
+      ← c.requests_fit.ensures,
       c.if-not-requests_fit.true,
     )
     (c.refused_run-then-not-requests_fit.ensures _ _)))
 
 pub by_store-requires : goal.by_store-requires
-by_store-requires c =
-    let f = c.before.before.before in
-    let w = f.before.before.before in
-    let i = w.before.before.before in (
-      f.if-n-gt-MOST_STEPS.false,
-      sym i.is_image_length.ensures ∙ w.if-not-is_image_length.false,
-      sym w.is_well_formed.ensures ∙ f.if-not-is_well_formed.false,
-      sym f.requests_fit.ensures ∙ c.if-not-requests_fit.false,
-    )
+by_store-requires c = (
+  c.if-n-gt-MOST_STEPS.false,
+  sym c.is_image_length.ensures ∙ c.if-not-is_image_length.false,
+  sym c.is_well_formed.ensures ∙ c.if-not-is_well_formed.false,
+  sym c.requests_fit.ensures ∙ c.if-not-requests_fit.false,
+)
 
 pub returns : goal.returns
 unfolding run_of
 returns c =
-    let f = c.before.before.before.before in
-    let w = f.before.before.before in
-    let i = w.before.before.before in
     rw (
-      ← i.is_image_length.ensures,
-      w.if-not-is_image_length.false,
+      ← c.is_image_length.ensures,
+      c.if-not-is_image_length.false,
     )
-    (rw (← w.is_well_formed.ensures, f.if-not-is_well_formed.false)
+    (rw (← c.is_well_formed.ensures, c.if-not-is_well_formed.false)
     (rw (
-      le-leb _ _ f.if-n-gt-MOST_STEPS.false,
-      ← f.requests_fit.ensures,
+      le-leb _ _ c.if-n-gt-MOST_STEPS.false,
+      ← c.requests_fit.ensures,
       c.if-not-requests_fit.false,
     )
     c.by_store.ensures))

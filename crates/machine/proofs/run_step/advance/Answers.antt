@@ -5,21 +5,17 @@ use Rattle.machine.proofs.run_step.advance.Goals as goal
 
 pub returns-in-Taken : goal.returns-in-Taken
 unfolding due_of acted_of advanced_of
-returns-in-Taken c =
-    let k = c.before.before.before.before.before in (
-      λ pairs. rw
-          (← k.is_enabled.ensures, ← k.requested.ensures, c.in-Taken.is)
-          (c.taken.ensures _ pairs),
-      k.requires.4,
-    )
+returns-in-Taken c = (
+  λ pairs. rw
+      (← c.is_enabled.ensures, ← c.requested.ensures, c.in-Taken.is)
+      (c.taken.ensures _ pairs),
+  c.requires.4,
+)
 
 pub returns-in-Nothing : goal.returns-in-Nothing
 unfolding due_of advanced_of
-returns-in-Nothing c =
-    let u = c.before.before in
-    let told = u.before.before.before.before in
-    let k = told.before.before in (
-      λ pairs. rw (← k.is_enabled.ensures, ← k.requested.ensures, told.in-Nothing.is)
-          (u.uninterrupted.ensures.0 pairs),
-      u.uninterrupted.ensures.1,
-    )
+returns-in-Nothing c = (
+  λ pairs. rw (← c.is_enabled.ensures, ← c.requested.ensures, c.in-Nothing.is)
+      (c.uninterrupted.ensures.0 pairs),
+  c.uninterrupted.ensures.1,
+)

@@ -4,18 +4,18 @@ use Rattle.machine.proofs.run_step.executed.Goals as goal
 
 pub returns-in-None : goal.returns-in-None
 returns-in-None c = λ pairs.
-    (let k = c.before.before.before.before.before.before in
+    (
     rw (c.done.ensures _ _ pairs _, c.cycles_in.ensures)
-    (executed_done _ _ _ _ _ _ _ _ _ _ pairs _ k.execute_word-after.ensures c.in-None.is))
+    (executed_done _ _ _ _ _ _ _ _ _ _ pairs _ c.execute_word-after.ensures c.in-None.is))
 
 pub returns-in-Full : goal.returns-in-Full
 returns-in-Full c = λ pairs.
-    (let k = c.before.before.before.before.before in
+    (
     rw (c.stopped.ensures _ _ pairs _)
-    (executed_full _ _ _ _ _ _ _ _ _ _ pairs _ k.execute_word-after.ensures c.in-Full.is))
+    (executed_full _ _ _ _ _ _ _ _ _ _ pairs _ c.execute_word-after.ensures c.in-Full.is))
 
 pub returns-in-Empty : goal.returns-in-Empty
 returns-in-Empty c = λ pairs.
-    (let k = c.before.before.before.before.before in
+    (
     rw (c.stopped-in-Empty.ensures _ _ pairs _)
-    (executed_empty _ _ _ _ _ _ _ _ _ _ pairs _ k.execute_word-after.ensures c.in-Empty.is))
+    (executed_empty _ _ _ _ _ _ _ _ _ _ pairs _ c.execute_word-after.ensures c.in-Empty.is))

@@ -14,36 +14,29 @@ use Rattle.machine.proofs.run_step.uninterrupted.Goals as goal
 
 pub returns-then-c : goal.returns-then-c
 returns-then-c c =
-    let start = c.before.before.before.before in
-    (λ pairs. c.done.ensures _ _ pairs start.args.c.mode ∙ idle _ _ c.if-c.true, start.requires.4)
+    (λ pairs. c.done.ensures _ _ pairs c.args.c.mode ∙ idle _ _ c.if-c.true, c.requires.4)
 
 pub returns-in-Refused : goal.returns-in-Refused
 unfolding acted_of
 returns-in-Refused c =
-    let k = c.before.before.before.before.before.before in
-    let start = k.before.before.before.before.before in
-    let program = program_of start.args.image.now start.args.bytes.now in
-    let reason = c.reason-1.given in
-    let decoded : decode_at program start.args.c.pc ≡ refused (numbered reason.0.0) =
-    sym (rw (reason.1, start.requires.5) at k.fetch.ensures.0
-    ∙ in_range program _ (is_space_lem start.args.image.now _ start.requires.1) start.requires.2) in (
-      λ pairs. rw decoded (c.stopped.ensures _ _ pairs start.args.c.mode) ∙ awake program _
-          k.if-c.false,
-      k.fetch.ensures.1,
+    let program = program_of c.args.image.now c.args.bytes.now in
+    let decoded : decode_at program c.args.c.pc ≡ refused (numbered c.in-Refused.reason) =
+    sym (rw (c.in-Refused.is, c.requires.5) at c.fetch.ensures.0
+    ∙ in_range program _ (is_space_lem c.args.image.now _ c.requires.1) c.requires.2) in (
+      λ pairs. rw decoded (c.stopped.ensures _ _ pairs c.args.c.mode) ∙ awake program _
+          c.if-c.false,
+      c.fetch.ensures.1,
     )
 
 pub returns : goal.returns
 unfolding acted_of
 returns c =
-    let k = c.before.before.before.before.before.before.before.before in
-    let start = k.before.before.before.before.before in
-    let program = program_of start.args.image.now start.args.bytes.now in
-    let word = c.word-1.given in
-    let w = word.0.0 in
-    let decoded : decode_at program start.args.c.pc
+    let program = program_of c.args.image.now c.args.bytes.now in
+    let w = c.in-Word.word in
+    let decoded : decode_at program c.args.c.pc
     ≡ done (decode.instruction (instruction_of_word w) (length_of (instruction_of_word w)) (cycles_of_word w)) =
-    sym (rw (word.1, start.requires.5) at k.fetch.ensures.0
-    ∙ in_range program _ (is_space_lem start.args.image.now _ start.requires.1) start.requires.2) in (
-      λ pairs. rw decoded (c.executed.ensures pairs) ∙ awake program _ k.if-c.false,
-      k.fetch.ensures.1,
+    sym (rw (c.in-Word.is, c.requires.5) at c.fetch.ensures.0
+    ∙ in_range program _ (is_space_lem c.args.image.now _ c.requires.1) c.requires.2) in (
+      λ pairs. rw decoded (c.executed.ensures pairs) ∙ awake program _ c.if-c.false,
+      c.fetch.ensures.1,
     )

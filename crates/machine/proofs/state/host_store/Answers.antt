@@ -11,15 +11,13 @@ returns-then-not-is_well_formed c =
 pub returns-then-is_window : goal.returns-then-is_window
 unfolding host_store_of
 returns-then-is_window c =
-    let k = c.before.before in
-    let w = k.is_well_formed in
-    rw (← w.ensures, k.if-not-is_well_formed.false, ← k.is_window.ensures, c.if-is_window.true)
+    let w = c.is_well_formed in
+    rw (← w.ensures, c.if-not-is_well_formed.false, ← c.is_window.ensures, c.if-is_window.true)
     c.refused_store-then-is_window.ensures
 
 pub returns : goal.returns
 unfolding host_store_of
 returns c =
-    let k = c.before.before in
-    let w = k.is_well_formed in
-    rw (← w.ensures, k.if-not-is_well_formed.false, ← k.is_window.ensures, c.if-is_window.false)
+    let w = c.is_well_formed in
+    rw (← w.ensures, c.if-not-is_well_formed.false, ← c.is_window.ensures, c.if-is_window.false)
     c.stored.ensures

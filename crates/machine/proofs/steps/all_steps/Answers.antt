@@ -1,8 +1,6 @@
 -- `steps::all_steps` meets its contract. The loop's invariant: the first i steps completed, the machine is well formed
 -- and the store coherent.
-use Prim.Native.Nat.{◌-◌}
 use mathlib.Core.Path.{◌≡◌, refl, ap, ◌∙◌}
-use mathlib.Core.Bool.{true}
 use native.Mathlib.Omega.{arith}
 use borrow.Author.Rules.{rules}
 use Rattle.machine.specs.State.{machine_of, is_well_formed}
@@ -19,11 +17,10 @@ loop-i-init c =
 
 pub steps_in_mode-after-requires : goal.steps_in_mode-after-requires
 steps_in_mode-after-requires c =
-    let at_test = c.before.before.before.before in
-    let inv = at_test.loop-i.invariant in
-    let pre = at_test.requires in (
+    let inv = c.loop-i.invariant in
+    let pre = c.requires in (
       pre.0,
-      at_test.loop-i-test.true,
+      c.loop-i-test.true,
       inv.1,
       pre.1,
       pre.2,
@@ -35,8 +32,7 @@ steps_in_mode-after-requires c =
 
 pub loop-i-smaller : goal.loop-i-smaller
 loop-i-smaller c =
-    let part = c.before.before.before.before.before.before.before in
-    let more = rw c.in-Done.is at part.steps_in_mode-after.ensures.1 in
+    let more = rw c.in-Done.is at c.steps_in_mode-after.ensures.1 in
     omega (
       arith,
       more,
@@ -45,50 +41,40 @@ loop-i-smaller c =
 
 pub loop-i-preserved : goal.loop-i-preserved
 loop-i-preserved c =
-    let part = c.before.before.before.before.before.before.before in
-    let at_test = c.before.before.before.before.before.before.before.before.before.before.before.before in
-    let loop = at_test.loop-i in
-    let start = at_test.before.before.before.before.before in
-    let a = start.args in
+    let loop = c.loop-i in
+    let a = c.args in
     let first = machine_of a.start a.stack.now a.pairs a.bytes.now in
     let ran =
-    part.steps_in_mode-after.ensures.0 loop.flags first
-    (rw (part.pair.ensures, put_back loop.flags loop.c-1.mode) loop.invariant.5) in
-    let told = c.in-Done.is in
-    let known = at_test.shared_slice_known-1 in (
-      rw told at part.steps_in_mode-after.ensures.2,
-      rw told at part.steps_in_mode-after.ensures.3,
+    c.steps_in_mode-after.ensures.0 loop.flags first
+    (rw (c.pair.ensures, put_back loop.flags loop.c.mode) loop.invariant.5) in
+    let told = c.in-Done.is in (
+      rw told at c.steps_in_mode-after.ensures.2,
+      rw told at c.steps_in_mode-after.ensures.3,
       ap (λ (x : Run). is_well_formed x.machine) ran
-          ∙ stays_well_formed.by_steps a.image.now (λ j. (known.given j).fits) a.requests.now first
-          start.requires.3 _,
+          ∙ stays_well_formed.by_steps a.image.now (λ j. (c.type_inv.image j).fits) a.requests.now first
+          c.requires.3 _,
       search rules,
-      part.steps_in_mode-after.ensures.4,
+      c.steps_in_mode-after.ensures.4,
       rw c.with_pair-flags.ensures (rw told at ran),
     )
 
 pub shape_of-store-in-Refused : goal.shape_of-store-in-Refused
 shape_of-store-in-Refused c =
-    let part = c.before.before.before.before.before.before.before.before.before in
-    omega (arith, part.loop-i.invariant.3)
+    omega (arith, c.loop-i.invariant.3)
 
 pub returns-in-Refused : goal.returns-in-Refused
 returns-in-Refused c =
-    let part = c.before.before.before.before.before.before.before.before.before in
-    let at_test =
-    c.before.before.before.before.before.before.before.before.before.before.before.before.before.before in
-    let loop = at_test.loop-i in
-    let start = at_test.before.before.before.before.before in
-    let a = start.args in
+    let loop = c.loop-i in
+    let a = c.args in
     let first = machine_of a.start a.stack.now a.pairs a.bytes.now in
     let ran =
-    part.steps_in_mode-after.ensures.0 loop.flags first
-    (rw (part.pair.ensures, put_back loop.flags loop.c-1.mode) loop.inv.5) in
+    c.steps_in_mode-after.ensures.0 loop.flags first
+    (rw (c.pair.ensures, put_back loop.flags loop.c.mode) loop.invariant.5) in
     rw (c.progress.ensures _ _, c.with_pair-flags.ensures)
     (rw c.in-Refused.is at ran)
 
 pub returns : goal.returns
 returns c =
-    let k = c.before.before in
-    let same : k.loop-i.i ≡ k.args.n = omega
-    (arith, k.loop-i.invariant.0, c.loop-i-test.false) in
-    c.progress-2.ensures _ _ ∙ (rw same at k.loop-i.invariant.5)
+    let same : c.loop-i.i ≡ c.args.n = omega
+    (arith, c.loop-i.invariant.0, c.loop-i-test.false) in
+    c.progress-2.ensures _ _ ∙ (rw same at c.loop-i.invariant.5)

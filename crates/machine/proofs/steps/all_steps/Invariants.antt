@@ -13,9 +13,9 @@ use Rattle.machine.proofs.steps.all_steps.Given as goal
 
 abbrev pub invariant-loop-i : goal.invariant-loop-i
 invariant-loop-i l =
-    (l.i ≤ l.initial.stack) × (l.initial.i ≤ 255 * l.i) × (well_formed l.flags l.initial.cycles ≡ true) × (length l.c ≡ length l.initial.store) × Coherent l.image l.c
-    × (run_at (machine_of l.initial.cycles l.flags l.cycles l.initial.flags) l.i l.initial.i (done tt)
-    ≡ steps_of l.image l.bytes (machine_of l.stack l.initial.bytes l.requests l.store) l.i)
+    (l.i ≤ l.n) × (l.cycles ≤ 255 * l.i) × (well_formed l.stack l.c ≡ true) × (length l.store ≡ length l.initial.store) × Coherent l.image l.store
+    × (run_at (machine_of l.c l.stack l.flags l.bytes) l.i l.cycles (done tt)
+    ≡ steps_of l.image l.requests (machine_of l.initial.c l.initial.stack l.initial.flags l.initial.bytes) l.i)
 
 abbrev pub decreases-loop-i : goal.decreases-loop-i
-decreases-loop-i l = l.initial.stack - l.i
+decreases-loop-i l = l.n - l.i

@@ -4,25 +4,23 @@ use Rattle.machine.proofs.Store.{coherent_none}
 use Rattle.machine.proofs.steps.by_store.Goals as goal
 
 pub all_steps-requires : goal.all_steps-requires
-all_steps-requires c =
-    let start = c.before.before.before.before.before.before.before.before in (
-      start.requires.0,
-      c.timings-table.ensures,
-      start.requires.1,
-      start.requires.2,
-      start.requires.3,
-      search rules,
-      coherent_none start.args.image.now 64,
-    )
+all_steps-requires c = (
+  c.requires.0,
+  c.timings-table.ensures,
+  c.requires.1,
+  c.requires.2,
+  c.requires.3,
+  search rules,
+  coherent_none c.args.image.now 64,
+)
 
 pub all_steps-requires-2 : goal.all_steps-requires-2
-all_steps-requires-2 c =
-    let start = c.before.before.before.before.before.before.before.before in (
-      start.requires.0,
-      c.timings-table.ensures,
-      start.requires.1,
-      start.requires.2,
-      start.requires.3,
-      search rules,
-      coherent_none start.args.image.now 4096,
-    )
+all_steps-requires-2 c = (
+  c.requires.0,
+  c.timings-table.ensures,
+  c.requires.1,
+  c.requires.2,
+  c.requires.3,
+  search rules,
+  coherent_none c.args.image.now 4096,
+)

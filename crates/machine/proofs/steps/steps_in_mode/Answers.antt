@@ -1,9 +1,7 @@
 -- `steps::steps_in_mode` meets its contract. The loop's invariant: the steps up to i completed, whatever they
 -- continue; the machine is well formed and the store coherent; as long as the loop goes on the mode and the bank byte
 -- are those of its start, and when it ends a step was made.
-use Prim.Native.Nat.{◌-◌}
 use mathlib.Core.Path.{◌≡◌, refl, sym, ap, ◌∙◌}
-use mathlib.Core.Bool.{true, false}
 use native.Mathlib.Omega.{arith}
 use borrow.Author.Rules.{rules}
 use Rattle.isa.proofs.Halves.{same_space}
@@ -32,85 +30,71 @@ loop-same-init c =
 
 pub advance-after-requires : goal.advance-after-requires
 advance-after-requires c =
-    let start = c.before.before.before.before.before.before.before.before.before.before.before.before in
     let inv = c.loop-same.invariant in (
-      start.requires.3,
-      start.requires.4,
+      c.requires.3,
+      c.requires.4,
       (formed_exactly.facts _ _ inv.3).pc,
-      omega (arith, inv.4, start.requires.7),
+      omega (arith, inv.4, c.requires.7),
       inv.5,
       rw (
         (inv.6 c.loop-same-test.true).2,
-        c.page_number-page.ensures start.requires.4,
+        c.page_number-page.ensures c.requires.4,
       )
-          (same_space start.args.image.now _),
+          (same_space c.args.image.now _),
     )
 
 pub shape_of-store-in-Refused : goal.shape_of-store-in-Refused
 shape_of-store-in-Refused c =
-    let at-advance = c.before.before.before.before.before.before.before.before in
-    omega (arith, at-advance.loop-same.invariant.4)
+    omega (arith, c.loop-same.invariant.4)
 
 pub returns-in-Refused : goal.returns-in-Refused
 returns-in-Refused c =
-    let at-advance = c.before.before.before.before.before.before.before.before in
-    let at_test = at-advance.before.before.before.before.before in
-    let loop = at_test.loop-same in
-    let start = at_test.before.before.before.before.before.before.before.before in
-    let image = start.args.image.now in
-    let requests = start.args.requests.now in
-    let mode = start.args.start.mode in
-    let n = start.args.n in
-    let goes = loop.invariant.6 at_test.loop-same-test.true in
+    let loop = c.loop-same in
+    let image = c.args.image.now in
+    let requests = c.args.requests.now in
+    let n = c.args.n in
+    let goes = loop.invariant.6 c.loop-same-test.true in
     let all : settled c.part.result.report n ≡ n = rw c.part.ensures.3 in (
       λ pairs m e.
           rw (← goes.1)
-          (c.part.ensures.0 _ _ pairs loop.c-1.mode
+          (c.part.ensures.0 _ _ pairs loop.c.mode
           ∙ stops_at image requests m _ _ _ _ _ _ goes.0 (rw (← goes.1) at (loop.invariant.8 pairs m e))
           (rw c.in-Refused.is at
           (stepped image requests
-          (machine_of loop.c-1 loop.stack (with_pair_of pairs loop.c-1.mode loop.flags-1) loop.bytes) n
-          loop.i _ _ start.requires.4 loop.invariant.3 start.requires.6 goes.0
-          at-advance.request_at.ensures
-          (at-advance.advance-after.ensures.0 pairs)))
+          (machine_of loop.c loop.stack (with_pair_of pairs loop.c.mode loop.flags) loop.bytes) n
+          loop.i _ _ c.requires.4 loop.invariant.3 c.requires.6 goes.0
+          c.request_at.ensures
+          (c.advance-after.ensures.0 pairs)))
           ∙ ap (steps_of image requests m) (sym all)),
       omega (arith, all, goes.0, loop.invariant.0),
       omega (arith, all),
       omega (arith, all, c.part.ensures.2, loop.invariant.2, goes.0),
-      at-advance.advance-after.ensures.1,
+      c.advance-after.ensures.1,
     )
 
 pub loop-same-smaller : goal.loop-same-smaller
 loop-same-smaller c =
-    let at_test =
-    c.before.before.before.before.before.before.before.before.before.before.before.before.before.before in
-    omega (arith, (at_test.loop-same.inv.6 at_test.loop-same-test.taken).0)
+    omega (arith, (c.loop-same.invariant.6 c.loop-same-test.true).0)
 
 pub loop-same-preserved : goal.loop-same-preserved
 loop-same-preserved c =
-    let at-advance = c.before.before.before.before.before.before.before.before.before in
-    let at_test = at-advance.before.before.before.before.before in
-    let loop = at_test.loop-same in
-    let start = at_test.before.before.before.before.before.before.before.before in
-    let image = start.args.image.now in
-    let requests = start.args.requests.now in
-    let mode = start.args.start.mode in
-    let n = start.args.n in
-    let goes = loop.invariant.6 at_test.loop-same-test.true in
-    let known = at_test.shared_slice_known-1 in
-    let at-mode = at_test.before.before in (
+    let loop = c.loop-same in
+    let image = c.args.image.now in
+    let requests = c.args.requests.now in
+    let n = c.args.n in
+    let goes = loop.invariant.6 c.loop-same-test.true in (
       omega (arith, loop.invariant.0),
       omega (arith, goes.0),
-      omega (arith, loop.invariant.2, c.known_told-1.given),
-      formed_step image (λ j. (known.given j).fits)
-          (machine_of loop.c-1 loop.stack (with_pair_of cleared_pairs loop.c-1.mode loop.flags-1) loop.bytes)
+      omega (arith, loop.invariant.2),
+      formed_step image (λ j. (c.type_inv.image j).fits)
+          (machine_of loop.c loop.stack (with_pair_of cleared_pairs loop.c.mode loop.flags) loop.bytes)
           loop.invariant.3 _ _
-          (at-advance.advance-after.ensures.0 cleared_pairs),
+          (c.advance-after.ensures.0 cleared_pairs),
       search rules,
-      at-advance.advance-after.ensures.1,
+      c.advance-after.ensures.1,
       λ e. (
         (c.stays-same.ensures e).0,
-        same_mode _ _ ((c.stays-same.ensures e).1 ∙ at-mode.mode_number-before.ensures),
+        same_mode _ _ ((c.stays-same.ensures e).1 ∙ c.mode_number-before.ensures),
         (c.stays-same.ensures e).2,
       ),
       λ e. omega (arith, loop.invariant.0),
@@ -119,22 +103,20 @@ loop-same-preserved c =
           (one_more image requests m _ _ _ _ _ (rw (← goes.1) at (loop.invariant.8 pairs m e))
           (rw c.in-Done.is at
           (stepped image requests
-          (machine_of loop.c-1 loop.stack (with_pair_of pairs loop.c-1.mode loop.flags-1) loop.bytes) n
-          loop.i _ _ start.requires.4 loop.invariant.3 start.requires.6 goes.0
-          at-advance.request_at.ensures
-          (at-advance.advance-after.ensures.0 pairs)))),
+          (machine_of loop.c loop.stack (with_pair_of pairs loop.c.mode loop.flags) loop.bytes) n
+          loop.i _ _ c.requires.4 loop.invariant.3 c.requires.6 goes.0
+          c.request_at.ensures
+          (c.advance-after.ensures.0 pairs)))),
     )
 
 pub returns : goal.returns
 returns c =
-    let k = c.before.before in
-    let start = k.before.before.before.before.before.before.before in
-    let inv = k.loop-same.invariant in
-    let all : settled c.part-2.result.report start.args.n ≡ k.loop-same.i = rw c.part-2.ensures.3
+    let inv = c.loop-same.invariant in
+    let all : settled c.part-2.result.report c.args.n ≡ c.loop-same.i = rw c.part-2.ensures.3
     c.part-2.ensures.1 in (
       λ pairs m e.
-          c.part-2.ensures.0 _ _ pairs start.args.start.mode ∙ inv.8 pairs m e
-          ∙ ap (steps_of start.args.image.now start.args.requests.now m) (sym all),
+          c.part-2.ensures.0 _ _ pairs c.args.start.mode ∙ inv.8 pairs m e
+          ∙ ap (steps_of c.args.image.now c.args.requests.now m) (sym all),
       omega (arith, all, inv.7 c.loop-same-test.false),
       omega (arith, all, inv.1),
       omega (arith, all, c.part-2.ensures.2, inv.2),

@@ -17,12 +17,12 @@ use Rattle.machine.proofs.steps.steps_in_mode.Given as goal
 
 abbrev pub invariant-loop-same : goal.invariant-loop-same
 invariant-loop-same l =
-    (l.initial.stack ≤ l.initial.same) × (l.initial.same ≤ l.requests) × (l.i ≤ 255 * l.initial.same) × (well_formed l.initial.cycles l.cycles ≡ true) × (length l.initial.flags ≡ length l.initial.store)
-    × Coherent l.image l.initial.flags × (l.same ≡ true → (l.initial.same < l.requests) × (l.cycles.mode ≡ l.bank.mode) × (get_or l.flags 0xCA 0 ≡ l.first)) × (l.same ≡ false → l.initial.stack < l.initial.same)
+    (l.first ≤ l.i) × (l.i ≤ l.n) × (l.cycles ≤ 255 * l.i) × (well_formed l.stack l.c ≡ true) × (length l.store ≡ length l.initial.store)
+    × Coherent l.image l.store × (l.same ≡ true → (l.i < l.n) × (l.c.mode ≡ l.initial.c.mode) × (get_or l.bytes 0xCA 0 ≡ l.bank)) × (l.same ≡ false → l.first < l.i)
     × ((pairs : FlagPairs) (m : Machine) →
-    run_at (machine_of l.bank l.initial.bytes (with_pair_of pairs l.bank.mode l.page) l.store) l.initial.stack l.stack (done tt)
-    ≡ steps_of l.image l.bytes m l.initial.stack →
-    run_at (machine_of l.cycles l.initial.cycles (with_pair_of pairs l.bank.mode l.initial.i) l.flags) l.initial.same l.i (done tt) ≡ steps_of l.image l.bytes m l.initial.same)
+    run_at (machine_of l.initial.c l.initial.stack (with_pair_of pairs l.initial.c.mode l.initial.flags) l.initial.bytes) l.first l.spent (done tt)
+    ≡ steps_of l.image l.requests m l.first →
+    run_at (machine_of l.c l.stack (with_pair_of pairs l.initial.c.mode l.flags) l.bytes) l.i l.cycles (done tt) ≡ steps_of l.image l.requests m l.i)
 
 abbrev pub decreases-loop-same : goal.decreases-loop-same
-decreases-loop-same l = l.requests - l.initial.same
+decreases-loop-same l = l.n - l.i
