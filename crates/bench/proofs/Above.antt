@@ -56,7 +56,7 @@ pub data Above (certificate : List ℕ) (M : Mode) (q : ℕ) (t : List ℕ) : Mo
 
 -- the RETI that ends the service
 pub record Ended (M : Mode) (q : ℕ) (t : List ℕ) (d : StackEffect) (m m' : Mode) (p' : ℕ) (s' : List ℕ) : Type 0 where
-  pub is_reti_lem : d ≡ by_reti
+  pub is_reti : d ≡ by_reti
   pub in_mode : m ≡ M
   pub mode : m' ≡ mode_beneath M
   pub address : p' ≡ q
@@ -100,7 +100,7 @@ module _ {certificate : List ℕ} {M : Mode} {q : ℕ} {t : List ℕ} where
   reti : {m : Mode} {p r : ℕ} {s : List ℕ} → Above certificate M q t m p (r ∷ s) → kind_at certificate p ≡ 3
       → Ended M q t by_reti m (mode_beneath m) r s ⊎ Stays certificate M q t by_reti m (mode_beneath m) r s
   reti (service k) e =
-      inl (record { is_reti_lem = refl; in_mode = refl; mode = refl; address = refl; levels = refl })
+      inl (record { is_reti = refl; in_mode = refl; mode = refl; address = refl; levels = refl })
   reti (subroutine a k) e = absurd (omega arith)
   reti (inner o a k) e =
       let h = deep a in
@@ -152,7 +152,7 @@ pairs_apart {m = m} o a = apart o m (deep a)
 -- a service that a taken request begins
 pub record Begun (certificate : List ℕ) (source : Source) (m m' : Mode) (p p' : ℕ) (s s' : List ℕ) : Type 0 where
   pub takes : Takes m source
-  pub mode_set_lem : m' ≡ service_mode source m
+  pub mode_set : m' ≡ service_mode source m
   pub above : Above certificate m' p s m' p' s'
 
 pub begun : {certificate : List ℕ} {wired : ℕ} {source : Source} {d : StackEffect} {m m' : Mode} {p p' : ℕ}
@@ -166,4 +166,4 @@ begun (moves.leaves h) e = let z : ◌≡◌ {A = ℕ} 0 1 = cc in absurd (omega
 begun (moves.begins h) e = let z : ◌≡◌ {A = ℕ} 0 1 = cc in absurd (omega arith)
 begun {source = source} (moves.takes {source = taken} h w) e =
     let same : taken ≡ source = cc in
-    record { takes = rw same at h; mode_set_lem = rw same refl; above = service w.kind }
+    record { takes = rw same at h; mode_set = rw same refl; above = service w.kind }

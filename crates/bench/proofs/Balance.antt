@@ -6,16 +6,14 @@ use mathlib.Core.Bool.{Bool, true, false, cond, not, ◌&&◌}
 use mathlib.Core.List.{List, [], ◌∷◌}
 use lib.Dec.{leb}
 use lib.ListN.{length, get_or, take}
-use Rattle.isa.specs.Refusals.{plain, Answer, Ended, done, refused, unless}
+use Rattle.isa.specs.Refusals.{plain, done, refused, unless}
 use Rattle.isa.specs.Sources.{names_only_sources}
 use Rattle.control.specs.declared.Mode.{Mode}
 use Rattle.machine.specs.declared.Machine.{Machine}
-use Rattle.machine.specs.State as state
 use Rattle.data.specs.Space.{in_window}
 use Rattle.machine.specs.State.{HostStore, with_byte, host_store_of, reset_of}
-use Rattle.machine.specs.Step as stepping
 use Rattle.machine.specs.Step.{step_of}
-use Rattle.machine.specs.Run.{Run, refused_run, joined_by, continued_by, steps_of, requests_fit, run_of}
+use Rattle.machine.specs.Run.{refused_run, steps_of, requests_fit, run_of}
 use Rattle.machine.proofs.StepByStep.{fits_at}
 use Rattle.certificate.specs.Rules.{Rules}
 use Rattle.certificate.proofs.Agreement.{agreement}
@@ -25,7 +23,7 @@ use Rattle.bench.specs.Session.{levels_in_use}
 use Rattle.bench.specs.StackEffect.{StackEffect, stack_effect_of}
 use Rattle.bench.specs.Balance.{Tally, cleared, counted, step_counted, steps_counted, call_counted, all_counted}
 use Rattle.bench.specs.Balance.{Balances, BalancesAfter, Balanced, LevelsCounted}
-use Rattle.bench.proofs.Stack.{length_inUse}
+use Rattle.bench.proofs.Stack.{length_in_use}
 use Rattle.bench.proofs.Moves as moves
 use Rattle.bench.proofs.Moves.{Moves}
 use Rattle.bench.proofs.Invariant.{MachineInvariant, reset_invariant, well_formed_lem}
@@ -35,7 +33,7 @@ use Rattle.bench.proofs.Unrolled.{continued_machine, asks_take, asks_unrolled}
 
 pub levels_counted : LevelsCounted
 unfolding levels_in_use
-levels_counted m = length_inUse m.control.levels m.stack
+levels_counted m = length_in_use m.control.levels m.stack
 
 -- a move has one address more exactly where it pushes, and one less where it pops
 pub move_balances : {certificate : List ℕ} {wired : ℕ} {d : StackEffect} {m m' : Mode} {p p' : ℕ} {s s' : List ℕ}

@@ -15,7 +15,7 @@ use Rattle.machine.specs.declared.Machine.{Machine}
 use Rattle.machine.specs.State.{is_well_formed, reset_of}
 use Rattle.certificate.specs.Rules.{Rules}
 use Rattle.bench.specs.Session.{levels_in_use}
-use Rattle.bench.proofs.Stack.{length_inUse}
+use Rattle.bench.proofs.Stack.{length_in_use}
 use Rattle.bench.proofs.Marks.{below}
 use Rattle.bench.proofs.StackFrames.{StackFrames, start_up_lem, main, subroutine, service, within_number, has_kind_lem}
 use Rattle.bench.proofs.StackFrames.{at_reset}
@@ -60,7 +60,7 @@ module _ (image certificate : List ℕ) (wired number : ℕ) (ok : Rules image c
   unfolding well_formed levels_in_use
   well_formed_lem m g =
       let six : m.control.levels ≤ 6 =
-      omega (arith, levels_within m g, length_inUse m.control.levels m.stack, ok.at_most_six) in
+      omega (arith, levels_within m g, length_in_use m.control.levels m.stack, ok.at_most_six) in
       rw (
         lt-ltb m.control.pc 0x1000 (below certificate m.control.pc (has_kind_lem g.frames)),
         le-leb m.control.levels 6 six,

@@ -1,7 +1,3 @@
-pub mod FunctionWalk
-pub mod KeyWalk
-pub mod CallerWalk
-pub mod Answers
 pub mod Stack
 pub mod Marks
 pub mod StackFrames

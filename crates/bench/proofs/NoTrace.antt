@@ -130,7 +130,7 @@ module _ (image certificate : List ℕ) (wired number : ℕ) (ok : Rules image c
       rw (step_advances image m request ok.image_length formed t.named)
       (taken_flags (program_of image m.bytes) m request source t.takes) in
       record {
-        over = rw b.mode-set (over_taken b.takes);
+        over = rw b.mode_set (over_taken b.takes);
         above = b.above;
         pair = rw flags refl;
       }
@@ -180,7 +180,7 @@ module _ (image certificate : List ℕ) (wired number : ℕ) (ok : Rules image c
             m.control.mode m₁.control.mode m₁.control.pc (return_addresses m₁)
             → Served image certificate m₀ M m request
         by_move named (inl e) =
-            let x = reti_executed image M m request named e.in_mode e.is-reti in
+            let x = reti_executed image M m request named e.in_mode e.is_reti in
             ends x
             (record {
               address = e.address;

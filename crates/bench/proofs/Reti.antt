@@ -56,7 +56,7 @@ is_reti_lem i a h = by_kind i (may_stop i) h
     by_kind _ (stops.is_call to) h = let z : ◌≡◌ {A = ℕ} 0 1 = cc in absurd (omega arith)
     by_kind _ stops.is_ret h = let z : ◌≡◌ {A = ℕ} 0 1 = cc in absurd (omega arith)
     by_kind _ stops.is_reti_lem h = refl
-    by_kind i (stops.goes_on e) h =
+    by_kind i (stops.goes_on_lem e) h =
         let x : ◌≡◌ {A = Stop} stop.Empty stop.None = rw h at (e [] (view_of fresh_of) [] emptied 0) in
         let z : ◌≡◌ {A = ℕ} 0 1 = cc in absurd (omega arith)
 

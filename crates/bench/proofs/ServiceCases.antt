@@ -18,7 +18,7 @@ use Rattle.isa.specs.declared.Source.{Source}
 use Rattle.isa.specs.declared.Source.TheVariants.{Nmi, First, Second, Third, Fourth}
 use Rattle.control.specs.Modes.{mode_number}
 use Rattle.control.specs.declared.Mode.{Mode}
-use Rattle.control.specs.declared.Mode.TheVariants.{Reset, Normal, Interrupt, NmiOverNormal, NmiOverInterrupt}
+use Rattle.control.specs.declared.Mode.TheVariants.{Interrupt, NmiOverNormal, NmiOverInterrupt}
 use Rattle.control.specs.declared.Control.{Control}
 use Rattle.control.specs.Modes.{is_reset}
 use Rattle.control.specs.declared.Requested.{Requested}
@@ -167,7 +167,7 @@ record Computed : Type 0 where
   fit : Bool
   named : Bool
   takes : Requested
-  mode_set_lem : Mode
+  mode_set : Mode
   stays : Bool
   last_named : Bool
   last_effect : StackEffect
@@ -182,7 +182,7 @@ whole source mode from to =
       fit = true;
       named = true;
       takes = Taken source;
-      mode_set_lem = mode;
+      mode_set = mode;
       stays = true;
       last_named = true;
       last_effect = by_reti;
@@ -209,7 +209,7 @@ module _ (image certificate : List ℕ) (wired number : ℕ) (e : check_of image
         fit = calls_fit wired calls;
         named = names_only_sources request;
         takes = Requests.requested_of first.control.mode (Step.enabled_of first.bytes) request;
-        mode_set_lem = taking.control.mode;
+        mode_set = taking.control.mode;
         stays = all_stay_in image mode since taking;
         last_named = names_only_sources last;
         last_effect = effect.stack_effect_of image ending last;
@@ -236,8 +236,8 @@ module _ (image certificate : List ℕ) (wired number : ℕ) (e : check_of image
       asks : AllAskOnly wired calls
       asks = all_ask wired calls (ap (λ (c : Computed). c.fit) is)
 
-      mode_set_lem : taking.control.mode ≡ mode
-      mode_set_lem = ap (λ (c : Computed). c.mode-set) is
+      mode_set : taking.control.mode ≡ mode
+      mode_set = ap (λ (c : Computed). c.mode_set) is
 
       s : InService image fresh_of (unrolled calls)
       s =
@@ -254,7 +254,7 @@ module _ (image certificate : List ℕ) (wired number : ℕ) (e : check_of image
                   takes = ap (λ (c : Computed). c.takes) is;
                 };
             not_ended =
-                in_mode_set image since taking _ mode mode_set_lem
+                in_mode_set image since taking _ mode mode_set
                 (none_ending image mode started since taking (ap (λ (c : Computed). c.stays) is));
           }
 
@@ -263,8 +263,8 @@ module _ (image certificate : List ℕ) (wired number : ℕ) (e : check_of image
 
       x : EndsService s last
       x =
-          reti_executed image taking.control.mode ending last (ap (λ (c : Computed). c.last-named) is)
-          (ap (λ (c : Computed). c.in_mode) is ∙ sym mode_set_lem) (ap (λ (c : Computed). c.last-effect) is)
+          reti_executed image taking.control.mode ending last (ap (λ (c : Computed). c.last_named) is)
+          (ap (λ (c : Computed). c.in_mode) is ∙ sym mode_set) (ap (λ (c : Computed). c.last_effect) is)
 
 -- start-up code, till the machine sleeps, and a step more
 abbrev asleep : List Call

@@ -139,7 +139,7 @@ module _ (image certificate : List ℕ) (wired number : ℕ) (ok : Rules image c
       let b =
       begun (step_goes image certificate wired number ok m g request t.named asks).moves
       (request_effect image m request source t.takes) in
-      rw (b.mode-set, t.named, t.takes) (taking_served b.takes latest)
+      rw (b.mode_set, t.named, t.takes) (taking_served b.takes latest)
 
   end_named : (start : Machine) (calls : List Call) → MachineInvariant certificate wired start
       → AllAskOnly wired calls → (s : InService image start calls) (request : ℕ) → NextStep s request
@@ -155,7 +155,7 @@ module _ (image certificate : List ℕ) (wired number : ℕ) (ok : Rules image c
       rw (latest_append image s.before (step s.request ∷ s.since) start begins)
       (ended_over h.serving.over (current s).control.mode (after_step s request).control.mode x.in_mode
       b.mode _
-      ∙ all_follow s.since h.asks-since s.not_ended h.taken _
+      ∙ all_follow s.since h.asks_since s.not_ended h.taken _
       ∙ begin_follows (interrupted s) h.invariant s.request h.asks s.source s.taken latest)
 
   end_only : (m : Machine) → MachineInvariant certificate wired m → (request : ℕ) → AsksOnly wired request

@@ -10,7 +10,6 @@ use lib.ListN.{get_or}
 use Rattle.isa.specs.Refusals.{plain, done, refused, unless}
 use Rattle.isa.specs.Sources.{names_only_sources}
 use Rattle.machine.specs.declared.Machine.{Machine}
-use Rattle.machine.specs.State as state
 use Rattle.data.specs.Space.{in_window}
 use Rattle.machine.specs.State.{HostStore, with_byte, host_store_of, reset_of}
 use Rattle.machine.specs.Step.{Step, step_of}

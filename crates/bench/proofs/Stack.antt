@@ -13,20 +13,20 @@ use Rattle.control.specs.declared.Mode.{Mode}
 use Rattle.control.specs.declared.Control.{Control}
 use Rattle.control.specs.Stack.{in_use, goes_on, pop_of}
 
-pub length_inUse : (n : ℕ) (slots : List ℕ) → length (in_use n slots) ≡ n
-length_inUse zero slots = refl
-length_inUse (suc n) slots = ap suc (length_inUse n slots)
+pub length_in_use : (n : ℕ) (slots : List ℕ) → length (in_use n slots) ≡ n
+length_in_use zero slots = refl
+length_in_use (suc n) slots = ap suc (length_in_use n slots)
 
 -- a store above the levels in use changes none of them
-inUse_set : (k n a : ℕ) (slots : List ℕ) → k ≤ n → in_use k (set slots n a) ≡ in_use k slots
-inUse_set zero n a slots h = refl
-inUse_set (suc k) n a slots h =
+in_use_set : (k n a : ℕ) (slots : List ℕ) → k ≤ n → in_use k (set slots n a) ≡ in_use k slots
+in_use_set zero n a slots h = refl
+in_use_set (suc k) n a slots h =
     let other : k ≢ n = omega arith in
-    ap₂ ◌∷◌ (get_or-set_other slots n k a 0 other) (inUse_set k n a slots (omega arith))
+    ap₂ ◌∷◌ (get_or-set_other slots n k a 0 other) (in_use_set k n a slots (omega arith))
 
 -- a push puts its address on top
-pub inUse_push : (n a : ℕ) (slots : List ℕ) → n < length slots → in_use (n + 1) (set slots n a) ≡ a ∷ in_use n slots
-inUse_push n a slots h = rw add-one (ap₂ ◌∷◌ (get_or-set_same slots n a 0 h) (inUse_set n n a slots (omega arith)))
+pub in_use_push : (n a : ℕ) (slots : List ℕ) → n < length slots → in_use (n + 1) (set slots n a) ≡ a ∷ in_use n slots
+in_use_push n a slots h = rw add-one (ap₂ ◌∷◌ (get_or-set_same slots n a 0 h) (in_use_set n n a slots (omega arith)))
 
 -- control with so many levels in use
 abbrev pub control_at : (pc levels : ℕ) → Mode → (asleep : Bool) → Control

@@ -35,7 +35,7 @@ use Rattle.bench.specs.Calls.{AsksOnly}
 use Rattle.bench.specs.Session.{return_addresses, StepDone}
 use Rattle.bench.specs.StackEffect.{StackEffect, by_request, by_call, by_ret, flow_effect, action_effect}
 use Rattle.bench.specs.StackEffect.{stack_effect_of}
-use Rattle.bench.proofs.Stack.{length_inUse, inUse_push, control_at, pop_is}
+use Rattle.bench.proofs.Stack.{length_in_use, in_use_push, control_at, pop_is}
 use Rattle.bench.proofs.Marks.{marked}
 use Rattle.bench.proofs.StackFrames.{within_number, has_kind_lem, ret_empty, reti_empty, at_start}
 use Rattle.bench.proofs.Moves as moves
@@ -81,11 +81,11 @@ module _ (image certificate : List ℕ) (wired number : ℕ) (ok : Rules image c
   room slots c address g move =
       let h = within_number (frames_kept move g.frames) in
       let six = g.six in
-      let less : c.levels < 6 = omega (arith, length_inUse c.levels slots, ok.counted, ok.at_most_six) in
+      let less : c.levels < 6 = omega (arith, length_in_use c.levels slots, ok.counted, ok.at_most_six) in
       record {
         not_full = lt-leb 6 c.levels less;
         six = length-set slots c.levels address ∙ six;
-        on_top = inUse_push c.levels address slots (omega arith);
+        on_top = in_use_push c.levels address slots (omega arith);
       }
 
   call : (slots : List ℕ) (c : Control) (to next : ℕ) → Invariant certificate wired slots c
@@ -95,7 +95,7 @@ module _ (image certificate : List ℕ) (wired number : ℕ) (ok : Rules image c
   unfolding call_of push_of
   call slots c to next g move =
       let r = room slots c next g move in
-      rw r.not_full (record { no_stop = refl; six = r.six; moves = rw r.on-top move })
+      rw r.not_full (record { no_stop = refl; six = r.six; moves = rw r.on_top move })
 
   -- a request that is taken
   take : (slots : List ℕ) (c : Control) (source : Source) → Allowed certificate wired c.mode source
@@ -103,9 +103,9 @@ module _ (image certificate : List ℕ) (wired number : ℕ) (ok : Rules image c
       → Goes certificate wired (by_request source) slots c (take_of slots c source)
   unfolding take_of push_of serving_of
   take slots c source a g =
-      let move = moves.takes a.takes a.wired-source in
+      let move = moves.takes a.takes a.wired_source in
       let r = room slots c c.pc g move in
-      rw r.not_full (record { no_stop = refl; six = r.six; moves = rw r.on-top move })
+      rw r.not_full (record { no_stop = refl; six = r.six; moves = rw r.on_top move })
 
   -- RET and RETI, by the number of levels in use
   module _ (slots : List ℕ) (pc : ℕ) (asleep : Bool) where

@@ -11,7 +11,6 @@ use Rattle.isa.specs.Rom.{is_image}
 use Rattle.isa.specs.Refusals.{plain, done, unless}
 use Rattle.isa.specs.Sources.{names_only_sources}
 use Rattle.machine.specs.declared.Machine.{Machine}
-use Rattle.machine.specs.State as state
 use Rattle.machine.specs.Step.{refused_of, action_of, acted_of, step_of}
 use Rattle.machine.specs.Run.{Run, refused_run, continued_of, steps_of, requests_fit, run_of}
 use Rattle.machine.proofs.StepByStep.{step_advances}

@@ -11,7 +11,7 @@ use Rattle.isa.specs.declared.Source.TheVariants.{Nmi, First, Second, Third, Fou
 use Rattle.machine.specs.declared.Machine.{Machine}
 use Rattle.machine.specs.State.{reset_of}
 use Rattle.machine.specs.Step.{step_of}
-use Rattle.machine.specs.Run.{Run, refused_run, joined_by, continued_by, steps_of, requests_fit, run_of}
+use Rattle.machine.specs.Run.{Run, refused_run, joined_by, continued_by, steps_of, requests_fit}
 use Rattle.machine.proofs.StepByStep.{fits_at}
 use Rattle.certificate.specs.Rules.{Rules}
 use Rattle.certificate.proofs.Agreement.{agreement}

@@ -82,6 +82,6 @@ pub record Balanced : Type 0 where
       → BalancesAfter image m (take k (unrolled calls))
 
 -- "Levels in use are the return addresses on the stack": the machine's own count is their number
--- proved by levels-counted, proofs/Balance
+-- proved by levels_counted, proofs/Balance
 abbrev pub LevelsCounted : Type 0
 LevelsCounted = (m : Machine) → levels_in_use m ≡ m.control.levels

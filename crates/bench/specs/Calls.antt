@@ -51,7 +51,7 @@ AllAskOnly wired [] = Unit {0}
 AllAskOnly wired (c ∷ calls) = CallAsksOnly wired c × AllAskOnly wired calls
 
 -- "none past the lent list's end": nothing is asked of a run there, since the byte 0 names no source
--- proved by none-asks, proofs/Unrolled
+-- proved by none_asks, proofs/Unrolled
 abbrev pub NoneAsks : Type 0
 NoneAsks = (wired : ℕ) → AsksOnly wired 0
 
@@ -83,12 +83,12 @@ AllSingle (store address value ∷ calls) = AllSingle calls
 AllSingle (reset ∷ calls) = AllSingle calls
 
 -- in a list with its runs as steps there is no run
--- proved by no-runs, proofs/Unrolled
+-- proved by no_runs, proofs/Unrolled
 abbrev pub NoRuns : Type 0
 NoRuns = (calls : List Call) → AllSingle (unrolled calls)
 
 -- a list of calls as in demand 3 leaves the same machine with its runs as steps, where again only wired sources ask
--- proved by unrolled-leaves, proofs/Unrolled
+-- proved by unrolled_leaves, proofs/Unrolled
 pub record UnrolledLeaves : Type 0 where
   pub same :
       (image certificate : List ℕ) (wired number : ℕ) → check_of image certificate wired ≡ accepted number

@@ -127,7 +127,7 @@ module _ {image : List ℕ} {start : Machine} {calls : List Call} (s : InService
 -- "For an accepted image and any list of calls as in demand 3", which starts from any machine just reset: at every
 -- moment of every service. "This holds for paged parts under W-210's rules as well": nothing is asked of the image but
 -- that it is accepted.
--- proved by no-trace, proofs/NoTrace
+-- proved by no_trace, proofs/NoTrace
 abbrev pub NoTrace : Type 0
 NoTrace =
     (image certificate : List ℕ) (wired number : ℕ) → check_of image certificate wired ≡ accepted number
@@ -135,7 +135,7 @@ NoTrace =
     → (s : InService image (reset_of m) (unrolled calls)) → LeavesNoTrace s
 
 -- "the RETI that ends its service" is the first moment at which the levels are again those before the taking
--- proved by levels-tell-end, proofs/NoTrace
+-- proved by levels_tell_end, proofs/NoTrace
 abbrev pub LevelsTellEnd : Type 0
 LevelsTellEnd =
     (image certificate : List ℕ) (wired number : ℕ) → check_of image certificate wired ≡ accepted number

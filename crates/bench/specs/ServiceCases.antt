@@ -101,7 +101,7 @@ PagedServed =
     ServedIn paged (run (0x00 ∷ 0x00 ∷ 0x00 ∷ 0x01 ∷ []) 7 ∷ []) Nmi (control_as 0x010 0 Normal false)
     (control_as 0x010 0 Normal false)
 
--- proved by service-cases, proofs/ServiceCases
+-- proved by service_cases, proofs/ServiceCases
 pub record ServiceCases : Type 0 where
   pub p11 : P11Served
   pub accepted_sleeper : check_of sleeper sleeper_certificate 0x03 ≡ accepted 2

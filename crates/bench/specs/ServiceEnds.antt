@@ -61,7 +61,7 @@ latest_after_all image [] m latest = latest
 latest_after_all image (c ∷ calls) m latest = latest_after_all image calls (leaves image c m) (latest_after c m latest)
 
 -- Of an accepted image and a list of calls as in demand 3, whatever source the list is begun with.
--- proved by end-told, proofs/ServiceEnds
+-- proved by end_told, proofs/ServiceEnds
 pub record EndTold : Type 0 where
   -- of "the RETI that ends its service" the request of that service is told
   pub named :

@@ -87,7 +87,7 @@ Promised image wired number =
 -- levels", and a paged one as well: "demand 3 then holds for them too, under any bank changes" (document 02, W-210).
 -- Then of every list of calls, whatever it stores at 0CAh, all that is promised holds: "one claim about the whole list of
 -- calls, and not a claim for each call".
--- proved by never-stops, proofs/Session
+-- proved by never_stops, proofs/Session
 abbrev pub NeverStops : Type 0
 NeverStops =
     (image certificate : List ℕ) (wired number : ℕ) → check_of image certificate wired ≡ accepted number

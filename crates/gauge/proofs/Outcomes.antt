@@ -6,7 +6,7 @@ use mathlib.Core.List.{List}
 use native.Mathlib.Omega.{arith}
 use Rattle.isa.specs.Refusals.{Numbered, plain, Answer, done, refused}
 use Rattle.machine.specs.Run.{steps_of}
-use Rattle.certificate.specs.Check.{Verdict, check_of, accepted}
+use Rattle.certificate.specs.Check.{Verdict, accepted}
 use Rattle.gauge.specs.Sleep.{
   machine_after,
   asleep_after,

@@ -2,12 +2,12 @@
 use Prim.Native.Nat.{ℕ, zero, suc, ◌+◌, ◌-◌, ◌<◌, ◌≤◌}
 use mathlib.Core.Path.{◌≡◌, refl, sym, ap, ◌∙◌}
 use mathlib.Core.Logic.{inr}
-use mathlib.Core.Bool.{Bool, true, false, not, false≢true}
+use mathlib.Core.Bool.{Bool, true, false, false≢true}
 use mathlib.Core.List.{List, []}
 use native.Mathlib.Omega.{arith}
 use native.Mathlib.Nat.{add-zero}
 use native.Mathlib.Numerals.{add-one}
-use borrow.Author.Tests.{ltb-true, ltb-false, not-true}
+use borrow.Author.Tests.{ltb-true, ltb-false}
 use lib.Dec.{ltb}
 use lib.ListN.{drop}
 use Rattle.isa.specs.Refusals.{Answer, Ended, done, refused}
@@ -115,10 +115,10 @@ pub record StillAwake (image : List ℕ) (m : Machine) (most n : ℕ) (after : M
 
 pub still_awake :
     (image : List ℕ) (m : Machine) (most : ℕ) → SleepsWithin image m most → (held : Machine) (n : ℕ) (asleep : Bool)
-    → n ≤ most → held ≡ machine_after image m n → asleep ≡ held.control.asleep → not asleep ≡ true
+    → n ≤ most → held ≡ machine_after image m n → asleep ≡ held.control.asleep → asleep ≡ false
     → (s : Step) → s ≡ step_of image held 0 → StillAwake image m most n s.machine
 still_awake image m most sleeps held n asleep h is a t s e =
-    let awake : AwakeAfter image m n = found_after image m held n asleep is a ∙ not-true asleep t in
+    let awake : AwakeAfter image m n = found_after image m held n asleep is a ∙ t in
     let left : n < most = not_yet image m most sleeps n h awake in
     record {
       awake = awake;

@@ -24,7 +24,7 @@ endless_image = put 0xFFE (0xE9 ∷ 0xFF ∷ []) blank
 abbrev pub endless_certificate : List ℕ
 endless_certificate = put 0xFFE (0x10 ∷ []) blank
 
--- proved by width-cases, proofs/Cases
+-- proved by width_cases, proofs/Cases
 pub record WidthCases : Type 0 where
   -- the width is the count, and STOP is the fourth step
   pub measured : (count : ℕ) → width_of copying_image copying_certificate count ≡ done (size_as count 4)

@@ -28,7 +28,7 @@ abbrev pub width_unpaged : (image certificate : List ℕ) → (count : ℕ) → 
 width_unpaged image certificate count = width_by_unpaged image count (check_unpaged image certificate 0)
 
 -- of every image, of whatever length: "an image above 4,096 bytes gives 23", as it did
--- proved by gauge-as-before, proofs/OnePage
+-- proved by gauge_as_before, proofs/OnePage
 abbrev pub GaugeAsBefore : Type 0
 GaugeAsBefore =
     (image certificate : List ℕ) (count : ℕ) → width_of image certificate count ≡ width_unpaged image certificate count

@@ -72,7 +72,7 @@ pub record NoOther (image certificate : List ℕ) (count : ℕ) : Type 0 where
 
 -- W-201, of every image, certificate and count, of any length: a width, 23 or 24, each exactly where the paper says so,
 -- and nothing else
--- proved by exactly-one, proofs/Outcomes
+-- proved by exactly_one, proofs/Outcomes
 pub record ExactlyOne : Type 0 where
   pub answers : (image certificate : List ℕ) (count : ℕ) → Answers image certificate count
   pub outcome : (image certificate : List ℕ) (count : ℕ) → Outcome image certificate count

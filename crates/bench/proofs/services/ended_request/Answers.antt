@@ -6,12 +6,8 @@ use Rattle.bench.proofs.services.ended_request.Goals as goal
 pub returns-then-open_services : goal.returns-then-open_services
 unfolding ended_of
 returns-then-open_services c =
-    let k = c.before.before in
-    rw (← k.open_services.ensures, ← k.open_services-2.ensures, lt-ltb _ _ c.if-open_services.true)
-    c.served_in.ensures
+    rw (← c.open_services.ensures, ← c.open_services-2.ensures, lt-ltb _ _ c.if-open_services.true) c.served_in.ensures
 
 pub returns : goal.returns
 unfolding ended_of
-returns c =
-    let k = c.before in
-    rw (← k.open_services.ensures, ← k.open_services-2.ensures, le-ltb _ _ c.if-open_services.false)
+returns c = rw (← c.open_services.ensures, ← c.open_services-2.ensures, le-ltb _ _ c.if-open_services.false)

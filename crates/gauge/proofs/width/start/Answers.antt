@@ -1,5 +1,5 @@
 -- `width::start` meets its contract.
-use mathlib.Core.Path.{ap, ◌∙◌}
+use Rattle.std.proofs.Common.{ap, ◌∙◌}
 use Rattle.machine.specs.declared.Machine.{Machine}
 use Rattle.machine.specs.State.{HostStore, host_store_of}
 use Rattle.gauge.specs.Width.{start_of}
@@ -8,6 +8,5 @@ use Rattle.gauge.proofs.width.start.Goals as goal
 pub returns : goal.returns
 unfolding start_of
 returns c =
-    let count = c.args.count in
     ap (λ (s : HostStore). s.machine) c.host_store-stored.ensures
-    ∙ ap (λ (m : Machine). (host_store_of m 0xC0 count).machine) c.fresh.ensures
+    ∙ ap (λ (m : Machine). (host_store_of m 0xC0 c.args.count).machine) c.fresh.ensures

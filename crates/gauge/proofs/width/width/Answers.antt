@@ -22,11 +22,9 @@ returns-in_default c =
 
 pub measure-requires : goal.measure-requires
 measure-requires c =
-    let start = c.before.before.before.before.before.before.before in
     rw c.start.ensures
-    (ready start.args.image.now start.args.certificate.now _
-    (sym c.check-checked.ensures ∙ ap answered c.in-Accepted.is)
-    start.args.count)
+    (ready c.args.image.now c.args.certificate.now _ (sym c.check-checked.ensures ∙ ap answered c.in-Accepted.is)
+    c.args.count)
 
 pub returns : goal.returns
 unfolding width_of
