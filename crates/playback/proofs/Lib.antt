@@ -13,8 +13,6 @@ pub mod Turns
 pub mod Counted
 pub mod Cycles
 pub mod Rows
-pub mod ValueWalk
-pub mod ArrayWalk
 pub mod OnePage
 pub mod NoTrace
 pub mod UnderWindow

@@ -95,10 +95,10 @@ module _ (body : List ℕ) (first next : ℕ) where
   unfolding steps_read Leads
   more_row requests count at q row leads names less =
       let same : get_or (set requests count q) count 0 ≡ q =
-      get_or-set_same requests count q 0 (omega (arith, row.length-is)) in
+      get_or-set_same requests count q 0 (omega (arith, row.length_is)) in
       let rest = entries_of (drop (at + 2) body) in
       record {
-        length_is = length-set requests count q ∙ row.length-is;
+        length_is = length-set requests count q ∙ row.length_is;
         is_at = omega (arith, row.is_at);
         within = omega (arith, row.within, leads.1, length-drop at body);
         some = omega arith;

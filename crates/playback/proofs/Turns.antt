@@ -1,9 +1,8 @@
 -- Laws of turns, for those who play by them.
 use Prim.Native.Nat.{ℕ, zero, suc}
 use mathlib.Core.Path.{◌≡◌, refl, ap, ◌∙◌}
-use mathlib.Core.Bool.{Bool, true, false, not}
+use mathlib.Core.Bool.{true, false}
 use mathlib.Core.List.{List}
-use lib.Dec.{T as Holds, eqb, eqb→eq, eqb_refl, T_not}
 use Rattle.isa.specs.Refusals.{Answer, Ended, done, refused}
 use Rattle.machine.specs.declared.Machine.{Machine}
 use Rattle.machine.specs.State.{fresh_of, ended_of, reset_of, host_stored, host_store_of}
@@ -17,29 +16,19 @@ use Rattle.playback.specs.Play.{playing_as, played_by}
 use Rattle.playback.specs.Turn.{entry_by, entry_of, played_from, plays_on, Kept, FirstTurn}
 use Rattle.playback.specs.Turn.{After, AfterStore, AfterReset, Gathered, run_left, AfterRun}
 
--- a test that came out so
-pub came : (b : Bool) → Holds b → b ≡ true
-came true h = refl
-came false h = absurd h
+-- the entry of a turn, by its kind
+pub is_step : (t : Turn) → t.kind ≡ 0 → entry_of t ≡ Step t.first
+is_step t h = rw h refl
 
-pub failed : (b : Bool) → Holds (not b) → b ≡ false
-failed true h = absurd h
-failed false h = refl
+pub is_store : (t : Turn) → t.kind ≡ 1 → entry_of t ≡ Store t.first t.second
+is_store t h = rw h refl
 
--- the entry of a turn, by the tests of its kind
-pub is_step : (t : Turn) → Holds (eqb t.kind 0) → entry_of t ≡ Step t.first
-is_step t h = rw (eqb→eq t.kind 0 h) refl
-
-pub is_store : (t : Turn) → Holds (eqb t.kind 1) → entry_of t ≡ Store t.first t.second
-is_store t h = rw (eqb→eq t.kind 1 h) refl
-
-pub is_reset_lem : (t : Turn) → Holds (not (eqb t.kind 0)) → Holds (not (eqb t.kind 1)) → entry_of t ≡ Reset
+pub is_reset_lem : (t : Turn) → (t.kind ≡ 0 → ⊥) → (t.kind ≡ 1 → ⊥) → entry_of t ≡ Reset
 is_reset_lem t no_step no_store = by_kind t.kind no_step no_store
   where
-    by_kind :
-        (kind : ℕ) → Holds (not (eqb kind 0)) → Holds (not (eqb kind 1)) → entry_by kind t.first t.second ≡ Reset
-    by_kind zero no_step no_store = absurd (T_not (eqb 0 0) no_step (eqb_refl 0))
-    by_kind (suc zero) no_step no_store = absurd (T_not (eqb 1 1) no_store (eqb_refl 1))
+    by_kind : (kind : ℕ) → (kind ≡ 0 → ⊥) → (kind ≡ 1 → ⊥) → entry_by kind t.first t.second ≡ Reset
+    by_kind zero no_step no_store = absurd (no_step refl)
+    by_kind (suc zero) no_step no_store = absurd (no_store refl)
     by_kind (suc (suc kind)) no_step no_store = refl
 
 -- the playing is over

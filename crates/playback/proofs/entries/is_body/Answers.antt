@@ -1,38 +1,41 @@
 -- `entries::is_body` meets its contract. The loop's invariant: the rest is read exactly where the body is.
-use mathlib.Core.Path.{refl, sym, ◌∙◌}
+use mathlib.Core.Path.{sym, ◌∙◌}
 use native.Mathlib.Omega.{arith}
-use Rattle.playback.proofs.Reading.{unread_body, first_is, none_is, rest_less, rest_body, empty_body}
+use Rattle.playback.proofs.Reading.{First, unread_body, first_is, none_is, rest_less, rest_body, empty_body}
 use Rattle.playback.proofs.entries.is_body.Goals as goal
-
-pub loop-rest-init : goal.loop-rest-init
-loop-rest-init c = refl
 
 pub returns-in_default : goal.returns-in_default
 returns-in_default c =
-    let loop = c.loop-rest in
-    let entry = c.first_entry-leading in
-    sym (sym loop.invariant ∙ unread_body loop.rest-1.now
-    (none_is loop.rest-1.now entry.result entry.ensures c.in_default.is))
+    let rest = c.loop-rest.rest.now in
+    sym (sym c.loop-rest.invariant ∙ unread_body rest
+    (none_is rest c.first_entry-leading.result c.first_entry-leading.ensures c.in_default.is))
+
+pub slice_bounds-rest-count : goal.slice_bounds-rest-count
+slice_bounds-rest-count c =
+    let first : First c.loop-rest.rest.now c.in-Entry.field-0 c.in-Entry.size =
+    first_is _ c.first_entry-leading.result _ _ c.first_entry-leading.ensures c.in-Entry.is in
+    first.fits
+
+pub slice_bounds-rest-start : goal.slice_bounds-rest-start
+slice_bounds-rest-start c =
+    let first : First c.loop-rest.rest.now c.in-Entry.field-0 c.in-Entry.size =
+    first_is _ c.first_entry-leading.result _ _ c.first_entry-leading.ensures c.in-Entry.is in
+    omega (arith, first.fits)
 
 pub loop-rest-smaller : goal.loop-rest-smaller
 loop-rest-smaller c =
-    let loop = c.loop-rest in
-    let entry = c.first_entry-leading in
-    let leading = c.leading-1.given in
-    let first =
-    first_is loop.rest-1.now entry.result leading.0.0 leading.0.1.0 entry.ensures leading.1 in
-    rest_less loop.rest-1.now leading.0.0 leading.0.1.0 first
+    let rest = c.loop-rest.rest.now in
+    rest_less rest c.in-Entry.field-0 c.in-Entry.size
+    (first_is rest c.first_entry-leading.result c.in-Entry.field-0 c.in-Entry.size c.first_entry-leading.ensures
+    c.in-Entry.is)
 
 pub loop-rest-preserved : goal.loop-rest-preserved
 loop-rest-preserved c =
-    let loop = c.loop-rest in
-    let entry = c.first_entry-leading in
-    let leading = c.leading-1.given in
-    let first =
-    first_is loop.rest-1.now entry.result leading.0.0 leading.0.1.0 entry.ensures leading.1 in
-    rest_body loop.rest-1.now leading.0.0 leading.0.1.0 first ∙ loop.invariant
+    let rest = c.loop-rest.rest.now in
+    rest_body rest c.in-Entry.field-0 c.in-Entry.size
+    (first_is rest c.first_entry-leading.result c.in-Entry.field-0 c.in-Entry.size c.first_entry-leading.ensures
+    c.in-Entry.is)
+    ∙ c.loop-rest.invariant
 
 pub returns : goal.returns
-returns c =
-    let loop = c.loop-rest in
-    sym (sym loop.invariant ∙ empty_body loop.rest-1.now (omega arith))
+returns c = sym (sym c.loop-rest.invariant ∙ empty_body c.loop-rest.rest.now (omega arith))

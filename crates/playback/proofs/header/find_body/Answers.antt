@@ -20,25 +20,22 @@ pub returns-then-recording-ne-VERSION : goal.returns-then-recording-ne-VERSION
 unfolding BodyFound
 returns-then-recording-ne-VERSION c =
     refuses _ (plain 27)
-    (why.other_version c.if-recording-lt-HEADER_BYTES.false c.if-recording-ne-VERSION.true c.if-recording-eq-LONG_VERSION.false)
+    (why.other_version c.if-recording-lt-HEADER_BYTES.false c.if-recording-ne-VERSION.true
+    c.if-recording-eq-LONG_VERSION.false)
 
 pub returns-then-recording-count_of : goal.returns-then-recording-count_of
 unfolding BodyFound
 returns-then-recording-count_of c =
-    let counted = c.before in
-    let long = counted.if-recording-lt-HEADER_BYTES.false in
     refuses _ (plain 28)
-    (why.wrong_count long counted.if-recording-ne-VERSION.false
-    (λ is. c.if-recording-count_of.true (omega (arith, is, counted.count_of.ensures))))
+    (why.wrong_count c.if-recording-lt-HEADER_BYTES.false c.if-recording-ne-VERSION.false
+    (λ is. c.if-recording-count_of.true (omega (arith, is, c.count_of.ensures))))
 
 pub returns : goal.returns
 unfolding BodyFound
 returns c =
-    let counted = c.before in
-    let start = counted.before.before.before.before.before.before.before in
-    let long = counted.if-recording-lt-HEADER_BYTES.false in
-    let known = counted.shared_slice_known-3-1 in
-    let same : length start.args.recording.now ≡ 3 + count_of start.args.recording.now =
-    omega (arith, long, c.if-recording-count_of.false, counted.count_of.ensures) in
-    let short : length start.args.recording.now ≤ 0xFFFFFF = omega (arith, same, known.given 1, known.given 2) in
-    (long, short, starts start.args.recording.now 3 (why.version_1 counted.if-recording-ne-VERSION.false same))
+    let long = c.if-recording-lt-HEADER_BYTES.false in
+    let same : length c.args.recording.now ≡ 3 + count_of c.args.recording.now =
+    omega (arith, long, c.if-recording-count_of.false, c.count_of.ensures) in
+    let short : length c.args.recording.now ≤ 0xFFFFFF =
+    omega (arith, same, c.type_inv.recording 1, c.type_inv.recording 2) in
+    (long, short, starts c.args.recording.now 3 (why.version_1 c.if-recording-ne-VERSION.false same))

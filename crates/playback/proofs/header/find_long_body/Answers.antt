@@ -12,49 +12,44 @@ use Rattle.playback.proofs.header.find_long_body.Goals as goal
 pub returns-then-recording-lt-LONG_HEADER_BYTES : goal.returns-then-recording-lt-LONG_HEADER_BYTES
 unfolding BodyFound
 returns-then-recording-lt-LONG_HEADER_BYTES c =
-    let pre = c.requires in
-    refuses _ (plain 28) (why.under_four (omega (arith, pre.0, c.if-recording-lt-LONG_HEADER_BYTES.true)) pre.1)
+    refuses _ (plain 28)
+    (why.under_four (omega (arith, c.requires.0, c.if-recording-lt-LONG_HEADER_BYTES.true)) c.requires.1)
 
 pub returns-then-recording-count : goal.returns-then-recording-count
 unfolding BodyFound
 returns-then-recording-count c =
-    let counted = c.before in
-    let start = counted.before.before.before in
     refuses _ (plain 28)
-    (why.wrong_long_count counted.if-recording-lt-LONG_HEADER_BYTES.false start.requires.1
-    (λ is. c.if-recording-count.true (omega (arith, is, counted.long_count_of-count.ensures))))
+    (why.wrong_long_count c.if-recording-lt-LONG_HEADER_BYTES.false c.requires.1
+    (λ is. c.if-recording-count.true (omega (arith, is, c.long_count_of-count.ensures))))
 
 pub returns-then-count-lt-LEAST_LONG : goal.returns-then-count-lt-LEAST_LONG
 unfolding BodyFound
 returns-then-count-lt-LEAST_LONG c =
-    let counted = c.before.before in
-    let start = counted.before.before.before in
-    let same : length start.args.recording.now ≡ 4 + long_count_of start.args.recording.now =
-    omega (arith, counted.if-recording-lt-LONG_HEADER_BYTES.false, c.if-recording-count.false, counted.long_count_of-count.ensures) in
+    let count = c.long_count_of-count.ensures in
+    let same : length c.args.recording.now ≡ 4 + long_count_of c.args.recording.now =
+    omega (arith, c.if-recording-lt-LONG_HEADER_BYTES.false, c.if-recording-count.false, count) in
     refuses _ (plain 28)
-    (why.too_few start.requires.1 same (omega (arith, c.if-count-lt-LEAST_LONG.true, counted.long_count_of-count.ensures)))
+    (why.too_few c.requires.1 same (omega (arith, c.if-count-lt-LEAST_LONG.true, count)))
 
 pub returns-then-count-gt-MOST_LONG : goal.returns-then-count-gt-MOST_LONG
 unfolding BodyFound
 returns-then-count-gt-MOST_LONG c =
-    let counted = c.before.before.before in
-    let start = counted.before.before.before in
-    let same : length start.args.recording.now ≡ 4 + long_count_of start.args.recording.now =
-    omega (arith, counted.if-recording-lt-LONG_HEADER_BYTES.false, c.if-recording-count.false, counted.long_count_of-count.ensures) in
+    let count = c.long_count_of-count.ensures in
+    let same : length c.args.recording.now ≡ 4 + long_count_of c.args.recording.now =
+    omega (arith, c.if-recording-lt-LONG_HEADER_BYTES.false, c.if-recording-count.false, count) in
     refuses _ (plain 30)
-    (why.too_many start.requires.1 same (omega (arith, c.if-count-gt-MOST_LONG.true, counted.long_count_of-count.ensures)))
+    (why.too_many c.requires.1 same (omega (arith, c.if-count-gt-MOST_LONG.true, count)))
 
 pub returns : goal.returns
 unfolding BodyFound
 returns c =
-    let counted = c.before.before.before in
-    let start = counted.before.before.before in
-    let long = counted.if-recording-lt-LONG_HEADER_BYTES.false in
-    let same : length start.args.recording.now ≡ 4 + long_count_of start.args.recording.now =
-    omega (arith, long, c.if-recording-count.false, counted.long_count_of-count.ensures) in
-    let least : 65536 ≤ long_count_of start.args.recording.now =
-    omega (arith, c.if-count-lt-LEAST_LONG.false, counted.long_count_of-count.ensures) in
-    let most : long_count_of start.args.recording.now ≤ 1048576 =
-    omega (arith, c.if-count-gt-MOST_LONG.false, counted.long_count_of-count.ensures) in
-    let short : length start.args.recording.now ≤ 0xFFFFFF = omega (arith, same, most) in
-    (long, short, starts start.args.recording.now 4 (why.version_2 start.requires.1 same least most))
+    let long = c.if-recording-lt-LONG_HEADER_BYTES.false in
+    let count = c.long_count_of-count.ensures in
+    let same : length c.args.recording.now ≡ 4 + long_count_of c.args.recording.now =
+    omega (arith, long, c.if-recording-count.false, count) in
+    let least : 65536 ≤ long_count_of c.args.recording.now =
+    omega (arith, c.if-count-lt-LEAST_LONG.false, count) in
+    let most : long_count_of c.args.recording.now ≤ 1048576 =
+    omega (arith, c.if-count-gt-MOST_LONG.false, count) in
+    let short : length c.args.recording.now ≤ 0xFFFFFF = omega (arith, same, most) in
+    (long, short, starts c.args.recording.now 4 (why.version_2 c.requires.1 same least most))

@@ -6,7 +6,7 @@ use Rattle.playback.proofs.Rows.{Row}
 use Rattle.playback.proofs.turn.gather.Given as goal
 
 abbrev pub invariant-loop-count : goal.invariant-loop-count
-invariant-loop-count l = Row l.requests (get_or l.initial.requests 0 0) l.initial.count l.count l.initial.at l.at
+invariant-loop-count l = Row l.body (get_or l.initial.requests 0 0) l.initial.at l.requests l.count l.at
 
 abbrev pub decreases-loop-count : goal.decreases-loop-count
-decreases-loop-count l = 4096 - l.initial.at
+decreases-loop-count l = 4096 - l.count

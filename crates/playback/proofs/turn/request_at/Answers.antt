@@ -11,8 +11,7 @@ returns-then-count-at c names = absurd (false≢true names)
 
 pub returns-then-body-at-eq0 : goal.returns-then-body-at-eq0
 returns-then-body-at-eq0 c names =
-    let start = c.before.before.before.before.before in
-    reads_step start.args.body.now start.args.at c.if-count-lt2.false
+    reads_step c.args.body.now c.args.at c.if-count-lt2.false
     c.if-count-at.false c.if-body-at-eq0.true
 
 pub returns-else-body-at-eq0 : goal.returns-else-body-at-eq0
