@@ -27,25 +27,18 @@ returns-then-report-lt8 c =
 pub returns-in-Refused : goal.returns-in-Refused
 unfolding play_lent played_lent
 returns-in-Refused c =
-    let at-answer = c.before.before in
-    rw (← at-answer.play-played.ensures, at-answer.in-Refused.is, c.refused.ensures)
+    rw (← c.play-played.ensures, c.in-Refused.is, c.refused.ensures)
 
 pub returns-else-report-lt8 : goal.returns-else-report-lt8
 unfolding play_lent played_lent report_bytes
 returns-else-report-lt8 c =
-    let at-put = c.before.before.before in
-    let at-pack = at-put.before.before.before.before.before in
-    let at-report-bytes = at-pack.before.before in
-    let at-if2 = at-report-bytes.before in
-    let at-if1 = at-if2.before in
-    let at-answer = at-if1.before.before in
     rw (
-      ← at-answer.play-played.ensures,
-      at-answer.in-Ended.is,
-      eq-eqb _ _ at-if1.if-state-ne280.false,
-      le-leb _ _ at-if2.if-report-lt8.false,
+      ← c.play-played.ensures,
+      c.in-Ended.is,
+      eq-eqb _ _ c.if-state-ne280.false,
+      le-leb _ _ c.if-report-lt8.false,
       c.ending_word.ensures,
-      at-pack.pack.ensures,
-      at-put.put.ensures,
-      at-report-bytes.report_bytes-bytes.ensures,
+      c.pack.ensures,
+      c.put.ensures,
+      c.report_bytes-bytes.ensures,
     )

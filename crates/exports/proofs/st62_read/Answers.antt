@@ -14,10 +14,9 @@ returns-then-address-gt255 c = rw (lt-leb _ _ c.if-address-gt255.true) c.refused
 pub returns-then-not-is_valid : goal.returns-then-not-is_valid
 unfolding read_word unpacked
 returns-then-not-is_valid c =
-    let v = c.before.before in
     rw (
-      le-leb _ _ v.if-address-gt255.false,
-      ← v.is_valid.ensures,
+      le-leb _ _ c.if-address-gt255.false,
+      ← c.is_valid.ensures,
       c.if-not-is_valid.true,
     )
     c.invalid_state.ensures
@@ -29,12 +28,10 @@ unpack-requires c =
 pub returns : goal.returns
 unfolding read_word unpacked
 returns c =
-    let u = c.before.before in
-    let v = u.before.before in
     rw (
-      le-leb _ _ v.if-address-gt255.false,
-      ← v.is_valid.ensures,
-      u.if-not-is_valid.false,
+      le-leb _ _ c.if-address-gt255.false,
+      ← c.is_valid.ensures,
+      c.if-not-is_valid.false,
     )
     (c.reading_word.ensures
-    ∙ ap reading_word (rw u.unpack.ensures at c.read.ensures))
+    ∙ ap reading_word (rw c.unpack.ensures at c.read.ensures))

@@ -1,6 +1,6 @@
 -- `st62_store` meets its contract.
 use mathlib.Core.Path.{sym, ap, ◌∙◌}
-use borrow.Author.Tests.{le-leb, lt-leb, not-false}
+use borrow.Author.Tests.{le-leb, lt-leb}
 use Rattle.exports.specs.Lent.{store_lent, stored_lent}
 use Rattle.exports.specs.States.{unpacked}
 use Rattle.exports.proofs.Pasting.{valid_length}
@@ -29,26 +29,17 @@ unpack-requires c = valid_length _ (sym c.is_valid.ensures ∙ c.if-not-is_valid
 
 pub pack-requires : goal.pack-requires
 pack-requires c =
-    let at-if3 = c.before.before.before.before.before in
-    let at-is-valid = at-if3.before in
-    valid_length _ (sym at-is-valid.is_valid.ensures ∙ not-false _ at-if3.if-not-is_valid.false)
+    valid_length _ (sym c.is_valid.ensures ∙ c.if-not-is_valid.false)
 
 pub returns : goal.returns
 unfolding store_lent unpacked
 returns c =
-    let at-pack = c.before.before.before in
-    let at-host-store = at-pack.before.before.before in
-    let at-unpack = at-host-store.before in
-    let at-if3 = at-unpack.before.before in
-    let at-is-valid = at-if3.before in
-    let at-if2 = at-is-valid.before.before in
-    let at-if1 = at-if2.before in
     rw (
-      le-leb _ _ at-if1.if-address-gt255.false,
-      le-leb _ _ at-if2.if-value-gt255.false,
-      ← at-is-valid.is_valid.ensures,
-      not-false at-is-valid.is_valid.result at-if3.if-not-is_valid.false,
+      le-leb _ _ c.if-address-gt255.false,
+      le-leb _ _ c.if-value-gt255.false,
+      ← c.is_valid.ensures,
+      c.if-not-is_valid.false,
       c.ending_word.ensures,
-      at-pack.pack.ensures,
+      c.pack.ensures,
     )
-    (ap stored_lent (rw at-unpack.unpack.ensures at at-host-store.host_store-stored.ensures))
+    (ap stored_lent (rw c.unpack.ensures at c.host_store-stored.ensures))

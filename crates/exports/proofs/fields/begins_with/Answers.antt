@@ -1,7 +1,5 @@
 -- `fields::begins_with` meets its contract. The loop's invariant: every byte before i passes the test.
-use Prim.Native.Nat.{◌-◌}
 use mathlib.Core.Path.{◌≡◌, sym, refl}
-use mathlib.Core.Bool.{true}
 use native.Mathlib.Omega.{arith}
 use borrow.Author.Rules.{rules}
 use borrow.Author.Tests.{eq-eqb, ne_eqb}
@@ -16,15 +14,13 @@ loop-i-init c = (search rules, refl)
 
 pub returns-then-fields-i : goal.returns-then-fields-i
 returns-then-fields-i c =
-    let start = c.before.before.before.before.before in
-    let same = agree start.args.fields.now start.args.own.now in
+    let same = agree c.args.fields.now c.args.own.now in
     sym (every_fails same 7 c.loop-i.i (search rules) (ne_eqb _ _ c.if-fields-i.true))
 
 pub loop-i-preserved : goal.loop-i-preserved
 loop-i-preserved c =
-    let looped = c.before.before.before.before in
-    let same = agree looped.args.fields.now looped.args.own.now in
-    (search rules, every_more same looped.loop-i.i looped.loop-i.invariant.1 (eq-eqb _ _ c.if-fields-i.false))
+    let same = agree c.args.fields.now c.args.own.now in
+    (search rules, every_more same c.loop-i.i c.loop-i.invariant.1 (eq-eqb _ _ c.if-fields-i.false))
 
 pub returns : goal.returns
 returns c = let e : c.loop-i.i ≡ 7 = omega arith in sym (rw (← e) c.loop-i.invariant.1)

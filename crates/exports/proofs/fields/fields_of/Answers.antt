@@ -42,18 +42,16 @@ returns-in-Jp c = rw c.in-Jp.is c.to-in-Jp.ensures
 pub returns-in-Jrr : goal.returns-in-Jrr
 unfolding packed_instruction
 returns-in-Jrr c =
-    let at-i7 = c.before.before in
-    let fits : SFits w8 at-i7.in-Jrr.d = search rules in
-    rw at-i7.in-Jrr.is
-    (c.bit_jump.ensures ∙ ap (bit_jump_row 6 at-i7.in-Jrr.bit at-i7.in-Jrr.a) (kept fits))
+    let fits : SFits w8 c.in-Jrr.d = search rules in
+    rw c.in-Jrr.is
+    (c.bit_jump.ensures ∙ ap (bit_jump_row 6 c.in-Jrr.bit c.in-Jrr.a) (kept fits))
 
 pub returns-in-Jrs : goal.returns-in-Jrs
 unfolding packed_instruction
 returns-in-Jrs c =
-    let at-i8 = c.before.before in
-    let fits : SFits w8 at-i8.in-Jrs.d = search rules in
-    rw at-i8.in-Jrs.is
-    (c.bit_jump-in-Jrs.ensures ∙ ap (bit_jump_row 7 at-i8.in-Jrs.bit at-i8.in-Jrs.a) (kept fits))
+    let fits : SFits w8 c.in-Jrs.d = search rules in
+    rw c.in-Jrs.is
+    (c.bit_jump-in-Jrs.ensures ∙ ap (bit_jump_row 7 c.in-Jrs.bit c.in-Jrs.a) (kept fits))
 
 pub returns-in-Res : goal.returns-in-Res
 unfolding packed_instruction

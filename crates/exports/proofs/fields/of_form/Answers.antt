@@ -1,23 +1,10 @@
 -- `fields::of_form` meets its contract. A form past the others is beyond their list.
-use Prim.Native.Nat.{ℕ, zero, suc, ◌≤◌, zero-le}
-use mathlib.Core.Path.{◌≡◌}
+use Prim.Native.Nat.{◌≤◌}
 use native.Mathlib.Omega.{arith}
 use lib.ListN.{get_or-eq_default}
 use Rattle.isa.proofs.Finite.{kept}
 use Rattle.exports.specs.Fields.{instruction_by, instructions}
 use Rattle.exports.proofs.fields.of_form.Goals as goal
-
--- a number that is none of the first n
-abbrev Others : (form n : ℕ) → Type 0
-Others form zero = Unit
-Others form (suc n) = Others form n × (form ≡ n → ⊥)
-
-past : (form n : ℕ) → Others form n → n ≤ form
-past form zero o = zero-le
-past form (suc n) o =
-    let least : n ≤ form = past form n o.0 in
-    let other : form ≡ n → ⊥ = o.1 in
-    omega arith
 
 pub returns-in-0 : goal.returns-in-0
 unfolding instruction_by instructions
@@ -137,4 +124,6 @@ returns-in-28 c = rw c.in-28.is
 
 pub returns-in_default : goal.returns-in_default
 unfolding instruction_by instructions
-returns-in_default c = rw (get_or-eq_default _ _ (past c.args.form 29 c.in_default.in_default-own.rest))
+returns-in_default c =
+    let past : 29 ≤ c.args.form = omega arith in
+    rw (get_or-eq_default _ _ past)

@@ -1,4 +1,5 @@
 -- `fields::operand_of` meets its contract.
+use Rattle.std.proofs.Common.{arith}
 use borrow.Author.Tests.{ne_eqb}
 use Rattle.exports.specs.Fields.{operand_by}
 use Rattle.exports.proofs.fields.operand_of.Goals as goal
@@ -17,5 +18,8 @@ returns-in-3 c = rw c.in-3.is
 
 pub returns-in_default : goal.returns-in_default
 unfolding operand_by
-returns-in_default c =
-    rw (ne_eqb _ _ c.in_default.in_default-own.rest.0.0.1, ne_eqb _ _ c.in_default.in_default-own.rest.0.1, ne_eqb _ _ c.in_default.in_default-own.rest.1)
+returns-in_default c = rw (
+  ne_eqb c.args.kind 1 (omega arith),
+  ne_eqb c.args.kind 2 (omega arith),
+  ne_eqb c.args.kind 3 (omega arith),
+)

@@ -4,4 +4,4 @@ use Rattle.exports.proofs.states.control_of.Goals as goal
 
 pub returns : goal.returns
 unfolding control_at
-returns c = rw (c.word_at.ensures, c.before.Mode-of.ensures)
+returns c = rw (c.word_at.ensures, c.mode_of.ensures)

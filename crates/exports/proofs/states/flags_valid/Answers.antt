@@ -1,7 +1,5 @@
 -- `states::flags_valid` meets its contract. The loop's invariant: every byte before i passes the test.
-use Prim.Native.Nat.{◌-◌}
 use mathlib.Core.Path.{◌≡◌, sym, refl}
-use mathlib.Core.Bool.{true}
 use native.Mathlib.Omega.{arith}
 use borrow.Author.Rules.{rules}
 use borrow.Author.Tests.{le-ltb, lt-ltb}
@@ -22,9 +20,8 @@ returns-then-state-i-ge2 c =
 
 pub loop-i-preserved : goal.loop-i-preserved
 loop-i-preserved c =
-    let looped = c.before.before.before in
-    let flag = is_flag looped.args.state.now in
-    (search rules, every_more flag looped.loop-i.i looped.loop-i.invariant.1 (lt-ltb _ _ c.if-state-i-ge2.false))
+    let flag = is_flag c.args.state.now in
+    (search rules, every_more flag c.loop-i.i c.loop-i.invariant.1 (lt-ltb _ _ c.if-state-i-ge2.false))
 
 pub returns : goal.returns
 returns c = let e : c.loop-i.i ≡ 7 = omega arith in sym (rw (← e) c.loop-i.invariant.1)

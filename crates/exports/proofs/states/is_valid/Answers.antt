@@ -14,9 +14,7 @@ returns-then-state-gt4 c = rw (eq-eqb _ _ c.if-state-ne280.false, lt-leb _ _ c.i
 pub returns-then-state-ne0 : goal.returns-then-state-ne0
 unfolding is_valid
 returns-then-state-ne0 c =
-    let at-if2 = c.before.before in
-    let at-if1 = at-if2.before.before in
-    rw (eq-eqb _ _ at-if1.if-state-ne280.false, le-leb _ _ at-if2.if-state-gt4.false, ne_eqb _ _ c.if-state-ne0.true)
+    rw (eq-eqb _ _ c.if-state-ne280.false, le-leb _ _ c.if-state-gt4.false, ne_eqb _ _ c.if-state-ne0.true)
 
 pub returns : goal.returns
 unfolding is_valid

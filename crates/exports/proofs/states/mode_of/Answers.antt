@@ -1,4 +1,5 @@
 -- `states::mode_of` meets its contract.
+use Rattle.std.proofs.Common.{arith}
 use borrow.Author.Tests.{ne_eqb}
 use Rattle.exports.specs.States.{mode_of}
 use Rattle.exports.proofs.states.mode_of.Goals as goal
@@ -22,8 +23,8 @@ returns-in-3 c = rw c.in-3.is
 pub returns-in_default : goal.returns-in_default
 unfolding mode_of
 returns-in_default c = rw (
-  ne_eqb _ _ c.in_default.in_default-own.rest.0.0.0.1,
-  ne_eqb _ _ c.in_default.in_default-own.rest.0.0.1,
-  ne_eqb _ _ c.in_default.in_default-own.rest.0.1,
-  ne_eqb _ _ c.in_default.in_default-own.rest.1,
+  ne_eqb c.args.number 0 (omega arith),
+  ne_eqb c.args.number 1 (omega arith),
+  ne_eqb c.args.number 2 (omega arith),
+  ne_eqb c.args.number 3 (omega arith),
 )

@@ -1,9 +1,0 @@
--- `answers::refused` meets its contract.
-use native.Mathlib.Omega.{arith}
-use Rattle.exports.proofs.answers.refused.Goals as goal
-
-pub returns-in-Plain : goal.returns-in-Plain
-returns-in-Plain c = rw (← c.before.before.before.number_of_lem.ensures, c.in-Plain.is) (omega arith)
-
-pub returns-in-Located : goal.returns-in-Located
-returns-in-Located c = rw (← c.before.before.before.number_of_lem.ensures, c.in-Located.is) (omega arith)
