@@ -6,7 +6,7 @@ use mathlib.Core.Logic.{inl, inr, ◌≢◌}
 use mathlib.Core.Bool.{true, false, false≢true}
 use mathlib.Core.List.{List, [], ◌∷◌, ◌++◌, append-nil}
 use lib.ListN.{length, get_or, take, drop, replicate, length-replicate, length-append}
-use lib.Seq.{length-take-le, take_at, take_all, drop-length}
+use lib.Seq.{length-take-le, take_at, drop-length}
 use Rattle.isa.specs.Refusals.{Numbered, plain, done, refused}
 use Rattle.isa.specs.Rom.{is_image}
 use Rattle.isa.specs.Sources.{names_only_sources}
@@ -70,8 +70,8 @@ new_sound image wired i =
 
 -- all of a list is copied over another one of its length
 copied : (source target : List ℕ) → length source ≡ length target
-    → take (length source) source ++ drop (length source) target ≡ source
-copied source target e = rw (take_all (length source) source (omega arith), e, drop-length target, append-nil)
+    → source ++ drop (length source) target ≡ source
+copied source target e = rw (e, drop-length target, append-nil)
 
 -- the certificate is the array's first part, and what is copied from it
 module _ {image certificate : List ℕ} {wired levels : ℕ} (rest : List ℕ)
@@ -95,8 +95,7 @@ module _ {image certificate : List ℕ} {wired levels : ℕ} (rest : List ℕ)
 
   pub copied_least : (target : List ℕ) {after : List ℕ} → length target ≡ marks_in (length image)
       → after
-      ≡ take (length (take (marks_in (length image)) (certificate ++ rest))) (take (marks_in (length image))
-      (certificate ++ rest))
+      ≡ take (marks_in (length image)) (certificate ++ rest)
       ++ drop (length (take (marks_in (length image)) (certificate ++ rest))) target
       → Least image wired after levels
   copied_least target l e =

@@ -7,8 +7,6 @@ use mathlib.Core.Bool.{Bool, true, false, cond, ◌&&◌}
 use mathlib.Core.List.{List, [], ◌∷◌}
 use lib.Dec.{leb, eqb}
 use borrow.Author.Tests.{leb-true, eqb-true}
-use denote.Enum.Declared.{tag_of}
-use types.Run.{OneOf, miss}
 use Rattle.isa.specs.Rom.{space_of}
 use Rattle.isa.proofs.Halves.{is_space_lem}
 use Rattle.isa.specs.Decode as decode
@@ -35,15 +33,10 @@ use Rattle.maker.specs.Reach.{Continues, goes_next, wakes, jumps, branches, pass
 use Rattle.maker.specs.Reach.{ends_start_up, Leads, Reachable, onward, UsesLevels, here, along}
 use Rattle.maker.specs.Making.{Sound, Kept, Worked, joined, Demanded, Small, LeadsTo, HasKind, Followed}
 use Rattle.maker.specs.Making.{EdgeTo, Visited}
-use Rattle.maker.specs.contracts.Change.{the_type}
 use Rattle.maker.proofs.Rising.{then, by}
 use Rattle.maker.proofs.Reached.{goes_bounded, reached_kind, has_mark}
 use Rattle.maker.proofs.Refuted.{undecodable, misplaced}
 use Rattle.maker.proofs.Demands.{refuted}
-
--- what a match does not find refused is not
-pub possible : (p : Change) → OneOf (0 ∷ 1 ∷ []) (tag_of the_type p) → p ≡ Impossible → ⊥
-possible p h e = miss (0 ∷ 1 ∷ []) 2 tt (rw e at h)
 
 -- the need of an address of a kind is what a path takes
 pub takes_need : {image certificate : List ℕ} {wired : ℕ} (a kind : ℕ) → Sound image wired certificate →

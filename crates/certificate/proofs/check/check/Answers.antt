@@ -14,7 +14,7 @@ returns-then-not-is_image_length c = rw (← c.is_image_length.ensures, c.if-not
 pub returns-then-certificate-marks_in : goal.returns-then-certificate-marks_in
 unfolding check_of
 returns-then-certificate-marks_in c =
-    let asked = c.before.before.before in
+    let asked = c in
     rw (
       ← asked.is_image_length.ensures,
       c.if-not-is_image_length.false,
@@ -25,7 +25,7 @@ returns-then-certificate-marks_in c =
 pub returns-then-not-names_only_sources : goal.returns-then-not-names_only_sources
 unfolding check_of
 returns-then-not-names_only_sources c =
-    let asked = c.before.before.before.before.before in
+    let asked = c in
     rw (
       ← asked.is_image_length.ensures,
       c.if-not-is_image_length.false,
@@ -37,7 +37,7 @@ returns-then-not-names_only_sources c =
 
 pub check_rules-requires : goal.check_rules-requires
 check_rules-requires c =
-    let asked = c.before.before.before.before.before in
+    let asked = c in
     let image = asked.args.image.now in
     let is-image =
     sym asked.is_image_length.ensures ∙ c.if-not-is_image_length.false in (
@@ -48,7 +48,7 @@ check_rules-requires c =
 pub returns : goal.returns
 unfolding check_of
 returns c =
-    let asked = c.before.before.before.before.before.before in
+    let asked = c in
     rw (
       ← asked.is_image_length.ensures,
       c.if-not-is_image_length.false,

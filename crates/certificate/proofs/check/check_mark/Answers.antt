@@ -1,40 +1,34 @@
 -- `check::check_mark` meets its contract: no mark, 14, then where the instruction continues.
-use mathlib.Core.Path.{◌≡◌, ap, ◌∙◌}
+use Prim.Native.Nat.{ℕ, ◌<◌}
 use native.Mathlib.Omega.{arith}
+use mathlib.Core.Path.{◌≡◌, ap, ◌∙◌}
+use mathlib.Core.List.{List, ◌++◌}
+use mathlib.Core.Logic.{◌≢◌}
 use borrow.Author.Tests.{lt-ltb, le-ltb}
-use mathlib.Core.List.{◌++◌}
+use Rattle.isa.specs.Refusals.{Answer}
+use Rattle.isa.specs.Rom.{Halves}
+use Rattle.isa.specs.Decode.{decode_of}
+use Rattle.isa.specs.FlowAt.{Continuing, continuation_of, continuation_from}
 use Rattle.isa.proofs.AtAddress.{in_range}
 use Rattle.isa.proofs.Halves.{halves_space}
-use Rattle.isa.specs.FlowAt.{continuation_of, continuation_from}
+use Rattle.certificate.specs.Marks.{kind_of}
 use Rattle.certificate.specs.Check.{decoded_found}
 use Rattle.certificate.specs.Passes.{page_found}
 use Rattle.certificate.proofs.Facts.{continuation_found, by_continuation, marked_page, positive}
-use Rattle.certificate.proofs.check.check_mark.Lts as lts
-use Rattle.certificate.proofs.check.check_mark.Tie as tie
 use Rattle.certificate.proofs.check.check_mark.Goals as goal
 
--- the start, from where the mark has a kind
-abbrev start : goal.Else-kind_of-eq0 → lts.Start tie.the-claims tie.handed_pre tie.handed_post
-start c = c.before.before.before.before.before.before
-
 -- a mark with a kind: what is found is by where the instruction continues
-by_flow : (c : lts.After-flow_at tie.the-claims tie.handed_pre tie.handed_post)
-    → page_found ((start c.before).args.page.now ++ (start c.before).args.fixed.now)
-    (start c.before).args.certificate.now
-    (start c.before).args.address (start c.before).args.mark
-    ≡ continuation_found (start c.before).args.certificate.now (start c.before).args.address
-    (start c.before).args.mark (continuation_of c.flow_at.result)
-by_flow c =
-    let kind = c.kind_of in
-    let pre = (start c.before).requires in
+by_flow : (page fixed certificate : List ℕ) (address mark : ℕ) {kind : ℕ} {answer : Answer Continuing}
+    → mark ≢ 0 → kind ≡ kind_of mark → kind ≢ 0 → Halves page fixed → address < 4096
+    → answer ≡ continuation_from address (decode_of (page ++ fixed) address)
+    → page_found (page ++ fixed) certificate address mark ≡ continuation_found certificate address mark answer
+by_flow page fixed certificate address mark {kind} marked kind_is has_kind halves fits e =
     rw (
-      marked_page _ _ _ _ c.if-mark-eq0.false,
-      ← kind.ensures,
-      lt-ltb 0 kind.result (positive c.if-kind_of-eq0.false),
+      marked_page _ _ _ _ marked,
+      ← kind_is,
+      lt-ltb 0 kind (positive has_kind),
       by_continuation _ _ _ _,
-      ← (c.flow_at.ensures pre.1 pre.2 pre.0
-          ∙ ap (continuation_from _) (in_range ((start c.before).args.page.now ++ (start c.before).args.fixed.now) _
-          (halves_space (start c.before).args.page.now (start c.before).args.fixed.now pre.1) pre.2)),
+      ← (e ∙ ap (continuation_from _) (in_range (page ++ fixed) _ (halves_space page fixed halves) fits)),
     )
 
 pub returns-then-mark-eq0 : goal.returns-then-mark-eq0
@@ -52,7 +46,19 @@ returns-then-kind_of-eq0 c =
 
 pub returns-in-Valid : goal.returns-in-Valid
 returns-in-Valid c =
-    rw (by_flow c.before.before.before.before, c.in-Valid.is) c.check_flow.ensures
+    let pre = c.requires in
+    rw (
+      by_flow c.args.page.now c.args.fixed.now c.args.certificate.now c.args.address c.args.mark c.if-mark-eq0.false
+          c.kind_of.ensures c.if-kind_of-eq0.false pre.1 pre.2 (c.flow_at.ensures pre.1 pre.2 pre.0),
+      c.in-Valid.is,
+    )
+    c.check_flow.ensures
 
 pub returns-in-Refused : goal.returns-in-Refused
-returns-in-Refused c = rw (by_flow c.before.before.before, c.in-Refused.is)
+returns-in-Refused c =
+    let pre = c.requires in
+    rw (
+      by_flow c.args.page.now c.args.fixed.now c.args.certificate.now c.args.address c.args.mark c.if-mark-eq0.false
+          c.kind_of.ensures c.if-kind_of-eq0.false pre.1 pre.2 (c.flow_at.ensures pre.1 pre.2 pre.0),
+      c.in-Refused.is,
+    )

@@ -12,7 +12,7 @@ loop-i-init c = (search rules, λ j h. absurd (omega arith))
 
 pub check_mark-finding-requires : goal.check_mark-finding-requires
 check_mark-finding-requires c =
-    let start = c.before.before.before.before.before.before in
+    let start = c in
     (start.requires.0, start.requires.1, search rules)
 
 pub returns-in-Fault : goal.returns-in-Fault

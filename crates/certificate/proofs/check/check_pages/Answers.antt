@@ -14,7 +14,7 @@ loop-page-init c = (search rules, known_none _ _)
 
 pub check_marks-search-requires : goal.check_marks-search-requires
 check_marks-search-requires c =
-    let start = c.before.before.before.before.before.before.before in (
+    let start = c in (
       start.requires.0,
       rw (c.page_of.ensures, c.fixed_of-fixed.ensures)
           (halves start.args.image.now _ start.requires.1),
@@ -25,7 +25,7 @@ check_marks-search-requires c =
 pub loop-page-preserved : goal.loop-page-preserved
 unfolding space_of
 loop-page-preserved c =
-    let marks = c.before in
+    let marks = c in
     let searched =
     rw (marks.page_of.ensures, marks.fixed_of-fixed.ensures) at
     marks.check_marks-search.ensures in
@@ -34,7 +34,7 @@ loop-page-preserved c =
 pub returns : goal.returns
 returns c =
     let loop = c.loop-page in
-    let start = c.before.before.before.before.before.before in
+    let start = c in
     let image = start.args.image.now in
     let all : loop.page ≡ spaces_in (length image) = omega (arith, loop.invariant.0, c.spaces_in-spaces.ensures start.requires.1) in
     known_all image _ (pages_in (length image) - 1) _ _ (rw all at loop.invariant.1)

@@ -6,7 +6,7 @@ use Rattle.certificate.proofs.check.check_pages.Given as goal
 
 abbrev pub invariant-loop-page : goal.invariant-loop-page
 invariant-loop-page l =
-    (l.page ≤ l.spaces) × Known l.image l.certificate l.page l.initial.page (found l.end)
+    (l.page ≤ l.spaces) × Known l.image l.certificate l.page l.end (found l.first)
 
 abbrev pub decreases-loop-page : goal.decreases-loop-page
 decreases-loop-page l = l.spaces - l.page

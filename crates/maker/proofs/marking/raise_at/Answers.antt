@@ -1,17 +1,9 @@
 -- `marking::raise_at` meets its contract.
-use Prim.Native.Nat.{ℕ, ◌+◌, ◌-◌}
 use native.Mathlib.Omega.{arith}
-use lib.ListN.{length}
 use mathlib.Core.Path.{refl}
 use mathlib.Core.Logic.{inl, inr}
 use Rattle.maker.proofs.Demands.{is_outside, is_too_deep, is_enough, is_lifted}
 use Rattle.maker.proofs.marking.raise_at.Goals as goal
-
--- the index of the mark
-abbrev index : goal.Else-need-gt-MOST_LEVELS → ℕ
-index c =
-    let args = c.args in
-    args.address + length args.certificate.now - 4096
 
 pub returns-then-address-ge-PROGRAM_SPACE : goal.returns-then-address-ge-PROGRAM_SPACE
 returns-then-address-ge-PROGRAM_SPACE c = is_outside _ _ _ _ (inl c.if-address-ge-PROGRAM_SPACE.true)

@@ -4,7 +4,4 @@ use Rattle.maker.proofs.spread.spread_by.Goals as goal
 
 pub returns : goal.returns
 returns c =
-    let at-raise = c.before.before.before in
-    let at-explore = at-raise.before.before.before.before.before.before.before.before in
-    let entry = at-explore.before.before.before.before.before.before.before.before.before.before in
-    rw c.join.ensures (spreads entry.requires.2 at-explore.explore-explored.ensures at-raise.raise.ensures)
+    rw c.join.ensures (spreads c.requires.2 c.explore-explored.ensures c.raise.ensures)

@@ -8,27 +8,18 @@ loop-levels-init c = c.requires.1
 
 pub returns-in-Accepted : goal.returns-in-Accepted
 returns-in-Accepted c =
-    let at-check = c.before.before.before in
-    let at-loop = at-check.before.before in
-    accepted_least at-loop.loop-levels.invariant (rw c.in-Accepted.is at at-check.check.ensures)
+    accepted_least c.loop-levels.invariant (rw c.in-Accepted.is at c.check.ensures)
 
 pub pass-requires : goal.pass-requires
 pass-requires c =
-    let at-loop = c.before.before.before.before.before in
-    let entry = at-loop.before.before.before in
-    (entry.requires.0, at-loop.loop-levels.invariant)
+    (c.requires.0, c.loop-levels.invariant)
 
 pub returns-in-Same : goal.returns-in-Same
-returns-in-Same c =
-    let at-pass = c.before.before.before.before in
-    let at-enum-told = at-pass.before.before in
-    let at-check = at-enum-told.before.before in
-    let at-loop = at-check.before.before in
-    let entry = at-loop.before.before.before in (
-      none_left at-loop.loop-levels.invariant (rw c.in-Same.is at at-pass.pass.ensures).told.1
-          entry.requires.2 (rw at-enum-told.in-Refused.is at at-check.check.ensures),
-      refl,
-    )
+returns-in-Same c = (
+  none_left c.loop-levels.invariant (rw c.in-Same.is at c.pass.ensures).told.1
+      c.requires.2 (rw c.in-Refused.is at c.check.ensures),
+  refl,
+)
 
 pub loop-levels-smaller : goal.loop-levels-smaller
 loop-levels-smaller c = (rw c.in-Changed.is at c.pass.ensures).told

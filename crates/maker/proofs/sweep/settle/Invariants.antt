@@ -3,7 +3,7 @@ use Rattle.maker.specs.Making.{Sound, room}
 use Rattle.maker.proofs.sweep.settle.Given as goal
 
 abbrev pub invariant-loop-levels : goal.invariant-loop-levels
-invariant-loop-levels l = Sound l.image l.certificate l.wired
+invariant-loop-levels l = Sound l.image l.wired l.certificate
 
 abbrev pub decreases-loop-levels : goal.decreases-loop-levels
-decreases-loop-levels l = room l.wired
+decreases-loop-levels l = room l.certificate
