@@ -4,7 +4,7 @@ use native.Mathlib.Omega.{arith}
 use mathlib.Core.Path.{◌≡◌}
 use mathlib.Core.List.{List, ◌++◌, append_assoc}
 use lib.ListN.{length, take, drop, replicate, length-append, length-drop}
-use lib.Seq.{length-take-le, take-length, take-append_seam}
+use lib.Seq.{length-take-le, take-append_seam}
 use Rattle.jobs.specs.declared.LineBuffer.{LineBuffer}
 use Rattle.jobs.specs.LineBuffer.{content_of, Fits, Holds, Appends}
 
@@ -17,13 +17,13 @@ pub begun :
     {t : LineBuffer} (word : List ℕ)
     → length word ≤ 16
     → t.count ≡ length word
-    → t.letters ≡ take (length word) word ++ drop (length word) (replicate 16 0)
+    → t.letters ≡ word ++ drop (length word) (replicate 16 0)
     → Holds word t
 begun word h n e =
     record {
-      content = rw (n, e, take-length word) (take-append_seam word (drop (length word) (replicate 16 0)));
+      content = rw (n, e) (take-append_seam word (drop (length word) (replicate 16 0)));
       count = n;
-      fits = record { room = omega arith; array = rw (e, take-length word, length-append, length-drop) (omega arith) };
+      fits = record { room = omega arith; array = rw (e, length-append, length-drop) (omega arith) };
     }
 
 -- bytes after those that a line has

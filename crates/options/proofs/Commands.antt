@@ -1,56 +1,59 @@
--- Commands by the numbers of their cases: for a match whose last arm takes several together.
-use Prim.Native.Nat.{ℕ}
+-- Commands that no arm of a match names: for a match whose last arm takes several together.
 use mathlib.Core.Path.{◌≡◌, refl}
-use mathlib.Core.Bool.{Bool, true, false, ◌||◌}
-use mathlib.Core.List.{List, [], ◌∷◌}
-use types.Run.{OneOf, miss}
-use denote.Enum.Declared.{tag_of}
+use mathlib.Core.List.{[]}
 use Rattle.options.specs.declared.Command.{Command}
 use Rattle.options.specs.declared.Command.TheVariants as command
-use Rattle.options.specs.contracts.Command.{the_type}
 use Rattle.options.specs.CommandLine.{more_files, more_needed, options_of}
 
 -- commands that have only the options of every command
-abbrev no_options : List ℕ
-no_options = 5 ∷ 6 ∷ 7 ∷ 8 ∷ []
-
-pub no_options_lem : (c : Command) → OneOf no_options (tag_of the_type c) → options_of c ≡ []
-no_options_lem command.Check h = absurd (miss no_options 0 tt h)
-no_options_lem command.Certify h = absurd (miss no_options 1 tt h)
-no_options_lem command.List h = absurd (miss no_options 2 tt h)
-no_options_lem command.Trace h = absurd (miss no_options 3 tt h)
-no_options_lem command.Size h = absurd (miss no_options 4 tt h)
-no_options_lem command.Play h = refl
-no_options_lem command.Help h = refl
-no_options_lem command.Version h = refl
-no_options_lem command.Unknown h = refl
+pub no_options_lem :
+    (c : Command)
+    → (c ≡ command.Check → ⊥)
+    → (c ≡ command.Certify → ⊥)
+    → (c ≡ command.List → ⊥)
+    → (c ≡ command.Trace → ⊥)
+    → (c ≡ command.Size → ⊥)
+    → options_of c ≡ []
+no_options_lem command.Check no_check no_certify no_list no_trace no_size = absurd (no_check refl)
+no_options_lem command.Certify no_check no_certify no_list no_trace no_size = absurd (no_certify refl)
+no_options_lem command.List no_check no_certify no_list no_trace no_size = absurd (no_list refl)
+no_options_lem command.Trace no_check no_certify no_list no_trace no_size = absurd (no_trace refl)
+no_options_lem command.Size no_check no_certify no_list no_trace no_size = absurd (no_size refl)
+no_options_lem command.Play no_check no_certify no_list no_trace no_size = refl
+no_options_lem command.Help no_check no_certify no_list no_trace no_size = refl
+no_options_lem command.Version no_check no_certify no_list no_trace no_size = refl
+no_options_lem command.Unknown no_check no_certify no_list no_trace no_size = refl
 
 -- commands that have no file after the image
-abbrev no_files : List ℕ
-no_files = 0 ∷ 1 ∷ 2 ∷ 3 ∷ 4 ∷ 6 ∷ 7 ∷ 8 ∷ []
-
-pub no_files_lem : (c : Command) → OneOf no_files (tag_of the_type c) → more_files c ≡ []
-no_files_lem command.Check h = refl
-no_files_lem command.Certify h = refl
-no_files_lem command.List h = refl
-no_files_lem command.Trace h = refl
-no_files_lem command.Size h = refl
-no_files_lem command.Play h = absurd (miss no_files 5 tt h)
-no_files_lem command.Help h = refl
-no_files_lem command.Version h = refl
-no_files_lem command.Unknown h = refl
+pub no_files_lem :
+    (c : Command)
+    → (c ≡ command.Play → ⊥)
+    → more_files c ≡ []
+no_files_lem command.Check no_play = refl
+no_files_lem command.Certify no_play = refl
+no_files_lem command.List no_play = refl
+no_files_lem command.Trace no_play = refl
+no_files_lem command.Size no_play = refl
+no_files_lem command.Play no_play = absurd (no_play refl)
+no_files_lem command.Help no_play = refl
+no_files_lem command.Version no_play = refl
+no_files_lem command.Unknown no_play = refl
 
 -- commands that need only the image
-abbrev no_needs : List ℕ
-no_needs = 2 ∷ 6 ∷ 7 ∷ 8 ∷ []
-
-pub no_needs_lem : (c : Command) → OneOf no_needs (tag_of the_type c) → more_needed c ≡ []
-no_needs_lem command.Check h = absurd (miss no_needs 0 tt h)
-no_needs_lem command.Certify h = absurd (miss no_needs 1 tt h)
-no_needs_lem command.List h = refl
-no_needs_lem command.Trace h = absurd (miss no_needs 3 tt h)
-no_needs_lem command.Size h = absurd (miss no_needs 4 tt h)
-no_needs_lem command.Play h = absurd (miss no_needs 5 tt h)
-no_needs_lem command.Help h = refl
-no_needs_lem command.Version h = refl
-no_needs_lem command.Unknown h = refl
+pub no_needs_lem :
+    (c : Command)
+    → (c ≡ command.Check → ⊥)
+    → (c ≡ command.Certify → ⊥)
+    → (c ≡ command.Trace → ⊥)
+    → (c ≡ command.Size → ⊥)
+    → (c ≡ command.Play → ⊥)
+    → more_needed c ≡ []
+no_needs_lem command.Check no_check no_certify no_trace no_size no_play = absurd (no_check refl)
+no_needs_lem command.Certify no_check no_certify no_trace no_size no_play = absurd (no_certify refl)
+no_needs_lem command.List no_check no_certify no_trace no_size no_play = refl
+no_needs_lem command.Trace no_check no_certify no_trace no_size no_play = absurd (no_trace refl)
+no_needs_lem command.Size no_check no_certify no_trace no_size no_play = absurd (no_size refl)
+no_needs_lem command.Play no_check no_certify no_trace no_size no_play = absurd (no_play refl)
+no_needs_lem command.Help no_check no_certify no_trace no_size no_play = refl
+no_needs_lem command.Version no_check no_certify no_trace no_size no_play = refl
+no_needs_lem command.Unknown no_check no_certify no_trace no_size no_play = refl

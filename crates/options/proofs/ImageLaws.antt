@@ -8,8 +8,6 @@ use lib.ListN.{length, take, drop, get_or, drop_of_length-le, length-drop}
 use lib.Seq.{take_all}
 use lib.Dec.{eqb}
 use borrow.Author.Tests.{eqb-true, eqb-false}
-use types.Run.{OneOf, miss}
-use denote.Enum.Declared.{tag_of}
 use borrow.Rule.Slice.PartMut.{put_mid, mid_of, Post-is}
 use Rattle.isa.specs.Rom.{is_image, spaces_in}
 use Rattle.isa.proofs.Halves.{Sized, sized}
@@ -19,7 +17,6 @@ use Rattle.options.specs.declared.image.Rom.TheVariants as rom
 use Rattle.options.specs.declared.image.Asked.{Asked}
 use Rattle.options.specs.declared.image.Asked.TheVariants as asked
 use Rattle.options.specs.declared.image.ImageRead.{ImageRead}
-use Rattle.options.specs.contracts.image.Asked.{the_type}
 use Rattle.options.specs.Image.{bytes_of, got, hex_got, is_hex, sized_by, sized_by_lowest, size_of}
 
 -- a file without bytes is not HEX
@@ -45,12 +42,12 @@ module _ (space : List ℕ) (start : ℕ) (fits : start ≤ length space) where
   -- a file copied there, which fills them
   pub part_filled :
       (file new : List ℕ) → start + length file ≡ length space
-      → new ≡ take (length file) file ++ drop (length file) (mid_of start (length space - start) space)
+      → new ≡ file ++ drop (length file) (mid_of start (length space - start) space)
       → put_mid start (length space - start) space new ≡ take start space ++ file
   part_filled file new e copied =
       let none : drop (length file) (drop start space) ≡ [] =
       drop_of_length-le (drop start space) {i = length file} (omega (arith, part_length)) in
-      rw (part_back new, copied, part, none, take_all (length file) file (omega arith), append-nil file)
+      rw (part_back new, copied, part, none, append-nil file)
 
   -- a HEX file read there
   module _ (size : ℕ) (e : length space - start ≡ size) (file : List ℕ) (fill : ℕ) (after : List ℕ) (answer : HexAnswer)
@@ -124,14 +121,13 @@ size_bytes n is = by_tests (eqb n 2048) (eqb n 4096) refl refl
         omega (arith, size.whole, size.least, eqb-false n 2048 p)
 
 -- a size that is none is as if none were asked for
-abbrev no_sizes : List ℕ
-no_sizes = 2 ∷ 3 ∷ []
-
 pub as_none :
-    (file : List ℕ) (fill : ℕ) (space : List ℕ) (a : Asked) → OneOf no_sizes (tag_of the_type a)
+    (file : List ℕ) (fill : ℕ) (space : List ℕ) (a : Asked)
+    → (a ≡ asked.Small → ⊥)
+    → (a ≡ asked.Large → ⊥)
     → hex_got file asked.Nothing fill space ≡ hex_got file a fill space
 unfolding hex_got
-as_none file fill space asked.Small h = absurd (miss no_sizes 0 tt h)
-as_none file fill space asked.Large h = absurd (miss no_sizes 1 tt h)
-as_none file fill space asked.Nothing h = refl
-as_none file fill space asked.Wrong h = refl
+as_none file fill space asked.Small no_small no_large = absurd (no_small refl)
+as_none file fill space asked.Large no_small no_large = absurd (no_large refl)
+as_none file fill space asked.Nothing no_small no_large = refl
+as_none file fill space asked.Wrong no_small no_large = refl

@@ -10,7 +10,7 @@ use lib.Dec.{eqb}
 use lib.ListN.{length, take, drop}
 use lib.Seq.{take_all}
 use borrow.Author.Tests.{eq-eqb, lt-ltb, le-ltb, ne_eqb}
-use Rattle.slices.specs.Bytes.{index_after, index_of, slice}
+use Rattle.slices.specs.Bytes.{index_after, index_of}
 use Rattle.intel_hex.specs.Lines.{before}
 use Rattle.intel_hex.proofs.LineLaws.{to_end}
 use Rattle.options.specs.declared.numbers.Parsed.{Parsed}
@@ -20,18 +20,23 @@ use Rattle.options.specs.declared.wired.Request.TheVariants as request
 use Rattle.options.specs.Numbers.{decimal_named}
 use Rattle.options.specs.Wired.{bit_named, parts_of, request_named, request_of, wired_after}
 
--- the index in all of a text
-pub index_in : (letter : ℕ) (text : List ℕ) → 0 + index_of letter (slice 0 (length text) text) ≡ index_of letter text
-unfolding slice
-index_in letter text =
-    let all : take (length text) text ≡ text = take_all (length text) text (omega arith) in
-    rw all (omega arith)
+-- the index is within the text, or its length
+pub index_within : (letter : ℕ) (text : List ℕ) → index_of letter text ≤ length text
+unfolding index_of
+index_within letter [] = omega arith
+index_within letter (c ∷ rest) = go (eqb c letter) (index_within letter rest)
+  where
+    go :
+        (t : Bool) → index_of letter rest ≤ length rest
+        → index_after t (index_of letter rest) ≤ suc (length rest)
+    go true ih = omega arith
+    go false ih = omega arith
 
 -- the first part ends at the letter, and the parts after it follow; or it is all of the text
 pub first_part :
     (letter : ℕ) (text : List ℕ) → index_of letter text < length text
     → parts_of letter text ≡ take (index_of letter text) text ∷ parts_of letter (drop (suc (index_of letter text)) text)
-unfolding parts_of index_of index_after
+unfolding parts_of index_of
 first_part letter [] h = absurd (omega arith)
 first_part letter (c ∷ rest) h = go (eqb c letter) h (first_part letter rest)
   where
@@ -47,7 +52,7 @@ first_part letter (c ∷ rest) h = go (eqb c letter) h (first_part letter rest)
     go false h ih = rw (ih (omega arith))
 
 pub only_part : (letter : ℕ) (text : List ℕ) → index_of letter text ≡ length text → parts_of letter text ≡ text ∷ []
-unfolding parts_of index_of index_after
+unfolding parts_of index_of
 only_part letter [] e = refl
 only_part letter (c ∷ rest) e = go (eqb c letter) e (only_part letter rest)
   where
@@ -62,7 +67,7 @@ only_part letter (c ∷ rest) e = go (eqb c letter) e (only_part letter rest)
 first_of :
     (letter : ℕ) (text : List ℕ)
     → parts_of letter text ≡ take (index_of letter text) text ∷ drop 1 (parts_of letter text)
-unfolding parts_of index_of index_after
+unfolding parts_of index_of
 first_of letter [] = refl
 first_of letter (c ∷ rest) = go (eqb c letter) (first_of letter rest)
   where

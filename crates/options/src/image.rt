@@ -114,8 +114,14 @@ fn hex_image(file: &[u8], asked: Asked, fill: u8, space: &mut [u8]) -> ImageRead
         ≡ hex_got file.now asked fill space.old }
 {
     match asked {
-        Asked::Small => sized(intel_hex::read::read(file, fill, &mut space[SMALL..]), Rom::Small),
-        Asked::Large => sized(intel_hex::read::read(file, fill, &mut space[LARGE..]), Rom::Large),
+        Asked::Small => sized(
+            intel_hex::read::read(file, fill, &mut space[SMALL..]),
+            Rom::Small,
+        ),
+        Asked::Large => sized(
+            intel_hex::read::read(file, fill, &mut space[LARGE..]),
+            Rom::Large,
+        ),
         _ => by_lowest(intel_hex::read::read(file, fill, &mut space[LARGE..])),
     }
 }

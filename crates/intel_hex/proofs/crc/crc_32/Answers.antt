@@ -12,20 +12,15 @@ loop-i-init c = (omega arith, refl)
 
 pub loop-i-preserved : goal.loop-i-preserved
 loop-i-preserved c =
-    let in-loop = c.before.before in
-    let at-loop = in-loop.before in
-    let start = at-loop.before.before in
-    let loop = at-loop.loop-i in (
+    let loop = c.loop-i in (
       omega arith,
       rw c.after_byte-register.ensures
-          (byte_more loop.register start.args.bytes.now loop.i in-loop.loop-i-test.true ∙ loop.invariant.1),
+          (byte_more loop.register c.args.bytes.now loop.i c.loop-i-test.true ∙ loop.invariant.1),
     )
 
 pub returns : goal.returns
 unfolding crc_of
 returns c =
-    let at-loop-head = c.before in
-    let start = at-loop-head.before.before in
-    let loop = at-loop-head.loop-i in
-    let over = drop_of_length-le start.args.bytes.now {i = loop.i} (omega arith) in
+    let loop = c.loop-i in
+    let over = drop_of_length-le c.args.bytes.now {i = loop.i} (omega arith) in
     rw (← loop.invariant.1, over, no_bytes loop.register)

@@ -10,81 +10,61 @@ returns-then-c-lt48 c = rw (lt-ltb _ _ c.if-c-lt48.true)
 pub returns-then-c-lt58 : goal.returns-then-c-lt58
 unfolding digit_of
 returns-then-c-lt58 c =
-    let at-if1 = c.before in
     rw (
-      le-ltb _ _ at-if1.if-c-lt48.false,
+      le-ltb _ _ c.if-c-lt48.false,
       lt-ltb _ _ c.if-c-lt58.true,
     )
 
 pub returns-then-c-lt65 : goal.returns-then-c-lt65
 unfolding digit_of
 returns-then-c-lt65 c =
-    let at-if2 = c.before in
-    let at-if1 = at-if2.before in
     rw (
-      le-ltb _ _ at-if1.if-c-lt48.false,
-      le-ltb _ _ at-if2.if-c-lt58.false,
+      le-ltb _ _ c.if-c-lt48.false,
+      le-ltb _ _ c.if-c-lt58.false,
       lt-ltb _ _ c.if-c-lt65.true,
     )
 
 pub returns-then-c-lt71 : goal.returns-then-c-lt71
 unfolding digit_of
 returns-then-c-lt71 c =
-    let at-if3 = c.before in
-    let at-if2 = at-if3.before in
-    let at-if1 = at-if2.before in
     rw (
-      le-ltb _ _ at-if1.if-c-lt48.false,
-      le-ltb _ _ at-if2.if-c-lt58.false,
-      le-ltb _ _ at-if3.if-c-lt65.false,
+      le-ltb _ _ c.if-c-lt48.false,
+      le-ltb _ _ c.if-c-lt58.false,
+      le-ltb _ _ c.if-c-lt65.false,
       lt-ltb _ _ c.if-c-lt71.true,
     )
 
 pub returns-then-c-lt97 : goal.returns-then-c-lt97
 unfolding digit_of
 returns-then-c-lt97 c =
-    let at-if4 = c.before in
-    let at-if3 = at-if4.before in
-    let at-if2 = at-if3.before in
-    let at-if1 = at-if2.before in
     rw (
-      le-ltb _ _ at-if1.if-c-lt48.false,
-      le-ltb _ _ at-if2.if-c-lt58.false,
-      le-ltb _ _ at-if3.if-c-lt65.false,
-      le-ltb _ _ at-if4.if-c-lt71.false,
+      le-ltb _ _ c.if-c-lt48.false,
+      le-ltb _ _ c.if-c-lt58.false,
+      le-ltb _ _ c.if-c-lt65.false,
+      le-ltb _ _ c.if-c-lt71.false,
       lt-ltb _ _ c.if-c-lt97.true,
     )
 
 pub returns-then-c-lt103 : goal.returns-then-c-lt103
 unfolding digit_of
 returns-then-c-lt103 c =
-    let at-if5 = c.before in
-    let at-if4 = at-if5.before in
-    let at-if3 = at-if4.before in
-    let at-if2 = at-if3.before in
-    let at-if1 = at-if2.before in
     rw (
-      le-ltb _ _ at-if1.if-c-lt48.false,
-      le-ltb _ _ at-if2.if-c-lt58.false,
-      le-ltb _ _ at-if3.if-c-lt65.false,
-      le-ltb _ _ at-if4.if-c-lt71.false,
-      le-ltb _ _ at-if5.if-c-lt97.false,
+      le-ltb _ _ c.if-c-lt48.false,
+      le-ltb _ _ c.if-c-lt58.false,
+      le-ltb _ _ c.if-c-lt65.false,
+      le-ltb _ _ c.if-c-lt71.false,
+      le-ltb _ _ c.if-c-lt97.false,
       lt-ltb _ _ c.if-c-lt103.true,
     )
 
 pub returns : goal.returns
 unfolding digit_of
 returns c =
-    let at-if5 = c.before in
-    let at-if4 = at-if5.before in
-    let at-if3 = at-if4.before in
-    let at-if2 = at-if3.before in
-    let at-if1 = at-if2.before in
     rw (
-      le-ltb _ _ at-if1.if-c-lt48.false,
-      le-ltb _ _ at-if2.if-c-lt58.false,
-      le-ltb _ _ at-if3.if-c-lt65.false,
-      le-ltb _ _ at-if4.if-c-lt71.false,
-      le-ltb _ _ at-if5.if-c-lt97.false,
+      le-ltb _ _ c.if-c-lt48.false,
+      le-ltb _ _ c.if-c-lt58.false,
+      le-ltb _ _ c.if-c-lt65.false,
+      le-ltb _ _ c.if-c-lt71.false,
+      le-ltb _ _ c.if-c-lt97.false,
       le-ltb _ _ c.if-c-lt103.false,
     )

@@ -12,32 +12,22 @@ loop-i-init c = (omega arith, refl)
 
 pub returns-then-digit_of-eq16 : goal.returns-then-digit_of-eq16
 returns-then-digit_of-eq16 c =
-    let at-digit-of = c.before in
-    let in-loop = at-digit-of.before.before in
-    let at-loop = in-loop.before in
-    let start = at-loop.before.before in
-    let loop = at-loop.loop-i in
-    let called = at-digit-of.digit_of in
-    let same = no_digit start.args.digits.now loop.i in-loop.loop-i-test.true
+    let loop = c.loop-i in
+    let called = c.digit_of in
+    let same = no_digit c.args.digits.now loop.i c.loop-i-test.true
     (sym called.ensures ∙ c.if-digit_of-eq16.true) in
     sym same ∙ loop.invariant.1
 
 pub loop-i-preserved : goal.loop-i-preserved
 loop-i-preserved c =
-    let at-digit-of = c.before in
-    let in-loop = at-digit-of.before.before in
-    let at-loop = in-loop.before in
-    let start = at-loop.before.before in
-    let loop = at-loop.loop-i in
-    let called = at-digit-of.digit_of in
-    let same = one_digit start.args.digits.now loop.i in-loop.loop-i-test.true
+    let loop = c.loop-i in
+    let called = c.digit_of in
+    let same = one_digit c.args.digits.now loop.i c.loop-i-test.true
     (λ e. c.if-digit_of-eq16.false (called.ensures ∙ e)) in
     (omega arith, same ∙ loop.invariant.1)
 
 pub returns : goal.returns
 returns c =
-    let at-loop-head = c.before in
-    let start = at-loop-head.before.before in
-    let loop = at-loop-head.loop-i in
-    let digits = start.args.digits.now in
+    let loop = c.loop-i in
+    let digits = c.args.digits.now in
     sym no_more ∙ ap are_digits (sym (drop_of_length-le digits {i = loop.i} (omega arith))) ∙ loop.invariant.1

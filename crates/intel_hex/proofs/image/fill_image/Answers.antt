@@ -12,18 +12,15 @@ loop-i-init c = (omega arith, refl, refl)
 
 pub loop-i-preserved : goal.loop-i-preserved
 loop-i-preserved c =
-    let in-loop = c.before.before in
-    let at-loop = in-loop.before in
-    let start = at-loop.before.before in
-    let args = start.args in
-    let loop = at-loop.loop-i in
+    let args = c.args in
+    let loop = c.loop-i in
     let size = length args.image.now in
     let new = filled args.fill args.memory.now args.first size in
-    let less : loop.i < size = omega (arith, in-loop.loop-i-test.true, loop.invariant.1) in
-    let here : c.value_of_lem.result ≡ get_or new loop.i 0 =
-    c.value_of_lem.ensures ∙ sym (filled_at args.fill args.memory.now args.first size loop.i less) in (
+    let less : loop.i < size = omega (arith, c.loop-i-test.true, loop.invariant.1) in
+    let here : c.value_of.result ≡ get_or new loop.i 0 =
+    c.value_of.ensures ∙ sym (filled_at args.fill args.memory.now args.first size loop.i less) in (
       omega arith,
-      length-set loop.image loop.i c.value_of_lem.result ∙ loop.invariant.1,
+      length-set loop.image loop.i c.value_of.result ∙ loop.invariant.1,
       rw (here, loop.invariant.2)
           (stored new args.image.now loop.i
           (rw (filled_length args.fill args.memory.now args.first size) less) less),
@@ -31,10 +28,8 @@ loop-i-preserved c =
 
 pub returns : goal.returns
 returns c =
-    let at-loop-head = c.before in
-    let start = at-loop-head.before.before in
-    let args = start.args in
-    let loop = at-loop-head.loop-i in
+    let args = c.args in
+    let loop = c.loop-i in
     let size = length args.image.now in
     let all : loop.i ≡ size = omega (arith, loop.invariant.1) in
     loop.invariant.2

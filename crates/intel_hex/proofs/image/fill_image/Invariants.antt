@@ -8,8 +8,8 @@ use Rattle.intel_hex.proofs.image.fill_image.Given as goal
 
 abbrev pub invariant-loop-i : goal.invariant-loop-i
 invariant-loop-i l =
-    (l.i ≤ length l.initial.image) × (length l.initial.i ≡ length l.initial.image)
-    × (l.initial.i ≡ take l.i (filled l.fill l.memory l.first (length l.initial.image)) ++ drop l.i l.initial.image)
+    (l.i ≤ length l.initial.image) × (length l.image ≡ length l.initial.image)
+    × (l.image ≡ take l.i (filled l.fill l.memory l.first (length l.initial.image)) ++ drop l.i l.initial.image)
 
 abbrev pub decreases-loop-i : goal.decreases-loop-i
 decreases-loop-i l = length l.initial.image - l.i

@@ -10,24 +10,18 @@ loop-i-init c = (omega arith, refl)
 
 pub returns-then-memory-i-lt256 : goal.returns-then-memory-i-lt256
 returns-then-memory-i-lt256 c =
-    let at-loop = c.before.before.before in
-    let start = at-loop.before in
-    let loop = at-loop.loop-i in
-    named_here start.args.memory.now loop.i (4096 - loop.i) (omega arith) c.if-memory-i-lt256.true ∙ loop.invariant.1
+    let loop = c.loop-i in
+    named_here c.args.memory.now loop.i (4096 - loop.i) (omega arith) c.if-memory-i-lt256.true ∙ loop.invariant.1
 
 pub loop-i-preserved : goal.loop-i-preserved
 loop-i-preserved c =
-    let at-loop = c.before.before.before in
-    let start = at-loop.before in
-    let loop = at-loop.loop-i in
+    let loop = c.loop-i in
     let less : 4096 - (loop.i + 1) ≡ 4096 - loop.i - 1 = omega arith in
-    let later = named_later start.args.memory.now loop.i (4096 - loop.i) (omega arith) c.if-memory-i-lt256.false in
+    let later = named_later c.args.memory.now loop.i (4096 - loop.i) (omega arith) c.if-memory-i-lt256.false in
     (omega arith, rw less (later ∙ loop.invariant.1))
 
 pub returns : goal.returns
 returns c =
-    let at-loop-head = c.before in
-    let start = at-loop-head.before in
-    let loop = at-loop-head.loop-i in
+    let loop = c.loop-i in
     let all : loop.i ≡ 4096 = omega arith in
-    sym (named_none start.args.memory.now 4096) ∙ (rw all at loop.invariant.1)
+    sym (named_none c.args.memory.now 4096) ∙ (rw all at loop.invariant.1)

@@ -12,26 +12,18 @@ loop-i-init c = (omega arith, omega arith)
 
 pub returns-then-text-i-eq10 : goal.returns-then-text-i-eq10
 returns-then-text-i-eq10 c =
-    let in-loop = c.before.before in
-    let at-loop = in-loop.before in
-    let start = at-loop.before in
-    let loop = at-loop.loop-i in
+    let loop = c.loop-i in
     omega
-    (arith, loop.invariant.1, size_ends start.args.text.now loop.i in-loop.loop-i-test.true c.if-text-i-eq10.true)
+    (arith, loop.invariant.1, size_ends c.args.text.now loop.i c.loop-i-test.true c.if-text-i-eq10.true)
 
 pub loop-i-preserved : goal.loop-i-preserved
 loop-i-preserved c =
-    let in-loop = c.before.before in
-    let at-loop = in-loop.before in
-    let start = at-loop.before in
-    let loop = at-loop.loop-i in
-    let more = size_more start.args.text.now loop.i in-loop.loop-i-test.true c.if-text-i-eq10.false in
+    let loop = c.loop-i in
+    let more = size_more c.args.text.now loop.i c.loop-i-test.true c.if-text-i-eq10.false in
     (omega arith, omega (arith, loop.invariant.1, more))
 
 pub returns : goal.returns
 returns c =
-    let at-loop-head = c.before in
-    let start = at-loop-head.before in
-    let loop = at-loop-head.loop-i in
-    let over = drop_of_length-le start.args.text.now {i = loop.i} (omega arith) in
+    let loop = c.loop-i in
+    let over = drop_of_length-le c.args.text.now {i = loop.i} (omega arith) in
     omega (arith, loop.invariant.1, ap line_size over, size_none)

@@ -14,87 +14,70 @@ loop-rest-init c = (omega arith, refl)
 
 pub slice_bounds-without_last-end : goal.slice_bounds-without_last-end
 slice_bounds-without_last-end c =
-    let at-line-size = c.before in
-    let at-loop = at-line-size.before.before in
-    let rest = at-loop.loop-rest.rest.now in
-    let within : at-line-size.line_size-size.result ≤ length rest = rw at-line-size.line_size-size.ensures
+    let rest = c.loop-rest.rest.now in
+    let within : c.line_size-size.result ≤ length rest = rw c.line_size-size.ensures
     (size_within rest) in
-    sym (length-take-le at-line-size.line_size-size.result rest within)
+    sym (length-take-le c.line_size-size.result rest within)
 
 pub returns-in-Faulty : goal.returns-in-Faulty
 returns-in-Faulty c =
-    let at-taken = c.before in
-    let at-take-line = at-taken.before.before in
-    let at-without-last2 = at-take-line.before.before in
-    let at-without-last = at-without-last2.before in
-    let at-line-size = at-without-last.before.before in
-    let in-loop = at-line-size.before in
-    let at-loop = in-loop.before in
-    let start = at-loop.before.before in
-    let args = start.args in
-    let loop = at-loop.loop-rest in
-    let size = at-line-size.line_size-size in
-    let called = at-take-line.take_line-taken in
-    let raw = take size.result loop.rest-1.now in
+    let args = c.args in
+    let loop = c.loop-rest in
+    let size = c.line_size-size in
+    let called = c.take_line-taken in
+    let raw = take size.result loop.rest.now in
     let faulted =
-    line_faulty args.first loop.ended loop.memory raw at-without-last.without_last.result.now
-    at-without-last2.without_last-line.result.now at-without-last.without_last.ensures
-    at-without-last2.without_last-line.ensures called.result
-    called.new.1.1.1.0 called.ensures at-taken.in-Faulty.fault at-taken.in-Faulty.is in
-    turn_refused args.first loop.ended loop.number loop.memory loop.rest-1.now size.result
-    in-loop.loop-rest-test.true size.ensures at-taken.in-Faulty.fault faulted
+    line_faulty args.first loop.ended loop.memory raw c.without_last.result.now
+    c.without_last-line.result.now c.without_last.ensures
+    c.without_last-line.ensures called.result
+    called.new.memory called.ensures c.in-Faulty.fault c.in-Faulty.is in
+    turn_refused args.first loop.ended loop.number loop.memory loop.rest.now size.result
+    c.loop-rest-test.true size.ensures c.in-Faulty.fault faulted
     ∙ loop.invariant.1
+
+pub slice_bounds-rest-count : goal.slice_bounds-rest-count
+slice_bounds-rest-count c = rw c.line_size-size.ensures (size_within c.loop-rest.rest.now)
+
+pub slice_bounds-rest-start : goal.slice_bounds-rest-start
+slice_bounds-rest-start c =
+    let within : c.line_size-size.result ≤ length c.loop-rest.rest.now = rw c.line_size-size.ensures (size_within c.loop-rest.rest.now) in
+    omega arith
 
 pub loop-rest-smaller : goal.loop-rest-smaller
 loop-rest-smaller c =
-    let at-line-size = c.before.before.before.before.before.before.before.before.before in
-    let in-loop = at-line-size.before in
-    let at-loop = in-loop.before in
-    let rest = at-loop.loop-rest.rest.now in
-    let size = at-line-size.line_size-size in
-    rest_less rest size.result in-loop.loop-rest-test.true size.ensures
+    let rest = c.loop-rest.rest.now in
+    let size = c.line_size-size in
+    rest_less rest size.result c.loop-rest-test.true size.ensures
 
 pub loop-rest-preserved : goal.loop-rest-preserved
 loop-rest-preserved c =
-    let at-taken2 = c.before.before in
-    let at-take-line = at-taken2.before.before in
-    let at-without-last2 = at-take-line.before.before in
-    let at-without-last = at-without-last2.before in
-    let at-line-size = at-without-last.before.before in
-    let in-loop = at-line-size.before in
-    let at-loop = in-loop.before in
-    let start = at-loop.before.before in
-    let args = start.args in
-    let loop = at-loop.loop-rest in
-    let size = at-line-size.line_size-size in
-    let called = at-take-line.take_line-taken in
-    let raw = take size.result loop.rest-1.now in
+    let args = c.args in
+    let loop = c.loop-rest in
+    let size = c.line_size-size in
+    let called = c.take_line-taken in
+    let raw = take size.result loop.rest.now in
     let passed =
-    line_on args.first loop.ended loop.memory raw at-without-last.without_last.result.now
-    at-without-last2.without_last-line.result.now at-without-last.without_last.ensures
-    at-without-last2.without_last-line.ensures called.result
-    called.new.1.1.1.0 called.ensures at-taken2.in-On.on at-taken2.in-On.is in
-    let less = rest_less loop.rest-1.now size.result in-loop.loop-rest-test.true size.ensures in (
-      number_next loop.number _ (length loop.rest-1.now) (length args.text.now) less loop.invariant.0,
-      turn_on args.first loop.ended loop.number loop.memory loop.rest-1.now size.result
-          in-loop.loop-rest-test.true size.ensures at-taken2.in-On.on called.new.1.1.1.0 passed
+    line_on args.first loop.ended loop.memory raw c.without_last.result.now
+    c.without_last-line.result.now c.without_last.ensures
+    c.without_last-line.ensures called.result
+    called.new.memory called.ensures c.in-On.on c.in-On.is in
+    let less = rest_less loop.rest.now size.result c.loop-rest-test.true size.ensures in (
+      number_next loop.number _ (length loop.rest.now) (length args.text.now) less loop.invariant.0,
+      turn_on args.first loop.ended loop.number loop.memory loop.rest.now size.result
+          c.loop-rest-test.true size.ensures c.in-On.on called.new.memory passed
           ∙ loop.invariant.1,
     )
 
 pub returns-then-not-ended : goal.returns-then-not-ended
 returns-then-not-ended c =
-    let at-loop-head = c.before.before in
-    let start = at-loop-head.before.before in
-    let args = start.args in
-    let loop = at-loop-head.loop-rest in
-    text_breaks args.first loop.number loop.memory loop.rest-1.now (omega arith)
+    let args = c.args in
+    let loop = c.loop-rest in
+    text_breaks args.first loop.number loop.memory loop.rest.now (omega arith)
     ∙ (rw (c.if-not-ended.true) at loop.invariant.1)
 
 pub returns : goal.returns
 returns c =
-    let at-loop-head = c.before.before in
-    let start = at-loop-head.before.before in
-    let args = start.args in
-    let loop = at-loop-head.loop-rest in
-    text_ends args.first loop.number loop.memory loop.rest-1.now (omega arith)
+    let args = c.args in
+    let loop = c.loop-rest in
+    text_ends args.first loop.number loop.memory loop.rest.now (omega arith)
     ∙ (rw (c.if-not-ended.false) at loop.invariant.1)

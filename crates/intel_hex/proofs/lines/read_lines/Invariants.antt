@@ -9,8 +9,9 @@ use Rattle.intel_hex.proofs.lines.read_lines.Given as goal
 
 abbrev pub invariant-loop-rest : goal.invariant-loop-rest
 invariant-loop-rest l =
-    (l.initial.ended + length l.number ≤ length l.text + 1) × (after_lines l.first l.ended l.initial.ended l.initial.number (lines_of l.number)
+    (l.number + length l.rest ≤ length l.text + 1)
+    × (after_lines l.first l.ended l.number l.memory (lines_of l.rest)
     ≡ after_lines l.first false 1 l.initial.memory (lines_of l.text))
 
 abbrev pub decreases-loop-rest : goal.decreases-loop-rest
-decreases-loop-rest l = length l.number
+decreases-loop-rest l = length l.rest

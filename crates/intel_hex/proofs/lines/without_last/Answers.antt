@@ -6,19 +6,15 @@ use Rattle.intel_hex.proofs.lines.without_last.Goals as goal
 
 pub returns-then-size-eq0 : goal.returns-then-size-eq0
 returns-then-size-eq0 c =
-    let start = c.before in
-    none_off start.args.last start.args.bytes.now c.if-size-eq0.true
+    none_off c.args.last c.args.bytes.now c.if-size-eq0.true
 
 pub slice_bounds-result-end : goal.slice_bounds-result-end
 slice_bounds-result-end c = simp length-take (omega arith)
 
 pub returns-then-bytes-less : goal.returns-then-bytes-less
 returns-then-bytes-less c =
-    let at-if2 = c.before in
-    let start = at-if2.before.before.before in
-    last_off start.args.last start.args.bytes.now at-if2.if-bytes-less.true
+    last_off c.args.last c.args.bytes.now c.if-bytes-less.true
 
 pub returns : goal.returns
 returns c =
-    let start = c.before.before.before in
-    last_stays start.args.last start.args.bytes.now c.if-bytes-less.false
+    last_stays c.args.last c.args.bytes.now c.if-bytes-less.false

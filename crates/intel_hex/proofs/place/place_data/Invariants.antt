@@ -8,7 +8,7 @@ use Rattle.intel_hex.proofs.place.place_data.Given as goal
 
 abbrev pub invariant-loop-k : goal.invariant-loop-k
 invariant-loop-k l =
-    (l.k ≤ l.count) × (placed l.first (l.memory + l.k) l.initial.k (drop l.k (data_of l.count (bytes_of l.digits)))
+    (l.k ≤ l.count) × (placed l.first (l.start + l.k) l.memory (drop l.k (data_of l.count (bytes_of l.digits)))
     ≡ placed l.first (address_of (bytes_of l.digits)) l.initial.memory (data_of l.count (bytes_of l.digits)))
 
 abbrev pub decreases-loop-k : goal.decreases-loop-k

@@ -17,72 +17,58 @@ returns-then-not-is_digits c =
 pub returns-then-digits-lt10 : goal.returns-then-digits-lt10
 unfolding after_digits
 returns-then-digits-lt10 c =
-    let at-if1 = c.before in
-    let at-is-digits = at-if1.before in
-    let start = at-is-digits.before.before in
-    let asked = at-is-digits.is_digits in
-    let digits = start.args.digits.now in
+    let asked = c.is_digits in
+    let digits = c.args.digits.now in
     let count = get_or (bytes_of digits) 0 0 in
     let short = ne_eqb (length digits) (10 + count * 2) (λ e. omega (arith, e, c.if-digits-lt10.true)) in
-    rw (← asked.ensures, at-if1.if-not-is_digits.false, short)
+    rw (← asked.ensures, c.if-not-is_digits.false, short)
+
+pub overflow_mul-count : goal.overflow_mul-count
+overflow_mul-count c = omega (arith, c.byte_in-count.ensures, byte_at_most c.args.digits.now 0)
+
+pub overflow_add-count : goal.overflow_add-count
+overflow_add-count c = omega (arith, c.byte_in-count.ensures, byte_at_most c.args.digits.now 0)
 
 pub returns-then-digits-count : goal.returns-then-digits-count
 unfolding after_digits
 returns-then-digits-count c =
-    let at-byte-in = c.before in
-    let at-if1 = at-byte-in.before.before in
-    let at-is-digits = at-if1.before in
-    let asked = at-is-digits.is_digits in
+    let asked = c.is_digits in
     rw (
       ← asked.ensures,
-      at-if1.if-not-is_digits.false,
-      ← at-byte-in.byte_in-count.ensures,
+      c.if-not-is_digits.false,
+      ← c.byte_in-count.ensures,
       ne_eqb _ _ c.if-digits-count.true,
     )
 
 pub sum_of-requires : goal.sum_of-requires
-sum_of-requires c =
-    let at-byte-in = c.before in
-    let start = at-byte-in.before.before.before.before.before in (
-      omega (arith, c.if-digits-count.false),
-      omega
-          (arith, at-byte-in.byte_in-count.ensures, byte_at_most start.args.digits.now 0),
-    )
+sum_of-requires c = (
+  omega (arith, c.if-digits-count.false),
+  omega (arith, c.byte_in-count.ensures, byte_at_most c.args.digits.now 0),
+)
 
 pub returns-then-sum_of-ne0 : goal.returns-then-sum_of-ne0
 unfolding after_digits
 returns-then-sum_of-ne0 c =
-    let at-sum-of = c.before in
-    let at-if3 = at-sum-of.before in
-    let at-byte-in = at-if3.before in
-    let at-if1 = at-byte-in.before.before in
-    let at-is-digits = at-if1.before in
-    let asked = at-is-digits.is_digits in
+    let asked = c.is_digits in
     rw (
       ← asked.ensures,
-      at-if1.if-not-is_digits.false,
-      ← at-byte-in.byte_in-count.ensures,
-      eq-eqb _ _ at-if3.if-digits-count.false,
-      ← at-sum-of.sum_of.ensures,
+      c.if-not-is_digits.false,
+      ← c.byte_in-count.ensures,
+      eq-eqb _ _ c.if-digits-count.false,
+      ← c.sum_of.ensures,
       ne_eqb _ _ c.if-sum_of-ne0.true,
     )
 
 pub returns : goal.returns
 unfolding after_digits
 returns c =
-    let at-if4 = c.before.before in
-    let at-sum-of = at-if4.before in
-    let at-if3 = at-sum-of.before in
-    let at-byte-in = at-if3.before in
-    let at-if1 = at-byte-in.before.before in
-    let at-is-digits = at-if1.before in
-    let asked = at-is-digits.is_digits in
+    let asked = c.is_digits in
     rw (
       ← asked.ensures,
-      at-if1.if-not-is_digits.false,
-      ← at-byte-in.byte_in-count.ensures,
-      eq-eqb _ _ at-if3.if-digits-count.false,
-      ← at-sum-of.sum_of.ensures,
-      eq-eqb _ _ at-if4.if-sum_of-ne0.false,
+      c.if-not-is_digits.false,
+      ← c.byte_in-count.ensures,
+      eq-eqb _ _ c.if-digits-count.false,
+      ← c.sum_of.ensures,
+      eq-eqb _ _ c.if-sum_of-ne0.false,
     )
     c.take_record.ensures

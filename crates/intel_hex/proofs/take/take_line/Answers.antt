@@ -12,27 +12,18 @@ returns-then-line-eq0 c =
 
 pub returns-then-ended : goal.returns-then-ended
 returns-then-ended c =
-    let at-if1 = c.before in
-    let start = at-if1.before.before in
-    let args = start.args in
-    rw c.if-ended.true (after_end_lem args.first args.memory.now args.line.now at-if1.if-line-eq0.false)
+    let args = c.args in
+    rw c.if-ended.true (after_end_lem args.first args.memory.now args.line.now c.if-line-eq0.false)
 
 pub returns-then-line-ne58 : goal.returns-then-line-ne58
 returns-then-line-ne58 c =
-    let at-if2 = c.before.before in
-    let at-if1 = at-if2.before in
-    let start = at-if1.before.before in
-    let args = start.args in
-    rw at-if2.if-ended.false
-    (no_colon args.first args.memory.now args.line.now at-if1.if-line-eq0.false c.if-line-ne58.true)
+    let args = c.args in
+    rw c.if-ended.false
+    (no_colon args.first args.memory.now args.line.now c.if-line-eq0.false c.if-line-ne58.true)
 
 pub returns : goal.returns
 returns c =
-    let at-if3 = c.before.before.before in
-    let at-if2 = at-if3.before.before in
-    let at-if1 = at-if2.before in
-    let start = at-if1.before.before in
-    let args = start.args in
-    rw at-if2.if-ended.false
-    ((rw (to_end args.line.now 1 (omega (arith, at-if1.if-line-eq0.false))) at c.take_digits.ensures)
-    ∙ colon args.first args.memory.now args.line.now at-if1.if-line-eq0.false at-if3.if-line-ne58.false)
+    let args = c.args in
+    rw c.if-ended.false
+    ((rw (to_end args.line.now 1 (omega (arith, c.if-line-eq0.false))) at c.take_digits.ensures)
+    ∙ colon args.first args.memory.now args.line.now c.if-line-eq0.false c.if-line-ne58.false)

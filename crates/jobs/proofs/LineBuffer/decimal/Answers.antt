@@ -15,35 +15,23 @@ returns-then-number-lt10 c =
 
 pub returns-then-tens-lt10 : goal.returns-then-tens-lt10
 returns-then-tens-lt10 c =
-    let at-if2 = c.before.before in
-    let at-glyph-of2 = at-if2.before in
-    let at-if1 = at-glyph-of2.before in
-    let at-glyph-of = at-if1.before in
-    let start = at-glyph-of.before in
-    let n = start.args.number in
-    let same : n / 10 % 10 ≡ n / 10 = omega (arith, at-if2.if-tens-lt10.true) in
+    let n = c.args.number in
+    let same : n / 10 % 10 ≡ n / 10 = omega (arith, c.if-tens-lt10.true) in
     rw (
-      two_digits_lem n at-if1.if-number-lt10.false at-if2.if-tens-lt10.true,
+      two_digits_lem n c.if-number-lt10.false c.if-tens-lt10.true,
       ← same,
-      ← at-glyph-of.glyph_of-last.ensures,
-      ← at-glyph-of2.glyph_of-middle.ensures,
+      ← c.glyph_of-last.ensures,
+      ← c.glyph_of-middle.ensures,
     )
     (both c.letter-then-tens-lt10.ensures c.letter-then-tens-lt10-2.ensures)
 
 pub returns : goal.returns
 returns c =
-    let at-letter4 = c.before.before in
-    let at-glyph-of3 = at-letter4.before in
-    let at-if2 = at-glyph-of3.before in
-    let at-glyph-of2 = at-if2.before in
-    let at-if1 = at-glyph-of2.before in
-    let at-glyph-of = at-if1.before in
-    let start = at-glyph-of.before in
-    let n = start.args.number in
+    let n = c.args.number in
     rw (
-      three_digits_lem n at-if1.if-number-lt10.false at-if2.if-tens-lt10.false (search rules),
-      ← at-glyph-of.glyph_of-last.ensures,
-      ← at-glyph-of2.glyph_of-middle.ensures,
-      ← at-glyph-of3.glyph_of.ensures,
+      three_digits_lem n c.if-number-lt10.false c.if-tens-lt10.false (search rules),
+      ← c.glyph_of-last.ensures,
+      ← c.glyph_of-middle.ensures,
+      ← c.glyph_of.ensures,
     )
-    (both (both at-letter4.letter-2.ensures c.letter-3.ensures) c.letter-4.ensures)
+    (both (both c.letter-2.ensures c.letter-3.ensures) c.letter-4.ensures)

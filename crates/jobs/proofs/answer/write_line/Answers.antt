@@ -2,7 +2,6 @@
 use Prim.Native.Nat.{◌<◌, ◌≤◌}
 use mathlib.Core.Path.{sym}
 use lib.ListN.{length}
-use lib.Seq.{take-length}
 use borrow.Author.Tests.{le-leb, lt-leb}
 use Rattle.jobs.specs.LineBuffer.{content_of}
 use Rattle.jobs.proofs.LineLaws.{content_length}
@@ -10,34 +9,28 @@ use Rattle.jobs.proofs.answer.write_line.Goals as goal
 
 pub returns-then-line-count : goal.returns-then-line-count
 returns-then-line-count c =
-    let start = c.before.before.before in
-    let made = start.args.made in
-    let size = content_length made start.requires in
-    let short : length start.args.line.now < length (content_of made) = rw size c.if-line-count.true in
+    let made = c.args.made in
+    let size = content_length made c.requires in
+    let short : length c.args.line.now < length (content_of made) = rw size c.if-line-count.true in
     record {
-      short = rw size start.requires.room;
+      short = rw size c.requires.room;
       answer = rw (lt-leb _ _ short);
       buffer = rw (lt-leb _ _ short);
     }
 
 pub slice_bounds-copy-end : goal.slice_bounds-copy-end
-slice_bounds-copy-end c =
-    let start = c.before.before.before.before in sym (content_length start.args.made start.requires)
+slice_bounds-copy-end c = sym (content_length c.args.made c.requires)
 
 pub copy-requires : goal.copy-requires
-copy-requires c =
-    let start = c.before.before.before.before.before in
-    rw (content_length start.args.made start.requires) c.if-line-count.false
+copy-requires c = rw (content_length c.args.made c.requires) c.if-line-count.false
 
 pub returns : goal.returns
 returns c =
-    let tested = c.before.before.before.before.before in
-    let start = tested.before.before.before in
-    let made = start.args.made in
-    let size = content_length made start.requires in
-    let fits : length (content_of made) ≤ length start.args.line.now = rw size tested.if-line-count.false in
+    let made = c.args.made in
+    let size = content_length made c.requires in
+    let fits : length (content_of made) ≤ length c.args.line.now = rw size c.if-line-count.false in
     record {
-      short = rw size start.requires.room;
+      short = rw size c.requires.room;
       answer = rw (le-leb _ _ fits, size);
-      buffer = rw (le-leb _ _ fits) (rw (take-length (content_of made)) at c.copy.ensures.1);
+      buffer = rw (le-leb _ _ fits) c.copy.ensures.copied;
     }

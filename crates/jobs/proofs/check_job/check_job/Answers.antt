@@ -18,12 +18,11 @@ returns-then-job-ne1 c = rw (le-leb _ _ c.if-job-lt3.false, ne_eqb _ _ c.if-job-
 pub returns-then-not-is_count : goal.returns-then-not-is_count
 unfolding job_of
 returns-then-not-is_count c =
-    let counted = c.before.before in
     let asked = c.is_count in
     rw (
-      le-leb _ _ counted.if-job-lt3.false,
-      eq-eqb _ _ counted.if-job-ne1.false,
-      ← counted.count_of-count.ensures,
+      le-leb _ _ c.if-job-lt3.false,
+      eq-eqb _ _ c.if-job-ne1.false,
+      ← c.count_of-count.ensures,
       ← asked.ensures,
       c.if-not-is_count.true,
     )
@@ -31,12 +30,11 @@ returns-then-not-is_count c =
 pub returns-then-job-count : goal.returns-then-job-count
 unfolding job_of
 returns-then-job-count c =
-    let counted = c.before.before.before in
     let asked = c.is_count in
     rw (
-      le-leb _ _ counted.if-job-lt3.false,
-      eq-eqb _ _ counted.if-job-ne1.false,
-      ← counted.count_of-count.ensures,
+      le-leb _ _ c.if-job-lt3.false,
+      eq-eqb _ _ c.if-job-ne1.false,
+      ← c.count_of-count.ensures,
       ← asked.ensures,
       c.if-not-is_count.false,
       ne_eqb _ _ c.if-job-count.true,
@@ -44,21 +42,19 @@ returns-then-job-count c =
 
 pub check_parts-requires : goal.check_parts-requires
 check_parts-requires c =
-    let counted = c.before.before.before in
-    let n = counted.count_of-count.result in
+    let n = c.count_of-count.result in
     let asked = c.is_count in
     let is : is_count n ≡ true = sym asked.ensures ∙ c.if-not-is_count.false in
-    omega (arith, halves n is, c.if-job-count.false, counted.if-job-lt3.false)
+    omega (arith, halves n is, c.if-job-count.false, c.if-job-lt3.false)
 
 pub returns : goal.returns
 unfolding job_of
 returns c =
-    let counted = c.before.before.before.before in
     let asked = c.is_count in
     rw (
-      le-leb _ _ counted.if-job-lt3.false,
-      eq-eqb _ _ counted.if-job-ne1.false,
-      ← counted.count_of-count.ensures,
+      le-leb _ _ c.if-job-lt3.false,
+      eq-eqb _ _ c.if-job-ne1.false,
+      ← c.count_of-count.ensures,
       ← asked.ensures,
       c.if-not-is_count.false,
       eq-eqb _ _ c.if-job-count.false,

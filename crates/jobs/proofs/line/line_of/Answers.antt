@@ -14,11 +14,9 @@ letter-requires c =
 pub returns-in-Accepted : goal.returns-in-Accepted
 unfolding line_of
 returns-in-Accepted c =
-    let begun = c.before.before in
-    rw begun.in-Accepted.is
-    (then begun.new.ensures (both c.decimal.ensures c.letter.ensures))
+    rw c.in-Accepted.is
+    (then c.new.ensures (both c.decimal.ensures c.letter.ensures))
 
 pub returns-in-Refused : goal.returns-in-Refused
 returns-in-Refused c =
-    let at-checked2 = c.before.before.before in
-    rw (at-checked2.in-Refused.is, ← c.before.number_of_lem.ensures) c.refusal_line.ensures
+    rw (c.in-Refused.is, ← c.number_of.ensures) c.refusal_line.ensures

@@ -18,44 +18,38 @@ letter-requires-in-Located c =
 
 pub address-requires : goal.address-requires
 address-requires c =
-    let known = c.before.before.before in
-    let digits = at_most_three known.in-Located.n (search rules) in
+    let digits = at_most_three c.in-Located.n (search rules) in
     omega (
       arith,
       digits,
       c.letter-in-Located.ensures.count,
       c.decimal-in-Located.ensures.count,
-      known.new-line.ensures.count,
+      c.new-line.ensures.count,
     )
 
 pub letter-requires-in-Located-2 : goal.letter-requires-in-Located-2
 letter-requires-in-Located-2 c =
-    let numbered = c.before.before in
-    let known = numbered.before.before in
-    let digits = at_most_three known.in-Located.n (search rules) in
-    let begun = known.new-line.ensures.count in
+    let digits = at_most_three c.in-Located.n (search rules) in
+    let begun = c.new-line.ensures.count in
     omega (
       arith,
       digits,
       begun,
       c.address.ensures.count,
       c.letter-in-Located.ensures.count,
-      numbered.decimal-in-Located.ensures.count,
+      c.decimal-in-Located.ensures.count,
     )
 
 pub returns-in-Plain : goal.returns-in-Plain
 unfolding line_of
 returns-in-Plain c =
-    let known = c.before.before.before in
-    rw known.in-Plain.is
-    (then known.new-line.ensures (both c.decimal.ensures c.letter.ensures))
+    rw c.in-Plain.is
+    (then c.new-line.ensures (both c.decimal.ensures c.letter.ensures))
 
 pub returns-in-Located : goal.returns-in-Located
 unfolding line_of
 returns-in-Located c =
-    let numbered = c.before.before.before in
-    let known = numbered.before.before in
     let address = both c.address.ensures c.letter-in-Located-2.ensures in
     let located = both c.letter-in-Located.ensures address in
-    rw known.in-Located.is
-    (then known.new-line.ensures (both numbered.decimal-in-Located.ensures located))
+    rw c.in-Located.is
+    (then c.new-line.ensures (both c.decimal-in-Located.ensures located))

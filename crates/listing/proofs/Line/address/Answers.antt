@@ -4,11 +4,9 @@ use Rattle.listing.proofs.Line.address.Goals as goal
 
 pub returns : goal.returns
 returns c =
-    let at-letter = c.before.before in
-    let at-digit3 = at-letter.before in
     rw (
-      ← at-digit3.digit-first.ensures,
-      ← at-digit3.digit-second.ensures,
-      ← at-digit3.digit-third.ensures,
+      ← c.digit-first.ensures,
+      ← c.digit-second.ensures,
+      ← c.digit-third.ensures,
     )
-    (both (both at-letter.letter.ensures c.letter-2.ensures) c.letter-3.ensures)
+    (both (both c.letter.ensures c.letter-2.ensures) c.letter-3.ensures)

@@ -5,10 +5,8 @@ use Rattle.listing.proofs.Line.length.Goals as goal
 
 pub returns-then-self-lt-MOST : goal.returns-then-self-lt-MOST
 returns-then-self-lt-MOST c =
-    let start = c.before.before in
-    room_length start.args.self.letters start.args.self.count (search rules) c.if-self-lt-MOST.true
+    room_length c.args.self.letters c.args.self.count (search rules) c.if-self-lt-MOST.true
 
 pub returns : goal.returns
 returns c =
-    let start = c.before.before in
-    full_length start.args.self.letters start.args.self.count (search rules) c.if-self-lt-MOST.false
+    full_length c.args.self.letters c.args.self.count (search rules) c.if-self-lt-MOST.false

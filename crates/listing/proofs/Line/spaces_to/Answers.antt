@@ -1,5 +1,4 @@
 -- `Line::spaces_to` meets its contract.
-use borrow.Author.Tests.{ltb-false}
 use lib.ListN.{length}
 use Prim.Native.Nat.{◌+◌, ◌-◌}
 use native.Mathlib.Omega.{arith}
@@ -29,17 +28,15 @@ pub returns-else-at-lt-MOST : goal.returns-else-at-lt-MOST
 returns-else-at-lt-MOST c =
     let loop = c.loop-at in
     let counted = c.length-at in
-    let start = c.before.before.before.before in
-    full_of_spaces (loop.at - counted.result) (start.args.column - length (content_of start.args.self))
-    (omega (arith, counted.ensures, ltb-false loop.at 128 c.if-at-lt-MOST.false-raw))
-    (omega (arith, counted.ensures, ltb-false loop.at 128 c.if-at-lt-MOST.false-raw))
+    full_of_spaces (loop.at - counted.result) (c.args.column - length (content_of c.args.self))
+    (omega (arith, counted.ensures, c.if-at-lt-MOST.false))
+    (omega (arith, counted.ensures, c.if-at-lt-MOST.false))
     loop.invariant.0
 
 pub returns-after-loop-at : goal.returns-after-loop-at
 returns-after-loop-at c =
     let loop = c.loop-at in
     let counted = c.length-at in
-    let start = c.before.before.before in
-    let same : start.args.column - length (content_of start.args.self) ≡ loop.at - counted.result =
+    let same : c.args.column - length (content_of c.args.self) ≡ loop.at - counted.result =
     omega (arith, counted.ensures) in
     rw same loop.invariant.0

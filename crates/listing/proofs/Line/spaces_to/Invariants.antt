@@ -4,7 +4,10 @@ use Rattle.listing.specs.Pieces.{Adds, spaces}
 use Rattle.listing.proofs.Line.spaces_to.Given as goal
 
 abbrev pub invariant-loop-at : goal.invariant-loop-at
-invariant-loop-at l = Adds (spaces (l.at - l.line)) l.initial.line l.initial.at × (l.line ≤ l.at) × (l.at - l.line ≤ l.column - l.line)
+invariant-loop-at l =
+    Adds (spaces (l.at - l.initial.at)) l.initial.line l.line
+    × (l.initial.at ≤ l.at)
+    × (l.at - l.initial.at ≤ l.column - l.initial.at)
 
 abbrev pub decreases-loop-at : goal.decreases-loop-at
 decreases-loop-at l = l.column - l.at

@@ -9,21 +9,15 @@ returns-in_default c = rw c.in_default.is (unchanged c.args.line (search rules))
 
 pub returns-in_default-flow_of : goal.returns-in_default-flow_of
 returns-in_default-flow_of c =
-    let at-flow-of = c.before in
-    let known = at-flow-of.before.before in
-    let start = known.before.before.before in
-    let none = no_call start.args.certificate.now at-flow-of.flow_of.result c.in_default-flow_of.in_default-flow_of-own.keys2 in
-    rw (known.in-Valid.is, ← at-flow-of.flow_of.ensures, none) (unchanged start.args.line (search rules))
+    let none = no_call c.args.certificate.now c.flow_of.result c.in_default-flow_of.not-Call in
+    rw (c.in-Valid.is, ← c.flow_of.ensures, none) (unchanged c.args.line (search rules))
 
 pub returns : goal.returns
 returns c =
-    let at-need = c.before.before.before in
-    let at_Target = at-need.before.before in
-    let at-flow-of = at_Target.before.before in
     rw (
-      at-flow-of.in-Valid.is,
-      ← at-flow-of.flow_of.ensures,
-      at_Target.in-Call.is,
-      ← at-need.need_at-need.ensures,
+      c.in-Valid.is,
+      ← c.flow_of.ensures,
+      c.in-Call.is,
+      ← c.need_at-need.ensures,
     )
     (both c.word.ensures c.decimal.ensures)

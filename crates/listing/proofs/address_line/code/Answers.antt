@@ -6,6 +6,5 @@ use Rattle.listing.proofs.address_line.code.Goals as goal
 pub returns : goal.returns
 unfolding code_text
 returns c =
-    let at-rom-text = c.before.before in
-    rw (← at-rom-text.rom_in.ensures)
-    (both at-rom-text.rom_text-opcode.ensures (both c.operand_text-first.ensures c.operand_text.ensures))
+    rw (← c.rom_in.ensures)
+    (both c.rom_text-opcode.ensures (both c.operand_text-first.ensures c.operand_text.ensures))

@@ -6,6 +6,5 @@ use Rattle.listing.proofs.address_line.mark_text.Goals as goal
 pub returns : goal.returns
 unfolding mark_text
 returns c =
-    let at_byte = c.before.before.before.before in
-    let byte = both at_byte.byte.ensures c.word.ensures in
-    rw (← at_byte.mark_at-mark.ensures) (both (both byte c.kind_name-named.ensures) c.need_text.ensures)
+    let byte = both c.byte.ensures c.word.ensures in
+    rw (← c.mark_at-mark.ensures) (both (both byte c.kind_name-named.ensures) c.need_text.ensures)

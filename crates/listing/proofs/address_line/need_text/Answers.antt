@@ -14,7 +14,5 @@ returns-then-kind_of-eq0 c =
 pub returns : goal.returns
 unfolding need_text
 returns c =
-    let at-need-of = c.before.before.before.before in
-    let tested = at-need-of.before in
-    rw (← tested.kind_of.ensures, ne_eqb _ _ tested.if-kind_of-eq0.false, ← at-need-of.need_of-need.ensures)
+    rw (← c.kind_of.ensures, ne_eqb _ _ c.if-kind_of-eq0.false, ← c.need_of-need.ensures)
     (both (both c.word.ensures c.decimal-needs.ensures) c.call_text.ensures)

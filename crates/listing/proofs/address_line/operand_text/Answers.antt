@@ -12,7 +12,6 @@ returns-then-length-offset c = rw (le-leb _ _ c.if-length-offset.true) (unchange
 pub returns : goal.returns
 unfolding operand_byte_text
 returns c =
-    let at-letter = c.before.before.before in
-    let more = lt-leb _ _ at-letter.if-length-offset.false in
+    let more = lt-leb _ _ c.if-length-offset.false in
     rw (more, ← c.forward.ensures, ← c.rom_in.ensures)
-    (both at-letter.letter.ensures c.rom_text.ensures)
+    (both c.letter.ensures c.rom_text.ensures)

@@ -4,19 +4,14 @@ use Rattle.listing.proofs.address_line.refusal_text.Goals as goal
 
 pub returns-in-Plain : goal.returns-in-Plain
 returns-in-Plain c =
-    let told = c.before.before in
-    rw (← told.before.before.number_of_lem.ensures, told.in-Plain.is) c.word.ensures
+    rw (← c.number_of.ensures, c.in-Plain.is) c.word.ensures
 
 pub returns-then-number-eq5 : goal.returns-then-number-eq5
 returns-then-number-eq5 c =
-    let tested = c.before.before in
-    let known = tested.before.before in
-    rw (← known.before.before.number_of_lem.ensures, known.in-Located.is, eq-eqb _ _ tested.if-number-eq5.true)
+    rw (← c.number_of.ensures, c.in-Located.is, eq-eqb _ _ c.if-number-eq5.true)
     c.word-then-number-eq5.ensures
 
 pub returns-else-number-eq5 : goal.returns-else-number-eq5
 returns-else-number-eq5 c =
-    let tested = c.before.before in
-    let known = tested.before.before in
-    rw (← known.before.before.number_of_lem.ensures, known.in-Located.is, ne_eqb _ _ tested.if-number-eq5.false)
+    rw (← c.number_of.ensures, c.in-Located.is, ne_eqb _ _ c.if-number-eq5.false)
     c.word-else-number-eq5.ensures

@@ -11,38 +11,34 @@ use Rattle.listing.proofs.instruction.instruction.Goals as goal
 pub returns-in-Jrnz : goal.returns-in-Jrnz
 unfolding instruction_text
 returns-in-Jrnz c =
-    let jump = c.i-1.given in
-    let fits : SFits w8 jump.0.0 = search rules in
+    let fits : SFits w8 c.in-Jrnz.e = search rules in
     let at = c.args.at in
     let target = c.short_target.ensures ∙ ap (short_target at) (kept fits) in
-    rw jump.1 (rw target at c.jump.ensures)
+    rw c.in-Jrnz.is (rw target at c.jump.ensures)
 
 pub returns-in-Jrnc : goal.returns-in-Jrnc
 unfolding instruction_text
 returns-in-Jrnc c =
-    let jump = c.i-in-Jrnc-1.given in
-    let fits : SFits w8 jump.0.0 = search rules in
+    let fits : SFits w8 c.in-Jrnc.e = search rules in
     let at = c.args.at in
     let target = c.short_target-in-Jrnc.ensures ∙ ap (short_target at) (kept fits) in
-    rw jump.1 (rw target at c.jump-in-Jrnc.ensures)
+    rw c.in-Jrnc.is (rw target at c.jump-in-Jrnc.ensures)
 
 pub returns-in-Jrz : goal.returns-in-Jrz
 unfolding instruction_text
 returns-in-Jrz c =
-    let jump = c.i-in-Jrz-1.given in
-    let fits : SFits w8 jump.0.0 = search rules in
+    let fits : SFits w8 c.in-Jrz.e = search rules in
     let at = c.args.at in
     let target = c.short_target-in-Jrz.ensures ∙ ap (short_target at) (kept fits) in
-    rw jump.1 (rw target at c.jump-in-Jrz.ensures)
+    rw c.in-Jrz.is (rw target at c.jump-in-Jrz.ensures)
 
 pub returns-in-Jrc : goal.returns-in-Jrc
 unfolding instruction_text
 returns-in-Jrc c =
-    let jump = c.i-in-Jrc-1.given in
-    let fits : SFits w8 jump.0.0 = search rules in
+    let fits : SFits w8 c.in-Jrc.e = search rules in
     let at = c.args.at in
     let target = c.short_target-in-Jrc.ensures ∙ ap (short_target at) (kept fits) in
-    rw jump.1 (rw target at c.jump-in-Jrc.ensures)
+    rw c.in-Jrc.is (rw target at c.jump-in-Jrc.ensures)
 
 pub returns-in-Call : goal.returns-in-Call
 unfolding instruction_text
@@ -55,20 +51,18 @@ returns-in-Jp c = rw c.in-Jp.is c.jump-in-Jp.ensures
 pub returns-in-Jrr : goal.returns-in-Jrr
 unfolding instruction_text
 returns-in-Jrr c =
-    let jump = c.i-in-Jrr-1.given in
-    let fits : SFits w8 jump.0.1.1.0 = search rules in
+    let fits : SFits w8 c.in-Jrr.e = search rules in
     let at = c.args.at in
     let target = c.long_target.ensures ∙ ap (long_target at) (kept fits) in
-    rw jump.1 (rw target at c.bit_jump.ensures)
+    rw c.in-Jrr.is (rw target at c.bit_jump.ensures)
 
 pub returns-in-Jrs : goal.returns-in-Jrs
 unfolding instruction_text
 returns-in-Jrs c =
-    let jump = c.i-in-Jrs-1.given in
-    let fits : SFits w8 jump.0.1.1.0 = search rules in
+    let fits : SFits w8 c.in-Jrs.e = search rules in
     let at = c.args.at in
     let target = c.long_target-in-Jrs.ensures ∙ ap (long_target at) (kept fits) in
-    rw jump.1 (rw target at c.bit_jump-in-Jrs.ensures)
+    rw c.in-Jrs.is (rw target at c.bit_jump-in-Jrs.ensures)
 
 pub returns-in-Res : goal.returns-in-Res
 unfolding instruction_text

@@ -4,6 +4,5 @@ use Rattle.listing.proofs.instruction.on_bit.Goals as goal
 
 pub returns : goal.returns
 returns c =
-    let at-decimal = c.before.before in
-    both at-decimal.word.ensures
-    (both at-decimal.decimal-numbered.ensures (both c.letter.ensures c.data.ensures))
+    both c.word.ensures
+    (both c.decimal-numbered.ensures (both c.letter.ensures c.data.ensures))

@@ -8,6 +8,5 @@ use Rattle.listing.proofs.instruction.register_letter.Goals as goal
 
 pub returns-in_default : goal.returns-in_default
 returns-in_default c =
-    let other = c.in_default.in_default-own.rest in
-    let past : 3 ≤ c.args.register = omega (arith, other.0.0.1, other.0.1, other.1) in
+    let past : 3 ≤ c.args.register = omega arith in
     sym (get_or-eq_default (ascii "XYV") 0x57 past)

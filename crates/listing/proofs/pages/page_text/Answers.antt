@@ -14,18 +14,15 @@ returns-then-pages-le1 c =
 pub returns-then-address-ge2048 : goal.returns-then-address-ge2048
 unfolding page_text
 returns-then-address-ge2048 c =
-    let at-choices = c.before.before in
-    rw (← at-choices.choices_in-pages.ensures, lt-leb _ _ c.if-pages-le1.false, le-leb _ _ c.if-address-ge2048.true)
-    (unchanged at-choices.args.line (search rules))
+    rw (← c.choices_in-pages.ensures, lt-leb _ _ c.if-pages-le1.false, le-leb _ _ c.if-address-ge2048.true)
+    (unchanged c.args.line (search rules))
 
 pub returns : goal.returns
 unfolding page_text
 returns c =
-    let at-if2 = c.before.before in
-    let at-if1 = at-if2.before in
     rw (
-      ← at-if1.choices_in-pages.ensures,
-      lt-leb _ _ at-if1.if-pages-le1.false,
-      lt-leb _ _ at-if2.if-address-ge2048.false,
+      ← c.choices_in-pages.ensures,
+      lt-leb _ _ c.if-pages-le1.false,
+      lt-leb _ _ c.if-address-ge2048.false,
     )
     (both c.decimal.ensures c.letter.ensures)

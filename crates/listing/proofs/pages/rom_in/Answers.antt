@@ -19,12 +19,10 @@ returns-then-address-ge4096 c = sym (no_rom c.args.image.now c.args.bank c.args.
 pub returns : goal.returns
 unfolding rom_in space_of
 returns c =
-    let at-if1 = c.before.before.before.before in
-    let test = at-if1.is_image_length in
-    let start = at-if1.before.before.before in
-    let is = sym test.ensures ∙ at-if1.if-not-is_image_length.false in
+    let test = c.is_image_length in
+    let is = sym test.ensures ∙ c.if-not-is_image_length.false in
     let page = c.page_of in
     let fixed = c.fixed_of in
     let parts : Halves page.result.now fixed.result.now =
-    rw (page.ensures, fixed.ensures) (halves start.args.image.now start.args.bank is) in
+    rw (page.ensures, fixed.ensures) (halves c.args.image.now c.args.bank is) in
     rw (is, ← page.ensures, ← fixed.ensures) (c.rom_byte.ensures parts (search rules))

@@ -3,7 +3,7 @@ use Prim.Native.Nat.{◌<◌, ◌≤◌}
 use native.Mathlib.Omega.{arith}
 use mathlib.Core.Path.{◌≡◌, sym}
 use lib.ListN.{length, take}
-use lib.Seq.{length-take-le, take-length}
+use lib.Seq.{length-take-le}
 use borrow.Author.Tests.{le-leb, lt-leb}
 use Rattle.listing.specs.Pieces.{content_of}
 use Rattle.listing.proofs.LineLaws.{content_within, content_prefix}
@@ -11,43 +11,40 @@ use Rattle.listing.proofs.write.write.Goals as goal
 
 pub returns-then-buffer-count : goal.returns-then-buffer-count
 returns-then-buffer-count c =
-    let start = c.before.before.before.before in
-    let short : length start.args.buffer.now < length (content_of start.args.line) =
+    let short : length c.args.buffer.now < length (content_of c.args.line) =
     omega (arith, c.length-count.ensures, c.if-buffer-count.true) in
     record { answer = rw (lt-leb _ _ short); buffer = rw (lt-leb _ _ short) }
 
 pub slice_bounds-letters-end : goal.slice_bounds-letters-end
 slice_bounds-letters-end c =
     let line = c.args.line in
-    omega (arith, c.length-count.ensures, content_within line.letters-1 line.count)
+    omega (arith, c.length-count.ensures, content_within line.letters line.count)
 
 pub slice_bounds-copy-end : goal.slice_bounds-copy-end
 slice_bounds-copy-end c =
     let line = c.args.line in
     let counted = c.length-count in
-    sym (length-take-le counted.result line.letters-1
-    (omega (arith, counted.ensures, content_within line.letters-1 line.count)))
+    sym (length-take-le counted.result line.letters
+    (omega (arith, counted.ensures, content_within line.letters line.count)))
 
 pub copy-requires : goal.copy-requires
 copy-requires c =
     let counted = c.length-count in
     let line = c.args.line in
-    let size = length-take-le counted.result line.letters-1
-    (omega (arith, counted.ensures, content_within line.letters-1 line.count)) in
+    let size = length-take-le counted.result line.letters
+    (omega (arith, counted.ensures, content_within line.letters line.count)) in
     omega (arith, size, c.if-buffer-count.false)
 
 pub returns : goal.returns
 returns c =
-    let tested = c.before.before.before.before.before in
-    let counted = tested.length-count in
-    let start = tested.before.before.before.before in
-    let line = start.args.line in
+    let counted = c.length-count in
+    let line = c.args.line in
     let content = content_of line in
-    let fits : length content ≤ length start.args.buffer.now =
-    omega (arith, counted.ensures, tested.if-buffer-count.false) in
-    let part : take counted.result line.letters-1 ≡ content =
-    rw counted.ensures (content_prefix line.letters-1 line.count) in
+    let fits : length content ≤ length c.args.buffer.now =
+    omega (arith, counted.ensures, c.if-buffer-count.false) in
+    let part : take counted.result line.letters ≡ content =
+    rw counted.ensures (content_prefix line.letters line.count) in
     record {
       answer = rw (le-leb _ _ fits, counted.ensures);
-      buffer = rw (le-leb _ _ fits) (rw (part, take-length content) at c.copy.ensures.1);
+      buffer = rw (le-leb _ _ fits) (rw part at c.copy.ensures.copied);
     }

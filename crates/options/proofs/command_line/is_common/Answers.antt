@@ -15,30 +15,25 @@ returns-then-place-eq-FILL c = rw (ne_eqb _ _ c.if-place-eq-ROM.false, eq-eqb _ 
 pub returns-then-place-eq-RAW : goal.returns-then-place-eq-RAW
 unfolding common_options
 returns-then-place-eq-RAW c =
-    let at-if2 = c.before in
-    rw (ne_eqb _ _ at-if2.if-place-eq-ROM.false, ne_eqb _ _ at-if2.if-place-eq-FILL.false, eq-eqb _ _ c.if-place-eq-RAW.true)
+    rw (ne_eqb _ _ c.if-place-eq-ROM.false, ne_eqb _ _ c.if-place-eq-FILL.false, eq-eqb _ _ c.if-place-eq-RAW.true)
 
 pub returns-then-place-eq-QUIET : goal.returns-then-place-eq-QUIET
 unfolding common_options
 returns-then-place-eq-QUIET c =
-    let at-if3 = c.before in
-    let at-if2 = at-if3.before in
     rw (
-      ne_eqb _ _ at-if2.if-place-eq-ROM.false,
-      ne_eqb _ _ at-if2.if-place-eq-FILL.false,
-      ne_eqb _ _ at-if3.if-place-eq-RAW.false,
+      ne_eqb _ _ c.if-place-eq-ROM.false,
+      ne_eqb _ _ c.if-place-eq-FILL.false,
+      ne_eqb _ _ c.if-place-eq-RAW.false,
       eq-eqb _ _ c.if-place-eq-QUIET.true,
     )
 
 pub returns-else-place-eq-QUIET : goal.returns-else-place-eq-QUIET
 unfolding common_options
 returns-else-place-eq-QUIET c =
-    let at-if3 = c.before in
-    let at-if2 = at-if3.before in
     rw (
-      ne_eqb _ _ at-if2.if-place-eq-ROM.false,
-      ne_eqb _ _ at-if2.if-place-eq-FILL.false,
-      ne_eqb _ _ at-if3.if-place-eq-RAW.false,
+      ne_eqb _ _ c.if-place-eq-ROM.false,
+      ne_eqb _ _ c.if-place-eq-FILL.false,
+      ne_eqb _ _ c.if-place-eq-RAW.false,
       ne_eqb _ _ c.if-place-eq-QUIET.false,
       or_false,
     )

@@ -10,11 +10,9 @@ returns-then-places-ne0 c = rw (ne_eqb _ _ c.if-places-ne0.true)
 pub returns-then-places-ne0-2 : goal.returns-then-places-ne0-2
 unfolding lack_of
 returns-then-places-ne0-2 c =
-    let at-if2 = c.before in
-    rw (eq-eqb _ _ at-if2.if-places-ne0.false, ne_eqb _ _ at-if2.if-places-ne0-2.true)
+    rw (eq-eqb _ _ c.if-places-ne0.false, ne_eqb _ _ c.if-places-ne0-2.true)
 
 pub returns : goal.returns
 unfolding lack_of
 returns c =
-    let at-if2 = c.before in
-    rw (eq-eqb _ _ at-if2.if-places-ne0.false, eq-eqb _ _ at-if2.if-places-ne0-2.false) c.needs.ensures
+    rw (eq-eqb _ _ c.if-places-ne0.false, eq-eqb _ _ c.if-places-ne0-2.false) c.needs.ensures

@@ -14,11 +14,9 @@ returns-then-place-eq-REQUEST c = rw (lt-ltb _ _ c.if-place-ge-PLACES.false, eq-
 pub returns-then-places-place-ne0 : goal.returns-then-places-place-ne0
 unfolding noted
 returns-then-places-place-ne0 c =
-    let at-if2 = c.before.before in
-    rw (lt-ltb _ _ at-if2.if-place-ge-PLACES.false, ne_eqb _ _ at-if2.if-place-eq-REQUEST.false, ne_eqb _ _ c.if-places-place-ne0.true)
+    rw (lt-ltb _ _ c.if-place-ge-PLACES.false, ne_eqb _ _ c.if-place-eq-REQUEST.false, ne_eqb _ _ c.if-places-place-ne0.true)
 
 pub returns : goal.returns
 unfolding noted
 returns c =
-    let at-if2 = c.before.before in
-    rw (lt-ltb _ _ at-if2.if-place-ge-PLACES.false, ne_eqb _ _ at-if2.if-place-eq-REQUEST.false, eq-eqb _ _ c.if-places-place-ne0.false)
+    rw (lt-ltb _ _ c.if-place-ge-PLACES.false, ne_eqb _ _ c.if-place-eq-REQUEST.false, eq-eqb _ _ c.if-places-place-ne0.false)

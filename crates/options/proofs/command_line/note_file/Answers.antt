@@ -8,18 +8,12 @@ returns-then-places-eq0 c = rw (eq-eqb _ _ c.if-places-eq0.true)
 
 pub returns-then-places-eq0-2 : goal.returns-then-places-eq0-2
 returns-then-places-eq0-2 c =
-    let told = c.before.before in
-    let at-if1 = told.before.before in
-    rw (told.in-Play.is, ne_eqb _ _ at-if1.if-places-eq0.false, eq-eqb _ _ c.if-places-eq0-2.true)
+    rw (c.in-Play.is, ne_eqb _ _ c.if-places-eq0.false, eq-eqb _ _ c.if-places-eq0-2.true)
 
 pub returns-else-places-eq0-2 : goal.returns-else-places-eq0-2
 returns-else-places-eq0-2 c =
-    let told = c.before.before in
-    let at-if1 = told.before.before in
-    rw (told.in-Play.is, ne_eqb _ _ at-if1.if-places-eq0.false, ne_eqb _ _ c.if-places-eq0-2.false)
+    rw (c.in-Play.is, ne_eqb _ _ c.if-places-eq0.false, ne_eqb _ _ c.if-places-eq0-2.false)
 
 pub returns-in_default : goal.returns-in_default
 returns-in_default c =
-    let at-if1 = c.before in
-    let start = at-if1.before.before in
-    rw (no_files_lem start.args.command c.in_default.in_default-own.keys2, ne_eqb _ _ at-if1.if-places-eq0.false)
+    rw (no_files_lem c.args.command c.in_default.not-Play, ne_eqb _ _ c.if-places-eq0.false)

@@ -11,14 +11,11 @@ returns-then-not-takes c =
 pub returns-then-has_value : goal.returns-then-has_value
 unfolding noted_option
 returns-then-has_value c =
-    let at-if1 = c.before in
-    let asked = at-if1.takes in
-    rw (← asked.ensures, at-if1.if-not-takes.false, c.if-has_value.true)
+    let asked = c.takes in
+    rw (← asked.ensures, c.if-not-takes.false, c.if-has_value.true)
 
 pub returns : goal.returns
 unfolding noted_option
 returns c =
-    let at-if2 = c.before.before in
-    let at-if1 = at-if2.before in
-    let asked = at-if1.takes in
-    rw (← asked.ensures, at-if1.if-not-takes.false, at-if2.if-has_value.false) c.note.ensures
+    let asked = c.takes in
+    rw (← asked.ensures, c.if-not-takes.false, c.if-has_value.false) c.note.ensures

@@ -10,37 +10,30 @@ returns-then-awaited-ne0 c = rw (ne_eqb _ _ c.if-awaited-ne0.true) c.note.ensure
 pub returns-in-Flag : goal.returns-in-Flag
 unfolding after_word
 returns-in-Flag c =
-    let known = c.before.before.before in
-    let at-word-of = known.before.before in
     rw (
-      eq-eqb _ _ at-word-of.if-awaited-ne0.false,
-      ← at-word-of.word_of.ensures,
-      known.in-Flag.is,
+      eq-eqb _ _ c.if-awaited-ne0.false,
+      ← c.word_of.ensures,
+      c.in-Flag.is,
     )
     c.note_option.ensures
 
 pub returns-in-Valued : goal.returns-in-Valued
 unfolding after_word
 returns-in-Valued c =
-    let known = c.before.before.before in
-    let at-word-of = known.before.before in
     rw (
-      eq-eqb _ _ at-word-of.if-awaited-ne0.false,
-      ← at-word-of.word_of.ensures,
-      known.in-Valued.is,
+      eq-eqb _ _ c.if-awaited-ne0.false,
+      ← c.word_of.ensures,
+      c.in-Valued.is,
     )
     c.note_option-in-Valued.ensures
 
 pub returns-in-Unknown : goal.returns-in-Unknown
 unfolding after_word
 returns-in-Unknown c =
-    let at-word-of = c.before.before in
-    rw (eq-eqb _ _ at-word-of.if-awaited-ne0.false, ← at-word-of.word_of.ensures, c.in-Unknown.is)
+    rw (eq-eqb _ _ c.if-awaited-ne0.false, ← c.word_of.ensures, c.in-Unknown.is)
 
 pub returns-in-File : goal.returns-in-File
 unfolding after_word
 returns-in-File c =
-    let told = c.before.before in
-    let at-word-of = told.before.before in
-    rw (eq-eqb _ _ at-word-of.if-awaited-ne0.false, ← at-word-of.word_of.ensures, told.in-File.is)
+    rw (eq-eqb _ _ c.if-awaited-ne0.false, ← c.word_of.ensures, c.in-File.is)
     c.note_file.ensures

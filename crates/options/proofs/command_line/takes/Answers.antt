@@ -12,10 +12,9 @@ returns-then-is_common c = rw (← c.is_common.ensures, c.if-is_common.true)
 pub returns-then-place-eq-WIRED : goal.returns-then-place-eq-WIRED
 unfolding has_option
 returns-then-place-eq-WIRED c =
-    let at-if1 = c.before.before.before in
     rw (
-      ← at-if1.is_common.ensures,
-      at-if1.if-is_common.false,
+      ← c.is_common.ensures,
+      c.if-is_common.false,
       c.in-Check.is,
       eq-eqb _ _ c.if-place-eq-WIRED.true,
     )
@@ -23,10 +22,9 @@ returns-then-place-eq-WIRED c =
 pub returns-else-place-eq-WIRED : goal.returns-else-place-eq-WIRED
 unfolding has_option
 returns-else-place-eq-WIRED c =
-    let at-if1 = c.before.before.before in
     rw (
-      ← at-if1.is_common.ensures,
-      at-if1.if-is_common.false,
+      ← c.is_common.ensures,
+      c.if-is_common.false,
       c.in-Check.is,
       ne_eqb _ _ c.if-place-eq-WIRED.false,
       or_false,
@@ -35,10 +33,9 @@ returns-else-place-eq-WIRED c =
 pub returns-then-place-eq-WIRED-2 : goal.returns-then-place-eq-WIRED-2
 unfolding has_option
 returns-then-place-eq-WIRED-2 c =
-    let at-if1 = c.before.before.before in
     rw (
-      ← at-if1.is_common.ensures,
-      at-if1.if-is_common.false,
+      ← c.is_common.ensures,
+      c.if-is_common.false,
       c.in-Certify.is,
       eq-eqb _ _ c.if-place-eq-WIRED-2.true,
     )
@@ -46,10 +43,9 @@ returns-then-place-eq-WIRED-2 c =
 pub returns-else-place-eq-WIRED-2 : goal.returns-else-place-eq-WIRED-2
 unfolding has_option
 returns-else-place-eq-WIRED-2 c =
-    let at-if1 = c.before.before.before in
     rw (
-      ← at-if1.is_common.ensures,
-      at-if1.if-is_common.false,
+      ← c.is_common.ensures,
+      c.if-is_common.false,
       c.in-Certify.is,
       ne_eqb _ _ c.if-place-eq-WIRED-2.false,
       or_false,
@@ -58,10 +54,9 @@ returns-else-place-eq-WIRED-2 c =
 pub returns-then-place-eq-WIRED-3 : goal.returns-then-place-eq-WIRED-3
 unfolding has_option
 returns-then-place-eq-WIRED-3 c =
-    let at-if1 = c.before.before.before in
     rw (
-      ← at-if1.is_common.ensures,
-      at-if1.if-is_common.false,
+      ← c.is_common.ensures,
+      c.if-is_common.false,
       c.in-List.is,
       eq-eqb _ _ c.if-place-eq-WIRED-3.true,
     )
@@ -69,10 +64,9 @@ returns-then-place-eq-WIRED-3 c =
 pub returns-else-place-eq-WIRED-3 : goal.returns-else-place-eq-WIRED-3
 unfolding has_option
 returns-else-place-eq-WIRED-3 c =
-    let at-if1 = c.before.before.before in
     rw (
-      ← at-if1.is_common.ensures,
-      at-if1.if-is_common.false,
+      ← c.is_common.ensures,
+      c.if-is_common.false,
       c.in-List.is,
       ne_eqb _ _ c.if-place-eq-WIRED-3.false,
       or_false,
@@ -81,10 +75,9 @@ returns-else-place-eq-WIRED-3 c =
 pub returns-then-place-eq-STEPS : goal.returns-then-place-eq-STEPS
 unfolding has_option
 returns-then-place-eq-STEPS c =
-    let at-if1 = c.before.before.before in
     rw (
-      ← at-if1.is_common.ensures,
-      at-if1.if-is_common.false,
+      ← c.is_common.ensures,
+      c.if-is_common.false,
       c.in-Trace.is,
       eq-eqb _ _ c.if-place-eq-STEPS.true,
     )
@@ -92,10 +85,9 @@ returns-then-place-eq-STEPS c =
 pub returns-else-place-eq-STEPS : goal.returns-else-place-eq-STEPS
 unfolding has_option
 returns-else-place-eq-STEPS c =
-    let at-if1 = c.before.before.before in
     rw (
-      ← at-if1.is_common.ensures,
-      at-if1.if-is_common.false,
+      ← c.is_common.ensures,
+      c.if-is_common.false,
       c.in-Trace.is,
       ne_eqb _ _ c.if-place-eq-STEPS.false,
       or_false,
@@ -104,10 +96,9 @@ returns-else-place-eq-STEPS c =
 pub returns-then-place-eq-MARKS : goal.returns-then-place-eq-MARKS
 unfolding has_option
 returns-then-place-eq-MARKS c =
-    let at-if1 = c.before.before.before in
     rw (
-      ← at-if1.is_common.ensures,
-      at-if1.if-is_common.false,
+      ← c.is_common.ensures,
+      c.if-is_common.false,
       c.in-Size.is,
       eq-eqb _ _ c.if-place-eq-MARKS.true,
     )
@@ -115,10 +106,9 @@ returns-then-place-eq-MARKS c =
 pub returns-else-place-eq-MARKS : goal.returns-else-place-eq-MARKS
 unfolding has_option
 returns-else-place-eq-MARKS c =
-    let at-if1 = c.before.before.before in
     rw (
-      ← at-if1.is_common.ensures,
-      at-if1.if-is_common.false,
+      ← c.is_common.ensures,
+      c.if-is_common.false,
       c.in-Size.is,
       ne_eqb _ _ c.if-place-eq-MARKS.false,
       or_false,
@@ -127,6 +117,5 @@ returns-else-place-eq-MARKS c =
 pub returns-in_default : goal.returns-in_default
 unfolding has_option
 returns-in_default c =
-    let at-if1 = c.before in
-    let args = at-if1.args in
-    rw (← at-if1.is_common.ensures, at-if1.if-is_common.false, no_options_lem args.command c.in_default.in_default-own.keys6)
+    let args = c.args in
+    rw (← c.is_common.ensures, c.if-is_common.false, no_options_lem args.command c.in_default.not-Check c.in_default.not-Certify c.in_default.not-List c.in_default.not-Trace c.in_default.not-Size)

@@ -11,17 +11,15 @@ returns-then-is c =
 pub returns-then-is-2 : goal.returns-then-is-2
 unfolding size_named
 returns-then-is-2 c =
-    let at-if1 = c.before.before.before in
     rw (
-      sym at-if1.is.ensures ∙ at-if1.if-is.false,
+      sym c.is.ensures ∙ c.if-is.false,
       sym c.is-2.ensures ∙ c.if-is-2.true,
     )
 
 pub returns : goal.returns
 unfolding size_named
 returns c =
-    let at-if1 = c.before.before.before in
     rw (
-      sym at-if1.is.ensures ∙ at-if1.if-is.false,
+      sym c.is.ensures ∙ c.if-is.false,
       sym c.is-2.ensures ∙ c.if-is-2.false,
     )

@@ -10,14 +10,12 @@ returns-then-lowest-ge-PROGRAM_SPACE c = rw (c.in-Read.is, le-leb _ _ c.if-lowes
 pub returns-then-lowest-ge-HALF_SPACE : goal.returns-then-lowest-ge-HALF_SPACE
 unfolding sized_for
 returns-then-lowest-ge-HALF_SPACE c =
-    let at-if1 = c.before in
-    rw (at-if1.in-Read.is, lt-leb _ _ at-if1.if-lowest-ge-PROGRAM_SPACE.false, le-leb _ _ c.if-lowest-ge-HALF_SPACE.true)
+    rw (c.in-Read.is, lt-leb _ _ c.if-lowest-ge-PROGRAM_SPACE.false, le-leb _ _ c.if-lowest-ge-HALF_SPACE.true)
 
 pub returns-else-lowest-ge-HALF_SPACE : goal.returns-else-lowest-ge-HALF_SPACE
 unfolding sized_for
 returns-else-lowest-ge-HALF_SPACE c =
-    let at-if1 = c.before in
-    rw (at-if1.in-Read.is, lt-leb _ _ at-if1.if-lowest-ge-PROGRAM_SPACE.false, lt-leb _ _ c.if-lowest-ge-HALF_SPACE.false)
+    rw (c.in-Read.is, lt-leb _ _ c.if-lowest-ge-PROGRAM_SPACE.false, lt-leb _ _ c.if-lowest-ge-HALF_SPACE.false)
 
 pub returns-in-Refused : goal.returns-in-Refused
 returns-in-Refused c = rw c.in-Refused.is

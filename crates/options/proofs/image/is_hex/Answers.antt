@@ -10,8 +10,7 @@ returns-then-raw c = rw c.if-raw.true
 
 pub returns-then-file-eq0 : goal.returns-then-file-eq0
 returns-then-file-eq0 c =
-    let at-if1 = c.before in
-    rw at-if1.if-raw.false (sym (nothing_is_hex at-if1.args.file.now c.if-file-eq0.true))
+    rw c.if-raw.false (sym (nothing_is_hex c.args.file.now c.if-file-eq0.true))
 
 pub returns : goal.returns
 unfolding is_hex

@@ -22,47 +22,39 @@ size_of-rom-requires c =
 pub returns-then-not-may_be : goal.returns-then-not-may_be
 unfolding raw_got
 returns-then-not-may_be c =
-    let at_size = c.before.before in
     let asked = c.may_be in
-    let test = at_size.is_image_length in
+    let test = c.is_image_length in
     rw (
       ← test.ensures,
-      at_size.if-not-is_image_length.false,
-      ← at_size.size_of-rom.ensures,
+      c.if-not-is_image_length.false,
+      ← c.size_of-rom.ensures,
       ← asked.ensures,
       c.if-not-may_be.true,
     )
 
 pub copy-requires : goal.copy-requires
 copy-requires c =
-    let at-if1 = c.before.before.before.before in
-    let test = at-if1.is_image_length in
-    let is = sym test.ensures ∙ at-if1.if-not-is_image_length.false in
-    let start = at-if1.before.before.before.before in
-    part_room start.args.space.now start.requires (length start.args.file.now)
-    (sized (length start.args.file.now) is).most
+    let test = c.is_image_length in
+    let is = sym test.ensures ∙ c.if-not-is_image_length.false in
+    part_room c.args.space.now c.requires (length c.args.file.now)
+    (sized (length c.args.file.now) is).most
 
 pub returns : goal.returns
 unfolding raw_got
 returns c =
-    let at_copy = c.before.before in
-    let at-if2 = at_copy.before.before in
-    let asked = at-if2.may_be in
-    let at_size = at-if2.before.before in
-    let at-if1 = at_size.before in
-    let test = at-if1.is_image_length in
-    let is = sym test.ensures ∙ at-if1.if-not-is_image_length.false in
-    let start = at-if1.before.before.before.before in
-    let args = start.args in
+    let asked = c.may_be in
+    let test = c.is_image_length in
+    let is = sym test.ensures ∙ c.if-not-is_image_length.false in
+    let args = c.args in
     let most = (sized (length args.file.now) is).most in
     let filled =
-    part_filled args.space-1.now (20480 - length args.file.now) (omega (arith, start.requires)) args.file.now _
-    (omega (arith, start.requires)) at_copy.copy.ensures.1 in
+    part_filled args.space.now (20480 - length args.file.now) (omega (arith, c.requires)) args.file.now _
+    (omega (arith, c.requires)) c.copy.ensures.copied in
     rw (
       ← test.ensures,
-      at-if1.if-not-is_image_length.false,
-      ← at_size.size_of-rom.ensures,
+      c.if-not-is_image_length.false,
+      ← c.size_of-rom.ensures,
       ← asked.ensures,
-      at-if2.if-not-may_be.false,
+      c.if-not-may_be.false,
       filled,
     )

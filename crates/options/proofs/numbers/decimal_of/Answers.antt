@@ -14,52 +14,38 @@ loop-i-init c = (omega arith, omega arith, refl)
 
 pub returns-then-letter-lt48 : goal.returns-then-letter-lt48
 returns-then-letter-lt48 c =
-    let in-loop = c.before.before in
-    let at-loop = in-loop.before in
-    let at-if1 = at-loop.before in
-    let text = at-if1.args.text.now in
-    let loop = at-loop.loop-i in
-    let wrong = below_digits text loop.i in-loop.loop-i-test.true loop.value c.if-letter-lt48.true in
-    sym (some_text text at-if1.if-text-eq0.false ∙ sym loop.invariant.2 ∙ wrong)
+    let text = c.args.text.now in
+    let loop = c.loop-i in
+    let wrong = below_digits text loop.i c.loop-i-test.true loop.value c.if-letter-lt48.true in
+    sym (some_text text c.if-text-eq0.false ∙ sym loop.invariant.2 ∙ wrong)
 
 pub returns-then-letter-gt57 : goal.returns-then-letter-gt57
 returns-then-letter-gt57 c =
-    let in-loop = c.before.before.before in
-    let at-loop = in-loop.before in
-    let at-if1 = at-loop.before in
-    let text = at-if1.args.text.now in
-    let loop = at-loop.loop-i in
-    let wrong = above_digits text loop.i in-loop.loop-i-test.true loop.value c.if-letter-gt57.true in
-    sym (some_text text at-if1.if-text-eq0.false ∙ sym loop.invariant.2 ∙ wrong)
+    let text = c.args.text.now in
+    let loop = c.loop-i in
+    let wrong = above_digits text loop.i c.loop-i-test.true loop.value c.if-letter-gt57.true in
+    sym (some_text text c.if-text-eq0.false ∙ sym loop.invariant.2 ∙ wrong)
 
 pub returns-then-value-gt65535 : goal.returns-then-value-gt65535
 returns-then-value-gt65535 c =
-    let in-loop = c.before.before.before.before in
-    let at-loop = in-loop.before in
-    let at-if1 = at-loop.before in
-    let text = at-if1.args.text.now in
-    let loop = at-loop.loop-i in
+    let text = c.args.text.now in
+    let loop = c.loop-i in
     let wrong =
-    too_large text loop.i in-loop.loop-i-test.true loop.value c.if-letter-lt48.false
+    too_large text loop.i c.loop-i-test.true loop.value c.if-letter-lt48.false
     c.if-letter-gt57.false c.if-value-gt65535.true in
-    sym (some_text text at-if1.if-text-eq0.false ∙ sym loop.invariant.2 ∙ wrong)
+    sym (some_text text c.if-text-eq0.false ∙ sym loop.invariant.2 ∙ wrong)
 
 pub loop-i-preserved : goal.loop-i-preserved
 loop-i-preserved c =
-    let at-if3 = c.before in
-    let in-loop = at-if3.before.before.before in
-    let at-loop = in-loop.before in
-    let text = at-loop.args.text.now in
-    let loop = at-loop.loop-i in
+    let text = c.args.text.now in
+    let loop = c.loop-i in
     let one =
-    one_more text loop.i in-loop.loop-i-test.true loop.value at-if3.if-letter-lt48.false at-if3.if-letter-gt57.false in
+    one_more text loop.i c.loop-i-test.true loop.value c.if-letter-lt48.false c.if-letter-gt57.false in
     (omega arith, omega arith, one ∙ loop.invariant.2)
 
 pub returns : goal.returns
 returns c =
-    let at-loop = c.before in
-    let at-if1 = at-loop.before in
-    let text = at-if1.args.text.now in
-    let loop = at-loop.loop-i in
+    let text = c.args.text.now in
+    let loop = c.loop-i in
     let all = all_digits text loop.i loop.value (omega arith) loop.invariant.1 in
-    sym (some_text text at-if1.if-text-eq0.false ∙ sym loop.invariant.2 ∙ all)
+    sym (some_text text c.if-text-eq0.false ∙ sym loop.invariant.2 ∙ all)

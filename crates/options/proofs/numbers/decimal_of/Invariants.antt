@@ -7,7 +7,7 @@ use Rattle.options.proofs.numbers.decimal_of.Given as goal
 
 abbrev pub invariant-loop-i : goal.invariant-loop-i
 invariant-loop-i l =
-    (l.i ≤ length l.text) × (l.initial.i ≤ 65535) × (parsed_after l.initial.i (drop l.i l.text) ≡ parsed_after 0 l.text)
+    (l.i ≤ length l.text) × (l.value ≤ 65535) × (parsed_after l.value (drop l.i l.text) ≡ parsed_after 0 l.text)
 
 abbrev pub decreases-loop-i : goal.decreases-loop-i
 decreases-loop-i l = length l.text - l.i

@@ -10,30 +10,21 @@ loop-rest-init c = (omega arith, refl)
 
 pub returns-then-bit-eq0 : goal.returns-then-bit-eq0
 returns-then-bit-eq0 c =
-    let at-bit-of = c.before in
-    let at_before = at-bit-of.before.before in
-    let loop = at_before.loop-rest in
-    let none = no_source loop.byte _ at_before.before-end.result at_before.before-end.ensures.1
-    (sym at-bit-of.bit_of-bit.ensures ∙ c.if-bit-eq0.true) in
+    let loop = c.loop-rest in
+    let none = no_source loop.byte _ c.before-end.result c.before-end.ensures.1
+    (sym c.bit_of-bit.ensures ∙ c.if-bit-eq0.true) in
     sym (sym loop.invariant.1 ∙ none)
 
 pub returns-then-end-rest : goal.returns-then-end-rest
 returns-then-end-rest c =
-    let at-if1 = c.before in
-    let at-bit-of = at-if1.before in
-    let at_before = at-bit-of.before.before in
-    let loop = at_before.loop-rest in
-    let last = last_source loop.byte _ at_before.before-end.result at_before.before-end.ensures.1
-    at-bit-of.bit_of-bit.result at-bit-of.bit_of-bit.ensures at-if1.if-bit-eq0.false c.if-end-rest.true in
+    let loop = c.loop-rest in
+    let last = last_source loop.byte _ c.before-end.result c.before-end.ensures.1
+    c.bit_of-bit.result c.bit_of-bit.ensures c.if-bit-eq0.false c.if-end-rest.true in
     sym (sym loop.invariant.1 ∙ last)
 
 pub loop-rest-preserved : goal.loop-rest-preserved
 loop-rest-preserved c =
-    let at-if2 = c.before in
-    let at-if1 = at-if2.before in
-    let at-bit-of = at-if1.before in
-    let at_before = at-bit-of.before.before in
-    let loop = at_before.loop-rest in
-    let one = one_source loop.byte _ at_before.before-end.result at_before.before-end.ensures.1
-    at-bit-of.bit_of-bit.result at-bit-of.bit_of-bit.ensures at-if1.if-bit-eq0.false (search rules) in
+    let loop = c.loop-rest in
+    let one = one_source loop.byte _ c.before-end.result c.before-end.ensures.1
+    c.bit_of-bit.result c.bit_of-bit.ensures c.if-bit-eq0.false (search rules) in
     (search rules, one ∙ loop.invariant.1)

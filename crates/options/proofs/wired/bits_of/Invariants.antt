@@ -7,7 +7,7 @@ use Rattle.options.proofs.wired.bits_of.Given as goal
 
 abbrev pub invariant-loop-rest : goal.invariant-loop-rest
 invariant-loop-rest l =
-    (length l.initial.byte ≤ length l.names) × (wired_after l.byte (parts_of 44 l.initial.byte) ≡ wired_after 0 (parts_of 44 l.names))
+    (length l.rest ≤ length l.names) × (wired_after l.byte (parts_of 44 l.rest) ≡ wired_after 0 (parts_of 44 l.names))
 
 abbrev pub decreases-loop-rest : goal.decreases-loop-rest
-decreases-loop-rest l = length l.initial.byte
+decreases-loop-rest l = length l.rest

@@ -10,5 +10,4 @@ returns-then-is c = rw (sym c.is.ensures ∙ c.if-is.true)
 pub returns : goal.returns
 unfolding wired_named
 returns c =
-    let at-if1 = c.before in
-    rw (sym at-if1.is.ensures ∙ at-if1.if-is.false) c.bits_of.ensures
+    rw (sym c.is.ensures ∙ c.if-is.false) c.bits_of.ensures

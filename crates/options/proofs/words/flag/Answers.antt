@@ -11,30 +11,25 @@ returns-then-is c =
 pub returns-then-is-2 : goal.returns-then-is-2
 unfolding flag_named
 returns-then-is-2 c =
-    let at-if1 = c.before.before.before in
     rw (
-      sym at-if1.is.ensures ∙ at-if1.if-is.false,
+      sym c.is.ensures ∙ c.if-is.false,
       sym c.is-2.ensures ∙ c.if-is-2.true,
     )
 
 pub returns-then-is-3 : goal.returns-then-is-3
 unfolding flag_named
 returns-then-is-3 c =
-    let at-if2 = c.before.before.before in
-    let at-if1 = at-if2.before.before.before in
     rw (
-      sym at-if1.is.ensures ∙ at-if1.if-is.false,
-      sym at-if2.is-2.ensures ∙ at-if2.if-is-2.false,
+      sym c.is.ensures ∙ c.if-is.false,
+      sym c.is-2.ensures ∙ c.if-is-2.false,
       sym c.is-3.ensures ∙ c.if-is-3.true,
     )
 
 pub returns : goal.returns
 unfolding flag_named
 returns c =
-    let at-if2 = c.before.before.before in
-    let at-if1 = at-if2.before.before.before in
     rw (
-      sym at-if1.is.ensures ∙ at-if1.if-is.false,
-      sym at-if2.is-2.ensures ∙ at-if2.if-is-2.false,
+      sym c.is.ensures ∙ c.if-is.false,
+      sym c.is-2.ensures ∙ c.if-is-2.false,
       sym c.is-3.ensures ∙ c.if-is-3.false,
     )

@@ -15,27 +15,22 @@ loop-i-init c = (omega arith, refl)
 
 pub returns-then-word-i : goal.returns-then-word-i
 returns-then-word-i c =
-    let in-loop = c.before.before.before in
-    let at-loop = in-loop.before in
-    let args = at-loop.args in
+    let args = c.args in
     let other =
-    other_letter args.word.now args.name.now at-loop.loop-i.i in-loop.loop-i-test.true (omega arith)
+    other_letter args.word.now args.name.now c.loop-i.i c.loop-i-test.true (omega arith)
     c.if-word-i.true in
-    sym other ∙ at-loop.loop-i.invariant.1
+    sym other ∙ c.loop-i.invariant.1
 
 pub loop-i-preserved : goal.loop-i-preserved
 loop-i-preserved c =
-    let in-loop = c.before.before.before in
-    let at-loop = in-loop.before in
-    let args = at-loop.args in
+    let args = c.args in
     let one =
-    same_letter args.word.now args.name.now at-loop.loop-i.i in-loop.loop-i-test.true (omega arith)
+    same_letter args.word.now args.name.now c.loop-i.i c.loop-i-test.true (omega arith)
     c.if-word-i.false in
-    (omega arith, one ∙ at-loop.loop-i.invariant.1)
+    (omega arith, one ∙ c.loop-i.invariant.1)
 
 pub returns : goal.returns
 returns c =
-    let at-loop = c.before in
-    let args = at-loop.args in
-    let all = no_letters args.word.now args.name.now at-loop.loop-i.i (omega arith) (omega arith) in
-    sym all ∙ at-loop.loop-i.invariant.1
+    let args = c.args in
+    let all = no_letters args.word.now args.name.now c.loop-i.i (omega arith) (omega arith) in
+    sym all ∙ c.loop-i.invariant.1
