@@ -1,6 +1,4 @@
 -- `print_answer` is safe: a line that was written lies within the buffer.
-use mathlib.Core.Path.{sym}
-use lib.Seq.{length-take-le}
 use Rattle.jobs.proofs.AnswerLaws.{within_buffer}
 use Rattle.job.proofs.print_answer.Goals as goal
 

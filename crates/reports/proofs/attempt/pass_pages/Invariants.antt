@@ -1,11 +1,9 @@
--- `attempt::pass_pages` is safe and ends. The loop goes through the pages.
-use Prim.Native.Nat.{◌-◌, ◌≤◌}
-use mathlib.Core.Path.{◌≡◌}
-use lib.ListN.{length}
+-- `attempt::pass_pages` ends: the loop goes through the pages.
+use Rattle.std.proofs.Common.{◌≤◌, ◌-◌}
 use Rattle.reports.proofs.attempt.pass_pages.Given as goal
 
 abbrev pub invariant-loop-page : goal.invariant-loop-page
-invariant-loop-page l = (l.page ≤ l.fixed) × (length l.changed ≡ length l.initial.certificate)
+invariant-loop-page l = l.page ≤ l.pages
 
 abbrev pub decreases-loop-page : goal.decreases-loop-page
-decreases-loop-page l = l.fixed - l.page
+decreases-loop-page l = l.pages - l.page

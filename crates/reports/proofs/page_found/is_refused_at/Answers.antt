@@ -2,13 +2,7 @@
 use Rattle.reports.proofs.page_found.is_refused_at.Goals as goal
 
 pub returns-in-Plain : goal.returns-in-Plain
-returns-in-Plain c =
-    let number = c.before.before.number_of_lem in
-    let known = c.before.before.before.before in
-    rw (known.in-Refused.is, ← number.ensures, c.in-Plain.is)
+returns-in-Plain c = rw (c.in-Refused.is, ← c.number_of.ensures, c.in-Plain.is)
 
 pub returns-in-Located : goal.returns-in-Located
-returns-in-Located c =
-    let number = c.before.before.before.number_of_lem in
-    let known = c.before.before.before.before.before in
-    rw (known.in-Refused.is, ← number.ensures, c.in-Located.is)
+returns-in-Located c = rw (c.in-Refused.is, ← c.number_of.ensures, c.in-Located.is)

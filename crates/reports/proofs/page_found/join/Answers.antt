@@ -4,9 +4,5 @@ use Rattle.reports.proofs.page_found.join.Goals as goal
 
 pub returns : goal.returns
 returns c =
-    let at_second = c.before.before in
-    let at_first = at_second.before.before.before.before in
-    let start = at_first.before.before.before.before.before in
-    let args = start.args in
-    joined args.page.now args.fixed.now args.space-1.now _ _ start.requires.0 start.requires.1 start.requires.2
-    at_first.copy.ensures.1 at_second.copy-2.ensures.1
+    joined c.args.page.now c.args.fixed.now c.args.space.now _ _ c.requires.0 c.requires.1 c.requires.2
+    c.copy.ensures.1 c.copy-2.ensures.1

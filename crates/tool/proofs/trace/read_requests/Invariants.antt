@@ -1,9 +1,6 @@
--- `trace::read_requests` is safe and ends. The loop goes through the arguments.
-use Prim.Native.Nat.{◌-◌}
+-- `trace::read_requests` ends: the loop goes through the arguments.
+use Rattle.std.proofs.Common.{◌-◌}
 use Rattle.tool.proofs.trace.read_requests.Given as goal
 
-abbrev pub invariant-loop-argument : goal.invariant-loop-argument
-invariant-loop-argument l = Unit {0}
-
 abbrev pub decreases-loop-argument : goal.decreases-loop-argument
-decreases-loop-argument l = l.requests - l.initial.argument
+decreases-loop-argument l = l.count - l.argument
