@@ -5,4 +5,4 @@ use Rattle.reports.proofs.page_found.join.Goals as goal
 pub returns : goal.returns
 returns c =
     joined c.args.page.now c.args.fixed.now c.args.space.now _ _ c.requires.0 c.requires.1 c.requires.2
-    c.copy.ensures.1 c.copy-2.ensures.1
+    c.copy.ensures.copied c.copy-2.ensures.copied
