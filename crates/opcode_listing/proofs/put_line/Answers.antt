@@ -4,6 +4,6 @@ use Rattle.listing.proofs.LineLaws.{content_within}
 use Rattle.opcode_listing.proofs.put_line.Goals as goal
 
 pub slice_bounds-letters-end : goal.slice_bounds-letters-end
-slice_bounds-letters-end c =
+slice_bounds-letters-end g c =
     let line = c.args.line in
     omega (arith, c.length-count.ensures, content_within line.letters line.count)

@@ -3,4 +3,4 @@ use Rattle.jobs.proofs.AnswerLaws.{within_buffer}
 use Rattle.bench_cases.proofs.lines.put_answer.Goals as goal
 
 pub slice_bounds-line-end : goal.slice_bounds-line-end
-slice_bounds-line-end c = within_buffer c.in-Line.is c.answer.ensures
+slice_bounds-line-end g c = within_buffer c.in-Line.is c.answer.ensures
