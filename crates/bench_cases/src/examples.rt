@@ -5,6 +5,7 @@ use machine::state::fresh;
 use machine::step::step;
 use machine::{FlagPairs, Machine};
 use printing::{put, put_byte};
+use std::io;
 
 // A machine in normal mode at an address, with Z, C and data bytes.
 pub fn machine_at(pc: u16, zero: bool, carry: bool, bytes: [u8; 256]) -> Machine {
@@ -74,7 +75,13 @@ fn with_byte(bytes: [u8; 256], address: u8, value: u8) -> [u8; 256] {
 }
 
 // One example. Before: A, X, Y, an address and its byte, C. After: A, the byte, Z, C.
-fn example(what: &[u8], code: [u8; 3], before: [u8; 6], after: [u8; 4]) {
+fn example(
+    rt: &impl Print,
+    what: &[u8],
+    code: [u8; 3],
+    before: [u8; 6],
+    after: [u8; 4],
+) -> io::Result<()> {
     let mut bytes = [0u8; 256];
     let address = before[3];
     bytes[0xFF] = before[0];
@@ -85,145 +92,162 @@ fn example(what: &[u8], code: [u8; 3], before: [u8; 6], after: [u8; 4]) {
     let m = machine_at(0x100, false, before[5] == 1, bytes);
     let stepped = step(&image, m, 0);
     let result = stepped.machine;
-    put(what);
-    put(b": A ");
-    put_byte(after[0]);
-    put(b", byte ");
-    put_byte(after[1]);
+    put(rt, what)?;
+    put(rt, b": A ")?;
+    put_byte(rt, after[0])?;
+    put(rt, b", byte ")?;
+    put_byte(rt, after[1])?;
     if agrees(result, address, after) {
-        put(b", flags: as expected\n");
+        put(rt, b", flags: as expected\n")
     } else {
-        put(b": DIFFERS\n");
+        put(rt, b": DIFFERS\n")
     }
 }
 
-fn put_sums() {
+fn put_sums(rt: &impl Print) -> io::Result<()> {
     example(
+        rt,
         b"ADDI A,22h",
         [0x57, 0x22, 0],
         [0x20, 0, 0, 0x22, 0, 1],
         [0x42, 0, 0, 0],
-    );
+    )?;
     example(
+        rt,
         b"AND A,54h",
         [0xBF, 0x54, 0],
         [0xCC, 0, 0, 0x54, 0xF0, 1],
         [0xC0, 0xF0, 0, 1],
-    );
+    )?;
     example(
+        rt,
         b"ANDI A,33h",
         [0xB7, 0x33, 0],
         [0x0F, 0, 0, 0x22, 0, 0],
         [0x03, 0, 0, 0],
-    );
+    )
 }
 
-fn put_comparisons() {
+fn put_comparisons(rt: &impl Print) -> io::Result<()> {
     example(
+        rt,
         b"CP A,34h",
         [0x3F, 0x34, 0],
         [0xF8, 0, 0, 0x34, 0x1C, 1],
         [0xF8, 0x1C, 0, 0],
-    );
+    )?;
     example(
+        rt,
         b"CPI A,1Ch",
         [0x37, 0x1C, 0],
         [0xF8, 0, 0, 0x34, 0, 1],
         [0xF8, 0, 0, 0],
-    );
+    )?;
     example(
+        rt,
         b"RLC A",
         [0xAD, 0, 0],
         [0x89, 0, 0, 0x22, 0, 0],
         [0x12, 0, 0, 1],
-    );
+    )?;
     example(
+        rt,
         b"SLA A",
         [0x5F, 0xFF, 0],
         [0xCD, 0, 0, 0x22, 0, 0],
         [0x9A, 0, 0, 1],
-    );
+    )
 }
 
-fn put_differences() {
+fn put_differences(rt: &impl Print) -> io::Result<()> {
     example(
+        rt,
         b"SUB A,(Y)",
         [0xCF, 0, 0],
         [0x78, 0, 0x23, 0x23, 0x53, 1],
         [0x25, 0x53, 0, 0],
-    );
+    )?;
     example(
+        rt,
         b"SUBI A,25h",
         [0xD7, 0x25, 0],
         [0x56, 0, 0, 0x22, 0, 1],
         [0x31, 0, 0, 0],
-    );
+    )
 }
 
 // The manual's DEC (X) and INC (X) are on register 45h, which the ROM window covers here: 25h instead, and then 45h,
 // where nothing is stored.
-fn put_stores() {
+fn put_stores(rt: &impl Print) -> io::Result<()> {
     example(
+        rt,
         b"CLR 22h",
         [0x0D, 0x22, 0x00],
         [0x01, 0, 0, 0x22, 0x33, 1],
         [0x01, 0x00, 0, 1],
-    );
+    )?;
     example(
+        rt,
         b"DEC (X), X 25h",
         [0xE7, 0, 0],
         [0x01, 0x25, 0, 0x25, 0x16, 1],
         [0x01, 0x15, 0, 1],
-    );
+    )?;
     example(
+        rt,
         b"INC (X), X 25h",
         [0x67, 0, 0],
         [0x01, 0x25, 0, 0x25, 0x16, 0],
         [0x01, 0x17, 0, 0],
-    );
+    )?;
     example(
+        rt,
         b"DEC (X), X 45h",
         [0xE7, 0, 0],
         [0x01, 0x45, 0, 0x45, 0x01, 0],
         [0x01, 0x01, 1, 0],
-    );
+    )
 }
 
-fn put_loads() {
+fn put_loads(rt: &impl Print) -> io::Result<()> {
     example(
+        rt,
         b"LD A,34h",
         [0x1F, 0x34, 0],
         [0x00, 0, 0, 0x34, 0x45, 1],
         [0x45, 0x45, 0, 1],
-    );
+    )?;
     example(
+        rt,
         b"LDI 34h,45h",
         [0x0D, 0x34, 0x45],
         [0x00, 0, 0, 0x34, 0x00, 1],
         [0x00, 0x45, 0, 1],
-    );
+    )?;
     example(
+        rt,
         b"LDI A,00h",
         [0x17, 0x00, 0],
         [0x45, 0, 0, 0x34, 0x00, 1],
         [0x00, 0x00, 1, 1],
-    );
+    )
 }
 
-fn put_bits() {
+fn put_bits(rt: &impl Print) -> io::Result<()> {
     example(
+        rt,
         b"SET 4,23h",
         [0x3B, 0x23, 0],
         [0x00, 0, 0, 0x23, 0x00, 0],
         [0x00, 0x10, 0, 0],
-    );
+    )
 }
 
-pub fn put_examples() {
-    put_sums();
-    put_comparisons();
-    put_differences();
-    put_stores();
-    put_loads();
-    put_bits();
+pub fn put_examples(rt: &impl Print) -> io::Result<()> {
+    put_sums(rt)?;
+    put_comparisons(rt)?;
+    put_differences(rt)?;
+    put_stores(rt)?;
+    put_loads(rt)?;
+    put_bits(rt)
 }

@@ -4,6 +4,7 @@ use crate::examples::machine_at;
 use machine::step::step;
 use machine::{Machine, StepAnswer};
 use printing::{put, put_address, put_refusal};
+use std::io;
 
 // A 4K image with up to three bytes at an address, and 0 elsewhere.
 fn image_at(at: u16, code: [u8; 3]) -> [u8; 4096] {
@@ -16,29 +17,42 @@ fn image_at(at: u16, code: [u8; 3]) -> [u8; 4096] {
 }
 
 // Where one step of a machine goes, or what stops it.
-fn put_step(what: &[u8], image: &[u8], m: Machine) {
+fn put_step(rt: &impl Print, what: &[u8], image: &[u8], m: Machine) -> io::Result<()> {
     let stepped = step(image, m, 0);
     let after = stepped.machine;
     let report = stepped.report;
     let answer = report.answer;
     let control = after.control;
-    put(what);
-    put(b": ");
+    put(rt, what)?;
+    put(rt, b": ")?;
     match answer {
-        StepAnswer::Done(_) => put_address(control.pc),
-        StepAnswer::Refused(refusal) => put_refusal(refusal),
+        StepAnswer::Done(_) => put_address(rt, control.pc)?,
+        StepAnswer::Refused(refusal) => put_refusal(rt, refusal)?,
     }
-    put(b"\n");
+    put(rt, b"\n")
 }
 
 // A jump at an address, with Z and C.
-fn jump(what: &[u8], at: u16, code: [u8; 3], zero: bool, carry: bool) {
+fn jump(
+    rt: &impl Print,
+    what: &[u8],
+    at: u16,
+    code: [u8; 3],
+    zero: bool,
+    carry: bool,
+) -> io::Result<()> {
     let image = image_at(at, code);
-    put_step(what, &image, machine_at(at, zero, carry, [0u8; 256]));
+    put_step(rt, what, &image, machine_at(at, zero, carry, [0u8; 256]))
 }
 
 // The same with one level in use, whose return address is given.
-fn with_level(what: &[u8], at: u16, code: [u8; 3], address: u16) {
+fn with_level(
+    rt: &impl Print,
+    what: &[u8],
+    at: u16,
+    code: [u8; 3],
+    address: u16,
+) -> io::Result<()> {
     let image = image_at(at, code);
     let mut m = machine_at(at, false, false, [0u8; 256]);
     let mut control = m.control;
@@ -47,32 +61,55 @@ fn with_level(what: &[u8], at: u16, code: [u8; 3], address: u16) {
     control.levels = 1;
     m.stack = stack;
     m.control = control;
-    put_step(what, &image, m);
+    put_step(rt, what, &image, m)
 }
 
-pub fn put_jumps() {
-    jump(b"JRC +8 at 200h, C 1", 0x200, [0x3E, 0, 0], false, true);
-    jump(b"JRC +8 at 200h, C 0", 0x200, [0x3E, 0, 0], false, false);
-    jump(b"JRNC -5 at 200h, C 0", 0x200, [0xD2, 0, 0], false, false);
-    jump(b"JRNZ -5 at 200h, Z 0", 0x200, [0xD0, 0, 0], false, false);
-    jump(b"JRZ +8 at 200h, Z 1", 0x200, [0x3C, 0, 0], true, false);
-    with_level(b"RET at 456h to 3DFh", 0x456, [0xCD, 0, 0], 0x3DF);
-    with_level(b"RETI at 456h to 3DFh", 0x456, [0x4D, 0, 0], 0x3DF);
+pub fn put_jumps(rt: &impl Print) -> io::Result<()> {
+    jump(rt, b"JRC +8 at 200h, C 1", 0x200, [0x3E, 0, 0], false, true)?;
     jump(
+        rt,
+        b"JRC +8 at 200h, C 0",
+        0x200,
+        [0x3E, 0, 0],
+        false,
+        false,
+    )?;
+    jump(
+        rt,
+        b"JRNC -5 at 200h, C 0",
+        0x200,
+        [0xD2, 0, 0],
+        false,
+        false,
+    )?;
+    jump(
+        rt,
+        b"JRNZ -5 at 200h, Z 0",
+        0x200,
+        [0xD0, 0, 0],
+        false,
+        false,
+    )?;
+    jump(rt, b"JRZ +8 at 200h, Z 1", 0x200, [0x3C, 0, 0], true, false)?;
+    with_level(rt, b"RET at 456h to 3DFh", 0x456, [0xCD, 0, 0], 0x3DF)?;
+    with_level(rt, b"RETI at 456h to 3DFh", 0x456, [0x4D, 0, 0], 0x3DF)?;
+    jump(
+        rt,
         b"RET at 456h, stack empty",
         0x456,
         [0xCD, 0, 0],
         false,
         false,
-    );
+    )?;
     jump(
+        rt,
         b"CALL at FFFh, operand at 000h",
         0xFFF,
         [0x01, 0x20, 0],
         false,
         false,
-    );
-    jump(b"JRC at FFFh, +16", 0xFFF, [0x7E, 0, 0], false, true);
-    jump(b"STOP at FFFh", 0xFFF, [0x6D, 0, 0], false, false);
-    jump(b"Undefined 8Dh", 0x300, [0x8D, 0, 0], false, false);
+    )?;
+    jump(rt, b"JRC at FFFh, +16", 0xFFF, [0x7E, 0, 0], false, true)?;
+    jump(rt, b"STOP at FFFh", 0xFFF, [0x6D, 0, 0], false, false)?;
+    jump(rt, b"Undefined 8Dh", 0x300, [0x8D, 0, 0], false, false)
 }

@@ -2,6 +2,7 @@
 use jobs::Answered;
 use jobs::answer::answer;
 use printing::put;
+use std::io;
 
 // A 2K job: version 1, the count 4097, the wired byte, then image and certificate, whose first bytes stand at 800h.
 pub const IMAGE: usize = 4;
@@ -38,17 +39,18 @@ fn marked(unmarked: [u8; 4100]) -> [u8; 4100] {
     job
 }
 
-fn put_answer(job: &[u8]) {
+fn put_answer(rt: &impl Print, job: &[u8]) -> io::Result<()> {
     let mut line = [0u8; 16];
-    if let Answered::Line(length) = answer(job, &mut line) {
-        put(&line[..length]);
+    match answer(job, &mut line) {
+        Answered::Line(length) => put(rt, &line[..length]),
+        _ => Ok(()),
     }
 }
 
-fn put_line(what: &[u8], job: &[u8]) {
-    put(what);
-    put(b": ");
-    put_answer(job);
+fn put_line(rt: &impl Print, what: &[u8], job: &[u8]) -> io::Result<()> {
+    put(rt, what)?;
+    put(rt, b": ")?;
+    put_answer(rt, job)
 }
 
 // "P12 the same with 20h at 883h".
@@ -65,18 +67,18 @@ fn malformed() -> [u8; 4100] {
     job
 }
 
-fn put_checked() {
+fn put_checked(rt: &impl Print) -> io::Result<()> {
     let accepted = p11();
-    put_line(b"P11", &accepted);
+    put_line(rt, b"P11", &accepted)?;
     let refused = p12();
-    put_line(b"P12", &refused);
+    put_line(rt, b"P12", &refused)?;
     let letters = malformed();
-    put_line(b"P11 with the mark 07h at BCDh", &letters);
+    put_line(rt, b"P11 with the mark 07h at BCDh", &letters)
 }
 
-pub fn put_lines() {
-    put_checked();
-    put_line(b"two bytes", &[1, 0x10]);
-    put_line(b"version 2", &[2, 0x10, 0x01]);
-    put_line(b"three bytes", &[1, 0x10, 0x01]);
+pub fn put_lines(rt: &impl Print) -> io::Result<()> {
+    put_checked(rt)?;
+    put_line(rt, b"two bytes", &[1, 0x10])?;
+    put_line(rt, b"version 2", &[2, 0x10, 0x01])?;
+    put_line(rt, b"three bytes", &[1, 0x10, 0x01])
 }

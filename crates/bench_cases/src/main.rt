@@ -19,15 +19,17 @@ mod states;
 mod traces;
 mod widths;
 
-fn main() {
-    examples::put_examples();
-    jumps::put_jumps();
-    traces::put_traces();
-    pages::put_pages();
-    readings::put_readings();
-    keys::put_keys();
-    lines::put_lines();
-    widths::put_widths();
-    making::put_making();
-    playing::put_playings();
+use std::io;
+
+fn main(rt: HostRuntime) -> io::Result<()> {
+    examples::put_examples(&rt)?;
+    jumps::put_jumps(&rt)?;
+    traces::put_traces(&rt)?;
+    pages::put_pages(&rt)?;
+    readings::put_readings(&rt)?;
+    keys::put_keys(&rt)?;
+    lines::put_lines(&rt)?;
+    widths::put_widths(&rt)?;
+    making::put_making(&rt)?;
+    playing::put_playings(&rt)
 }

@@ -1,6 +1,7 @@
 // Images of two pages and the fixed half, step by step and as a run: the byte at 0CAh picks what stands below 800h.
 use crate::traces::{put_run, put_steps};
 use printing::put;
+use std::io;
 
 // Where page 1 and the fixed half begin in an image.
 const SECOND: usize = 2048;
@@ -77,16 +78,16 @@ fn seams() -> [u8; 6144] {
     image
 }
 
-fn put_paged(title: &[u8], image: &[u8], n: u16) {
-    put(title);
-    put(b"\n");
-    put_steps(image, b"", n as usize);
-    put_run(image, b"", n as u32);
+fn put_paged(rt: &impl Print, title: &[u8], image: &[u8], n: u16) -> io::Result<()> {
+    put(rt, title)?;
+    put(rt, b"\n")?;
+    put_steps(rt, image, b"", n as usize)?;
+    put_run(rt, image, b"", n as u32)
 }
 
-pub fn put_pages() {
+pub fn put_pages(rt: &impl Print) -> io::Result<()> {
     let image = changing();
-    put_paged(b"A change of page", &image, 10);
+    put_paged(rt, b"A change of page", &image, 10)?;
     let image = seams();
-    put_paged(b"Instructions across halves", &image, 8);
+    put_paged(rt, b"Instructions across halves", &image, 8)
 }

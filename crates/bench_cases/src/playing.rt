@@ -4,99 +4,104 @@ use crate::states::{put_ending, put_state};
 use playback::play::play;
 use playback::{PlayAnswer, PlayReport};
 use printing::{put, put_number, put_refusal};
+use std::io;
 
-fn put_played(report: PlayReport) {
+fn put_played(rt: &impl Print, report: PlayReport) -> io::Result<()> {
     let ending = report.ending;
-    put_number(report.entries);
-    put(b" entries, ");
-    put_number(report.cycles);
-    put(b" cycles, ");
-    put_ending(ending);
+    put_number(rt, report.entries)?;
+    put(rt, b" entries, ")?;
+    put_number(rt, report.cycles)?;
+    put(rt, b" cycles, ")?;
+    put_ending(rt, ending)
 }
 
-fn put_playing(what: &[u8], image: &[u8], recording: &[u8]) {
+fn put_playing(rt: &impl Print, what: &[u8], image: &[u8], recording: &[u8]) -> io::Result<()> {
     let played = play(image, recording);
     let after = played.machine;
     let answer = played.answer;
-    put(what);
-    put(b": ");
+    put(rt, what)?;
+    put(rt, b": ")?;
     match answer {
         PlayAnswer::Refused(refusal) => {
-            put_refusal(refusal);
-            put(b"\n");
+            put_refusal(rt, refusal)?;
+            put(rt, b"\n")
         }
         PlayAnswer::Ended(report) => {
-            put_played(report);
-            put_state(after);
+            put_played(rt, report)?;
+            put_state(rt, after)
         }
     }
 }
 
-fn put_whole(image: &[u8]) {
-    put_playing(b"empty", image, b"\x01\x00\x00");
+fn put_whole(rt: &impl Print, image: &[u8]) -> io::Result<()> {
+    put_playing(rt, b"empty", image, b"\x01\x00\x00")?;
     put_playing(
+        rt,
         b"store, step, step, reset, step",
         image,
         b"\x01\x00\x0A\x01\x22\x30\x00\x00\x00\x00\x02\x00\x00",
-    );
+    )
 }
 
 // Stores and resets count: the first record's store, its third entry, is number 2.
-fn put_ended(image: &[u8]) {
+fn put_ended(rt: &impl Print, image: &[u8]) -> io::Result<()> {
     put_playing(
+        rt,
         b"step, reset, store at 40h, step",
         image,
         b"\x01\x00\x08\x00\x00\x02\x01\x40\x30\x00\x00",
-    );
+    )?;
     put_playing(
+        rt,
         b"step, step with 20h",
         image,
         b"\x01\x00\x04\x00\x00\x00\x20",
-    );
+    )
 }
 
 // FFEh RET: a pop on an empty stack.
-fn put_stopped() {
+fn put_stopped(rt: &impl Print) -> io::Result<()> {
     let mut image = [0u8; 2048];
     image[0x7FE] = 0xCD;
     put_playing(
+        rt,
         b"store, step that stops",
         &image,
         b"\x01\x00\x05\x01\x22\x30\x00\x00",
-    );
+    )
 }
 
-fn put_refused(image: &[u8]) {
-    put_playing(b"short image", b"\x00", b"\x03");
-    put_playing(b"two bytes of version 3", image, b"\x03\x00");
-    put_playing(b"version 3, wrong count", image, b"\x03\x00\x01");
-    put_playing(b"three bytes of version 2", image, b"\x02\x00\x00");
-    put_playing(b"version 2, one reset", image, b"\x02\x00\x00\x01\x02");
-    put_playing(b"wrong count", image, b"\x01\x00\x02\x03");
-    put_playing(b"unknown entry", image, b"\x01\x00\x03\x00\x00\x03");
-    put_playing(b"cut step", image, b"\x01\x00\x01\x00");
-    put_playing(b"cut store", image, b"\x01\x00\x02\x01\x22");
+fn put_refused(rt: &impl Print, image: &[u8]) -> io::Result<()> {
+    put_playing(rt, b"short image", b"\x00", b"\x03")?;
+    put_playing(rt, b"two bytes of version 3", image, b"\x03\x00")?;
+    put_playing(rt, b"version 3, wrong count", image, b"\x03\x00\x01")?;
+    put_playing(rt, b"three bytes of version 2", image, b"\x02\x00\x00")?;
+    put_playing(rt, b"version 2, one reset", image, b"\x02\x00\x00\x01\x02")?;
+    put_playing(rt, b"wrong count", image, b"\x01\x00\x02\x03")?;
+    put_playing(rt, b"unknown entry", image, b"\x01\x00\x03\x00\x00\x03")?;
+    put_playing(rt, b"cut step", image, b"\x01\x00\x01\x00")?;
+    put_playing(rt, b"cut store", image, b"\x01\x00\x02\x01\x22")
 }
 
 // Version 2 with the least number of bytes that it is for, and with one less.
 // Every byte is 2 at first: the version, and resets.
-fn put_long(image: &[u8]) {
+fn put_long(rt: &impl Print, image: &[u8]) -> io::Result<()> {
     let mut recording = [2u8; 65540];
     recording[1] = 1;
     recording[2] = 0;
     recording[3] = 0;
-    put_playing(b"version 2, 65536 resets", image, &recording);
+    put_playing(rt, b"version 2, 65536 resets", image, &recording)?;
     recording[1] = 0;
     recording[2] = 0xFF;
     recording[3] = 0xFF;
-    put_playing(b"version 2, 65535 resets", image, &recording[..65539]);
+    put_playing(rt, b"version 2, 65535 resets", image, &recording[..65539])
 }
 
-pub fn put_playings() {
+pub fn put_playings(rt: &impl Print) -> io::Result<()> {
     let image = sample();
-    put_whole(&image);
-    put_ended(&image);
-    put_stopped();
-    put_refused(&image);
-    put_long(&image);
+    put_whole(rt, &image)?;
+    put_ended(rt, &image)?;
+    put_stopped(rt)?;
+    put_refused(rt, &image)?;
+    put_long(rt, &image)
 }

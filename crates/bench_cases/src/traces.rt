@@ -9,6 +9,7 @@ use machine::state::fresh;
 use machine::step::step;
 use machine::{Machine, StepAnswer, StepReport};
 use printing::{put, put_number, put_refusal};
+use std::io;
 
 // The request byte of a step, none past the list's end.
 fn request_at(requests: &[u8], i: usize) -> u8 {
@@ -16,81 +17,96 @@ fn request_at(requests: &[u8], i: usize) -> u8 {
 }
 
 // Where the byte of a step's data operand came from, a dash where it read none.
-fn put_read(read: OriginRead) {
+fn put_read(rt: &impl Print, read: OriginRead) -> io::Result<()> {
     match read {
-        OriginRead::Nothing => put(b"-"),
-        OriginRead::From(origin) => put_origin(origin),
+        OriginRead::Nothing => put(rt, b"-"),
+        OriginRead::From(origin) => put_origin(rt, origin),
     }
 }
 
 // A step's report, and the machine that it left: whether it completed.
-fn put_step(report: StepReport, after: Machine) -> bool {
+fn put_step(rt: &impl Print, report: StepReport, after: Machine) -> io::Result<bool> {
     let answer = report.answer;
     let read = report.read;
     match answer {
         StepAnswer::Done(cycles) => {
-            put_number(cycles as u32);
-            put(b"  ");
-            put_read(read);
-            put(b"  ");
-            put_state(after);
-            true
+            put_number(rt, cycles as u32)?;
+            put(rt, b"  ")?;
+            put_read(rt, read)?;
+            put(rt, b"  ")?;
+            put_state(rt, after)?;
+            Ok(true)
         }
         StepAnswer::Refused(refusal) => {
-            put_refusal(refusal);
-            put(b"\n");
-            false
+            put_refusal(rt, refusal)?;
+            put(rt, b"\n")?;
+            Ok(false)
         }
     }
 }
 
-pub fn put_steps(image: &[u8], requests: &[u8], n: usize) {
+pub fn put_steps(rt: &impl Print, image: &[u8], requests: &[u8], n: usize) -> io::Result<()> {
     let mut m = fresh();
     for i in 0..n {
         let stepped = step(image, m, request_at(requests, i));
         let report = stepped.report;
         m = stepped.machine;
-        if !put_step(report, m) {
-            return;
+        if !put_step(rt, report, m)? {
+            return Ok(());
         }
     }
+    Ok(())
 }
 
-pub fn put_run(image: &[u8], requests: &[u8], n: u32) {
+pub fn put_run(rt: &impl Print, image: &[u8], requests: &[u8], n: u32) -> io::Result<()> {
     let ran = run(image, fresh(), requests, n);
     let report = ran.report;
     let after = ran.machine;
-    put(b"run: ");
-    put_report(report);
-    put_state(after);
+    put(rt, b"run: ")?;
+    put_report(rt, report)?;
+    put_state(rt, after)
 }
 
-fn put_trace(title: &[u8], code: &[u8], requests: &[u8], n: u16) {
+fn put_trace(
+    rt: &impl Print,
+    title: &[u8],
+    code: &[u8],
+    requests: &[u8],
+    n: u16,
+) -> io::Result<()> {
     let image = image_of(code);
-    put(title);
-    put(b"\n");
-    put_steps(&image, requests, n as usize);
-    put_run(&image, requests, n as u32);
+    put(rt, title)?;
+    put(rt, b"\n")?;
+    put_steps(rt, &image, requests, n as usize)?;
+    put_run(rt, &image, requests, n as u32)
 }
 
-pub fn put_traces() {
-    put_trace(b"Arithmetic and flags", &programs::ARITHMETIC, b"", 14);
-    put_trace(b"Data space, pointers and bits", &programs::DATA, b"", 14);
-    put_trace(b"The ROM window", &programs::WINDOW, b"", 8);
+pub fn put_traces(rt: &impl Print) -> io::Result<()> {
+    put_trace(rt, b"Arithmetic and flags", &programs::ARITHMETIC, b"", 14)?;
     put_trace(
+        rt,
+        b"Data space, pointers and bits",
+        &programs::DATA,
+        b"",
+        14,
+    )?;
+    put_trace(rt, b"The ROM window", &programs::WINDOW, b"", 8)?;
+    put_trace(
+        rt,
         b"Registers that cannot be read",
         &programs::WRITE_ONLY,
         &programs::ASKED_TWICE,
         15,
-    );
-    put_trace(b"Subroutines", &programs::SUBROUTINES, b"", 9);
-    put_trace(b"A seventh level", &[0x01, 0x10], b"", 9);
-    put_trace(b"RET on an empty stack", &[0xCD], b"", 3);
-    put_trace(b"An undefined opcode", &[0x04, 0x05], b"", 4);
+    )?;
+    put_trace(rt, b"Subroutines", &programs::SUBROUTINES, b"", 9)?;
+    put_trace(rt, b"A seventh level", &[0x01, 0x10], b"", 9)?;
+    put_trace(rt, b"RET on an empty stack", &[0xCD], b"", 3)?;
+    put_trace(rt, b"An undefined opcode", &[0x04, 0x05], b"", 4)?;
     put_trace(
+        rt,
         b"Requests, sleep and modes",
         &programs::REQUESTS,
         &programs::ASKED,
         20,
-    );
+    )
 }

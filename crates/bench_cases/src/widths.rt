@@ -6,27 +6,34 @@ use crate::sizing::{
 use gauge::Sizing;
 use gauge::width::width;
 use printing::{put, put_number, put_refusal};
+use std::io;
 
-fn put_sizing(sizing: Sizing) {
+fn put_sizing(rt: &impl Print, sizing: Sizing) -> io::Result<()> {
     match sizing {
         Sizing::Measured { width, steps } => {
-            put(b"width ");
-            put_number(width as u32);
-            put(b" after ");
-            put_number(steps as u32);
-            put(b" steps");
+            put(rt, b"width ")?;
+            put_number(rt, width as u32)?;
+            put(rt, b" after ")?;
+            put_number(rt, steps as u32)?;
+            put(rt, b" steps")?;
         }
-        Sizing::Refused(refusal) => put_refusal(refusal),
+        Sizing::Refused(refusal) => put_refusal(rt, refusal)?,
     }
-    put(b"\n");
+    put(rt, b"\n")
 }
 
-fn put_width(what: &[u8], image: &[u8], certificate: &[u8], count: u8) {
-    put(what);
-    put(b", count ");
-    put_number(count as u32);
-    put(b": ");
-    put_sizing(width(image, certificate, count));
+fn put_width(
+    rt: &impl Print,
+    what: &[u8],
+    image: &[u8],
+    certificate: &[u8],
+    count: u8,
+) -> io::Result<()> {
+    put(rt, what)?;
+    put(rt, b", count ")?;
+    put_number(rt, count as u32)?;
+    put(rt, b": ")?;
+    put_sizing(rt, width(image, certificate, count))
 }
 
 // What the sizing program is to show.
@@ -54,49 +61,49 @@ fn right_widths(image: &[u8], certificate: &[u8]) -> u32 {
     right
 }
 
-pub fn put_formula(image: &[u8], certificate: &[u8]) {
+pub fn put_formula(rt: &impl Print, image: &[u8], certificate: &[u8]) -> io::Result<()> {
     let right = right_widths(image, certificate);
-    put(b"sizing: 1000 + 3 x count + count / 2 + count % 7 for ");
-    put_number(right);
-    put(b" counts of 256\n");
+    put(rt, b"sizing: 1000 + 3 x count + count / 2 + count % 7 for ")?;
+    put_number(rt, right)?;
+    put(rt, b" counts of 256\n")
 }
 
-fn put_sizes() {
+fn put_sizes(rt: &impl Print) -> io::Result<()> {
     let image = sizing_image();
     let certificate = sizing_certificate();
-    put_formula(&image, &certificate);
-    put_width(b"sizing", &image, &certificate, 0x00);
-    put_width(b"sizing", &image, &certificate, 0x55);
-    put_width(b"sizing", &image, &certificate, 0xFF);
+    put_formula(rt, &image, &certificate)?;
+    put_width(rt, b"sizing", &image, &certificate, 0x00)?;
+    put_width(rt, b"sizing", &image, &certificate, 0x55)?;
+    put_width(rt, b"sizing", &image, &certificate, 0xFF)
 }
 
-fn put_late() {
+fn put_late(rt: &impl Print) -> io::Result<()> {
     let image = delay_image();
     let certificate = delay_certificate();
-    put_width(b"asleep after 65535 steps", &image, &certificate, 0x54);
-    put_width(b"asleep after 65536 steps", &image, &certificate, 0x55);
+    put_width(rt, b"asleep after 65535 steps", &image, &certificate, 0x54)?;
+    put_width(rt, b"asleep after 65536 steps", &image, &certificate, 0x55)
 }
 
-fn put_endless() {
+fn put_endless(rt: &impl Print) -> io::Result<()> {
     let image = endless_image();
     let certificate = endless_certificate();
-    put_width(b"never asleep", &image, &certificate, 0x55);
+    put_width(rt, b"never asleep", &image, &certificate, 0x55)
 }
 
 // What the check refuses, its own 18, 13 and 1, the gauge refuses with 23.
-fn put_refused() {
+fn put_refused(rt: &impl Print) -> io::Result<()> {
     let image = sizing_image();
     let mut certificate = sizing_certificate();
     let short = [0u8; 2047];
     certificate[0x7FE] = 0;
-    put_width(b"no mark at FFEh", &image, &certificate, 0x55);
-    put_width(b"short certificate", &image, &short, 0x55);
-    put_width(b"short image", &short, &short, 0x55);
+    put_width(rt, b"no mark at FFEh", &image, &certificate, 0x55)?;
+    put_width(rt, b"short certificate", &image, &short, 0x55)?;
+    put_width(rt, b"short image", &short, &short, 0x55)
 }
 
-pub fn put_widths() {
-    put_sizes();
-    put_late();
-    put_endless();
-    put_refused();
+pub fn put_widths(rt: &impl Print) -> io::Result<()> {
+    put_sizes(rt)?;
+    put_late(rt)?;
+    put_endless(rt)?;
+    put_refused(rt)
 }

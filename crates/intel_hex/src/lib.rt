@@ -12,7 +12,7 @@ mod take;
 pub use digits::digit_of;
 
 // Why a file is refused.
-#[derive(Drop)]
+#[derive(Clone, Copy)]
 pub enum Fault {
     NoColon,
     BadDigit,

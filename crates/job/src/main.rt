@@ -3,18 +3,22 @@
 
 use jobs::Answered;
 use jobs::answer::answer;
-use libc::{STDIN_FILENO, STDOUT_FILENO};
+use std::io;
+use std::io::Read;
 
-fn print_answer(job: &[u8]) {
+// One byte more than the longest job, so that a longer one is seen to be too long.
+const MOST: u64 = 8197;
+
+fn print_answer(rt: &impl Print, job: &[u8]) -> io::Result<()> {
     let mut line = [0u8; 16];
-    if let Answered::Line(length) = answer(job, &mut line) {
-        io::write_all(STDOUT_FILENO, &line[..length]);
+    match answer(job, &mut line) {
+        Answered::Line(length) => rt.write_all(&line[..length]),
+        _ => Ok(()),
     }
 }
 
-fn main() {
-    // One byte more than the longest job, so that a longer one is seen to be too long.
-    let mut job = [0u8; 8197];
-    let length = io::read_full(STDIN_FILENO, &mut job);
-    print_answer(&job[..length]);
+fn main(rt: HostRuntime) -> io::Result<()> {
+    let mut job = Vec::new(rt.alloc());
+    rt.stdin().take(MOST).read_to_end(&mut job)?;
+    print_answer(&rt, job.as_slice())
 }

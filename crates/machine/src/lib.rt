@@ -54,7 +54,7 @@ pub struct Executed {
 
 // What a step is about to do: it takes a request, is idle, or executes the instruction at PC; or it is refused, or what
 // stands at PC is no instruction.
-#[derive(Drop)]
+#[derive(Clone, Copy)]
 pub enum Action {
     Takes(Source),
     Idles,
@@ -82,7 +82,7 @@ pub struct Advanced {
 }
 
 // A step's answer, the origin of the data operand that it read, and what it was about to do.
-#[derive(Drop)]
+#[derive(Clone, Copy)]
 pub struct StepReport {
     pub answer: StepAnswer,
     pub read: OriginRead,
@@ -98,7 +98,7 @@ pub struct StepProgress {
 }
 
 // A machine after a step, and the step's report.
-#[derive(Drop)]
+#[derive(Clone, Copy)]
 pub struct Stepped {
     pub machine: Machine,
     pub report: StepReport,

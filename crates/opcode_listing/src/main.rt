@@ -7,6 +7,7 @@ use isa::decode::decode;
 use listing::Line;
 use listing::instruction::instruction;
 use printing::{put, put_refusal};
+use std::io;
 
 fn image_with(opcode: u8) -> [u8; 4096] {
     let mut image = [0u8; 4096];
@@ -33,30 +34,34 @@ fn code(image: &[u8; 4096], length: u8, cycles: u8) -> Line {
     counted.letter(b' ').decimal(cycles as u32).word(b"  ")
 }
 
-fn put_line(line: Line) {
+fn put_line(rt: &impl Print, line: Line) -> io::Result<()> {
     let letters = line.letters;
     let count = line.length();
-    put(&letters[..count]);
+    put(rt, &letters[..count])
 }
 
-fn list_opcode(opcode: u8) {
+fn list_opcode(rt: &impl Print, opcode: u8) -> io::Result<()> {
     let image = image_with(opcode);
     match decode(&image, 0, 0x100) {
         Decoded::Valid {
             instruction: decoded,
             length,
             cycles,
-        } => put_line(instruction(code(&image, length, cycles), decoded, 0x100)),
+        } => put_line(
+            rt,
+            instruction(code(&image, length, cycles), decoded, 0x100),
+        )?,
         Decoded::Refused(refusal) => {
-            put_line(Line::new().byte(opcode).word(b"             undefined, "));
-            put_refusal(refusal);
+            put_line(rt, Line::new().byte(opcode).word(b"             undefined, "))?;
+            put_refusal(rt, refusal)?;
         }
     }
-    put(b"\n");
+    put(rt, b"\n")
 }
 
-fn main() {
+fn main(rt: HostRuntime) -> io::Result<()> {
     for opcode in 0u8..=255 {
-        list_opcode(opcode);
+        list_opcode(&rt, opcode)?;
     }
+    Ok(())
 }

@@ -34,7 +34,7 @@ pub enum Asked {
 }
 
 // By what the size was chosen: the option, the raw file's own size, or the lowest address that the HEX file names.
-#[derive(Drop)]
+#[derive(Clone, Copy)]
 pub enum ChosenBy {
     Option,
     Size,
@@ -42,7 +42,7 @@ pub enum ChosenBy {
 }
 
 // What came of a file. An image stands in the last bytes of its space.
-#[derive(Drop)]
+#[derive(Clone, Copy)]
 pub enum ImageRead {
     Whole { rom: Rom, by: ChosenBy },
     Fault { line: usize, fault: Fault },

@@ -9,7 +9,7 @@ pub mod wired;
 pub mod words;
 
 // What the user asked for.
-#[derive(Drop)]
+#[derive(Clone, Copy)]
 pub enum Command {
     Check,
     Certify,

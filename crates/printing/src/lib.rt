@@ -5,14 +5,14 @@
 use control::Mode;
 use isa::refusals::number_of;
 use isa::{Number, Refusal};
-use libc::STDOUT_FILENO;
+use std::io;
 
-pub fn put(text: &[u8]) {
-    io::write_all(STDOUT_FILENO, text);
+pub fn put(rt: &impl Print, text: &[u8]) -> io::Result<()> {
+    rt.write_all(text)
 }
 
-pub fn put_number(n: u32) {
-    io::print_decimal(STDOUT_FILENO, n as u64);
+pub fn put_number(rt: &impl Print, n: u32) -> io::Result<()> {
+    rt.print(n)
 }
 
 // The hexadecimal digit of a number's lowest four bits.
@@ -26,36 +26,36 @@ fn digit(n: u16) -> u8 {
 }
 
 // A byte in two hexadecimal digits.
-pub fn put_byte(n: u8) {
+pub fn put_byte(rt: &impl Print, n: u8) -> io::Result<()> {
     let text = [digit(n as u16 / 16), digit(n as u16)];
-    put(&text);
+    put(rt, &text)
 }
 
 // A program address in three hexadecimal digits.
-pub fn put_address(n: u16) {
+pub fn put_address(rt: &impl Print, n: u16) -> io::Result<()> {
     let text = [digit(n / 256), digit(n / 16), digit(n)];
-    put(&text);
+    put(rt, &text)
 }
 
 // A refusal's number, and the address where there is one.
-pub fn put_refusal(refusal: Refusal) {
-    put(b"refused ");
+pub fn put_refusal(rt: &impl Print, refusal: Refusal) -> io::Result<()> {
+    put(rt, b"refused ")?;
     match number_of(refusal) {
-        Number::Plain(number) => put_number(number as u32),
+        Number::Plain(number) => put_number(rt, number as u32),
         Number::Located(number, address) => {
-            put_number(number as u32);
-            put(b" ");
-            put_address(address);
+            put_number(rt, number as u32)?;
+            put(rt, b" ")?;
+            put_address(rt, address)
         }
     }
 }
 
-pub fn put_mode(mode: Mode) {
+pub fn put_mode(rt: &impl Print, mode: Mode) -> io::Result<()> {
     match mode {
-        Mode::Reset => put(b"reset"),
-        Mode::Normal => put(b"normal"),
-        Mode::Interrupt => put(b"interrupt"),
-        Mode::NmiOverNormal => put(b"NMI over normal"),
-        Mode::NmiOverInterrupt => put(b"NMI over interrupt"),
+        Mode::Reset => put(rt, b"reset"),
+        Mode::Normal => put(rt, b"normal"),
+        Mode::Interrupt => put(rt, b"interrupt"),
+        Mode::NmiOverNormal => put(rt, b"NMI over normal"),
+        Mode::NmiOverInterrupt => put(rt, b"NMI over interrupt"),
     }
 }

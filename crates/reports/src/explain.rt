@@ -61,6 +61,7 @@ fn deeper(certificate: &[u8], first: Successor, second: Successor) -> Successor 
 
 // 16: where the instruction leads, what stands there, and what should.
 fn put_wrong_kind(
+    rt: &HostRuntime,
     image: &[u8],
     bank: u8,
     certificate: &[u8],
@@ -72,26 +73,28 @@ fn put_wrong_kind(
     let begun = instruction_at(image, bank, at).word(b" leads to ");
     let led = paged_address(begun, image.len(), bank, there);
     let RomByte::Byte(_) = rom_in(image, bank, there) else {
-        return put(led.word(b", which is outside ROM"), is_written);
+        return put(rt, led.word(b", which is outside ROM"), is_written);
     };
     let is_put = put(
+        rt,
         mark_text(led.word(b", which is "), mark_at(certificate, there)),
         is_written,
     );
     let wanted = Line::new().word(b"there must be a mark of kind ");
-    put(kind_name(wanted, to.kind % 16 * 16), is_put)
+    put(rt, kind_name(wanted, to.kind % 16 * 16), is_put)
 }
 
 // 17 where no mark would do: the need of a subroutine that calls itself has no bound.
-fn put_bottomless(image: &[u8], bank: u8, at: u16, is_written: bool) -> bool {
+fn put_bottomless(rt: &HostRuntime, image: &[u8], bank: u8, at: u16, is_written: bool) -> bool {
     let line = instruction_at(image, bank, at).word(
         b" leads deeper than six levels, or into a subroutine that calls itself",
     );
-    put(line, is_written)
+    put(rt, line, is_written)
 }
 
 // 17: the levels that the instruction needs, and those that its mark allows.
 fn put_shallow(
+    rt: &HostRuntime,
     image: &[u8],
     bank: u8,
     certificate: &[u8],
@@ -100,16 +103,16 @@ fn put_shallow(
     is_written: bool,
 ) -> bool {
     if (MOST_LEVELS as u32) < asked(certificate, to) {
-        return put_bottomless(image, bank, at, is_written);
+        return put_bottomless(rt, image, bank, at, is_written);
     }
     let line = instruction_at(image, bank, at).word(b" needs ");
     let line = counted(line, asked(certificate, to), b"further level").word(b"; its mark allows ");
     let need = need_of(mark_at(certificate, at));
-    let is_put = put(line.decimal(need as u32), is_written);
+    let is_put = put(rt, line.decimal(need as u32), is_written);
     let there = to.address;
     let cause = Line::new().word(b"it leads to ");
     let cause = paged_address(cause, image.len(), bank, there).word(b", which is ");
-    put(mark_text(cause, mark_at(certificate, there)), is_put)
+    put(rt, mark_text(cause, mark_at(certificate, there)), is_put)
 }
 
 // The successors of the marked instruction at an address.
@@ -123,6 +126,7 @@ fn successors_at(image: &[u8], bank: u8, certificate: &[u8], address: u16) -> Su
 }
 
 fn put_successor_kind(
+    rt: &HostRuntime,
     image: &[u8],
     bank: u8,
     certificate: &[u8],
@@ -131,66 +135,88 @@ fn put_successor_kind(
 ) -> bool {
     match successors_at(image, bank, certificate, at) {
         Successors::None => is_written,
-        Successors::One(one) => put_wrong_kind(image, bank, certificate, at, one, is_written),
+        Successors::One(one) => put_wrong_kind(rt, image, bank, certificate, at, one, is_written),
         Successors::Two(first, second) => {
             let wrong = wrong_kind(certificate, first, second);
-            put_wrong_kind(image, bank, certificate, at, wrong, is_written)
+            put_wrong_kind(rt, image, bank, certificate, at, wrong, is_written)
         }
     }
 }
 
-fn put_need(image: &[u8], bank: u8, certificate: &[u8], at: u16, is_written: bool) -> bool {
+fn put_need(
+    rt: &HostRuntime,
+    image: &[u8],
+    bank: u8,
+    certificate: &[u8],
+    at: u16,
+    is_written: bool,
+) -> bool {
     match successors_at(image, bank, certificate, at) {
         Successors::None => is_written,
-        Successors::One(one) => put_shallow(image, bank, certificate, at, one, is_written),
+        Successors::One(one) => put_shallow(rt, image, bank, certificate, at, one, is_written),
         Successors::Two(first, second) => {
             let deep = deeper(certificate, first, second);
-            put_shallow(image, bank, certificate, at, deep, is_written)
+            put_shallow(rt, image, bank, certificate, at, deep, is_written)
         }
     }
 }
 
 // 15: the code that RET or RETI stands in, and where each may stand.
-fn put_misplaced(image: &[u8], bank: u8, certificate: &[u8], at: u16, is_written: bool) -> bool {
+fn put_misplaced(
+    rt: &HostRuntime,
+    image: &[u8],
+    bank: u8,
+    certificate: &[u8],
+    at: u16,
+    is_written: bool,
+) -> bool {
     let line = instruction_at(image, bank, at).word(b" stands in code of kind ");
-    let is_put = put(mark_text(line, mark_at(certificate, at)), is_written);
+    let is_put = put(rt, mark_text(line, mark_at(certificate, at)), is_written);
     put(
+        rt,
         Line::new().word(b"RET stands only in subroutines, RETI only in start-up and service code"),
         is_put,
     )
 }
 
 // 18: the vector, and the kind that it must have.
-fn put_vector(certificate: &[u8], vector: u16, is_written: bool) -> bool {
+fn put_vector(rt: &HostRuntime, certificate: &[u8], vector: u16, is_written: bool) -> bool {
     let named = Line::new()
         .word(b"the vector ")
         .address(vector)
         .word(b" is ");
-    let is_put = put(mark_text(named, mark_at(certificate, vector)), is_written);
+    let is_put = put(
+        rt,
+        mark_text(named, mark_at(certificate, vector)),
+        is_written,
+    );
     if vector == RESET_VECTOR {
         return put(
+            rt,
             Line::new().word(b"reset begins there: it must be start-up code"),
             is_put,
         );
     }
     put(
+        rt,
         Line::new().word(b"a wired source begins there: it must be service code"),
         is_put,
     )
 }
 
 // 5: the byte that is no opcode.
-fn put_undefined(image: &[u8], bank: u8, at: u16, is_written: bool) -> bool {
+fn put_undefined(rt: &HostRuntime, image: &[u8], bank: u8, at: u16, is_written: bool) -> bool {
     let RomByte::Byte(byte) = rom_in(image, bank, at) else {
         return is_written;
     };
     let line = Line::new().word(b"the byte ").byte(byte).word(b" at ");
     let line = paged_address(line, image.len(), bank, at);
-    put(line.word(b" is no instruction"), is_written)
+    put(rt, line.word(b" is no instruction"), is_written)
 }
 
 // Words for the address of an instruction, before and after it.
 fn put_located(
+    rt: &HostRuntime,
     before: &[u8],
     length: usize,
     bank: u8,
@@ -199,57 +225,76 @@ fn put_located(
     is_written: bool,
 ) -> bool {
     let line = paged_address(Line::new().word(before), length, bank, at);
-    put(line.word(after), is_written)
+    put(rt, line.word(after), is_written)
 }
 
-fn put_words(words: &[u8], is_written: bool) -> bool {
-    put(Line::new().word(words), is_written)
+fn put_words(rt: &HostRuntime, words: &[u8], is_written: bool) -> bool {
+    put(rt, Line::new().word(words), is_written)
 }
 
 // 13: how many marks there must be.
-fn put_marks_wanted(length: usize, is_written: bool) -> bool {
+fn put_marks_wanted(rt: &HostRuntime, length: usize, is_written: bool) -> bool {
     if 1 < choices_in(length) {
         return put_words(
+            rt,
             b"there must be 4096 marks, one for each address",
             is_written,
         );
     }
     put_words(
+        rt,
         b"there must be one mark for each byte of the image",
         is_written,
     )
 }
 
 // 14: the mark stands for its address with every page.
-fn put_malformed(at: u16, is_written: bool) -> bool {
+fn put_malformed(rt: &HostRuntime, at: u16, is_written: bool) -> bool {
     let line = Line::new().word(b"the mark at ").address(at);
     put(
+        rt,
         line.word(b" is malformed: its kind is 1 to 4, its need 0 to 6, or it is 00"),
         is_written,
     )
 }
 
 // Refusals of operations on a machine and of records: what was refused, in words.
-fn put_plain(length: usize, refusal: Refusal, is_written: bool) -> bool {
+fn put_plain(rt: &HostRuntime, length: usize, refusal: Refusal, is_written: bool) -> bool {
     match refusal {
-        Refusal::ImageLength => put_words(b"an image has 1 to 10 halves of 2048 bytes", is_written),
-        Refusal::WindowAddress => put_words(b"a host store to 40h-7Fh, the ROM window", is_written),
-        Refusal::UnknownSource => put_words(b"a request byte has only bits 0 to 4", is_written),
-        Refusal::CertificateLength => put_marks_wanted(length, is_written),
-        Refusal::NoSleep => put_words(b"the program does not sleep within 65535 steps", is_written),
+        Refusal::ImageLength => put_words(
+            rt,
+            b"an image has 1 to 10 halves of 2048 bytes",
+            is_written,
+        ),
+        Refusal::WindowAddress => put_words(
+            rt,
+            b"a host store to 40h-7Fh, the ROM window",
+            is_written,
+        ),
+        Refusal::UnknownSource => put_words(rt, b"a request byte has only bits 0 to 4", is_written),
+        Refusal::CertificateLength => put_marks_wanted(rt, length, is_written),
+        Refusal::NoSleep => put_words(
+            rt,
+            b"the program does not sleep within 65535 steps",
+            is_written,
+        ),
         Refusal::RecordVersion => put_words(
+            rt,
             b"a record's first byte is 1 or 2, its version",
             is_written,
         ),
         Refusal::RecordLength => put_words(
+            rt,
             b"the record's length is not what its version and count say",
             is_written,
         ),
         Refusal::RecordEntry => put_words(
+            rt,
             b"an entry of an unknown kind, or one that is cut",
             is_written,
         ),
         Refusal::RecordTooLong => put_words(
+            rt,
             b"a record has at most 1048576 bytes of entries",
             is_written,
         ),
@@ -258,9 +303,10 @@ fn put_plain(length: usize, refusal: Refusal, is_written: bool) -> bool {
 }
 
 // A step that stopped: 6 and 7.
-fn put_stop(length: usize, bank: u8, refusal: Refusal, is_written: bool) -> bool {
+fn put_stop(rt: &HostRuntime, length: usize, bank: u8, refusal: Refusal, is_written: bool) -> bool {
     match refusal {
         Refusal::StackFull(at) => put_located(
+            rt,
             b"a push on six levels at ",
             length,
             bank,
@@ -269,6 +315,7 @@ fn put_stop(length: usize, bank: u8, refusal: Refusal, is_written: bool) -> bool
             is_written,
         ),
         Refusal::StackEmpty(at) => put_located(
+            rt,
             b"a pop of an empty stack at ",
             length,
             bank,
@@ -276,12 +323,13 @@ fn put_stop(length: usize, bank: u8, refusal: Refusal, is_written: bool) -> bool
             b"",
             is_written,
         ),
-        _ => put_plain(length, refusal, is_written),
+        _ => put_plain(rt, length, refusal, is_written),
     }
 }
 
 // The rule that does not hold, or what stopped.
 fn put_rule(
+    rt: &HostRuntime,
     image: &[u8],
     bank: u8,
     certificate: &[u8],
@@ -291,6 +339,7 @@ fn put_rule(
 ) -> bool {
     match refusal {
         Refusal::OutsideRom(at) => put_located(
+            rt,
             b"the instruction at ",
             image.len(),
             bank,
@@ -298,14 +347,21 @@ fn put_rule(
             b" is not wholly in ROM",
             is_written,
         ),
-        Refusal::UndefinedOpcode(at) => put_undefined(image, bank, at, is_written),
-        Refusal::MalformedMark(at) => put_malformed(at, is_written),
-        Refusal::MisplacedReturn(at) => put_misplaced(image, bank, certificate, at, is_written),
-        Refusal::SuccessorKind(at) => put_successor_kind(image, bank, certificate, at, is_written),
-        Refusal::NeedTooSmall(at) => put_need(image, bank, certificate, at, is_written),
-        Refusal::VectorKind(vector) => put_vector(certificate, vector, is_written),
-        Refusal::TooManyLevels => put_levels(certificate, wired, is_written),
-        _ => put_stop(image.len(), bank, refusal, is_written),
+        Refusal::UndefinedOpcode(at) => put_undefined(rt, image, bank, at, is_written),
+        Refusal::MalformedMark(at) => put_malformed(rt, at, is_written),
+        Refusal::MisplacedReturn(at) => put_misplaced(rt, image, bank, certificate, at, is_written),
+        Refusal::SuccessorKind(at) => put_successor_kind(
+            rt,
+            image,
+            bank,
+            certificate,
+            at,
+            is_written,
+        ),
+        Refusal::NeedTooSmall(at) => put_need(rt, image, bank, certificate, at, is_written),
+        Refusal::VectorKind(vector) => put_vector(rt, certificate, vector, is_written),
+        Refusal::TooManyLevels => put_levels(rt, certificate, wired, is_written),
+        _ => put_stop(rt, image.len(), bank, refusal, is_written),
     }
 }
 
@@ -325,6 +381,7 @@ fn is_of_instruction(refusal: Refusal) -> bool {
 
 // Why the check refused, or why a step stopped, with a bank byte; and the page in place, where there are several.
 pub fn put_reason(
+    rt: &HostRuntime,
     image: &[u8],
     bank: u8,
     certificate: &[u8],
@@ -332,7 +389,7 @@ pub fn put_reason(
     refusal: Refusal,
     is_written: bool,
 ) -> bool {
-    let told = put_rule(image, bank, certificate, wired, refusal, is_written);
+    let told = put_rule(rt, image, bank, certificate, wired, refusal, is_written);
     let pages = choices_in(image.len());
     if pages <= 1 {
         return told;
@@ -343,5 +400,5 @@ pub fn put_reason(
     let line = Line::new()
         .word(b"with page ")
         .decimal(bank as u32 % pages as u32);
-    put(line.word(b" in place"), told)
+    put(rt, line.word(b" in place"), told)
 }

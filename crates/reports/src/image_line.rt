@@ -40,8 +40,15 @@ fn checksum_text(line: Line, checksum: u32) -> Line {
 }
 
 // Writes the line of an image.
-pub fn put_image(rom: Rom, by: ChosenBy, fill: u8, checksum: u32, is_written: bool) -> bool {
+pub fn put_image(
+    rt: &HostRuntime,
+    rom: Rom,
+    by: ChosenBy,
+    fill: u8,
+    checksum: u32,
+    is_written: bool,
+) -> bool {
     let sized = size_text(Line::new().word(b"image: "), rom);
     let chosen = choice_text(sized, by, fill);
-    put(checksum_text(chosen, checksum), is_written)
+    put(rt, checksum_text(chosen, checksum), is_written)
 }

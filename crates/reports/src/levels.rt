@@ -40,7 +40,7 @@ fn total(line: Line, sum: u32) -> Line {
 }
 
 // The line that adds them up.
-pub fn put_levels(certificate: &[u8], wired: u8, is_written: bool) -> bool {
+pub fn put_levels(rt: &HostRuntime, certificate: &[u8], wired: u8, is_written: bool) -> bool {
     let parts = parts_of(certificate, wired);
     let line = Line::new()
         .word(b"levels: ")
@@ -51,7 +51,7 @@ pub fn put_levels(certificate: &[u8], wired: u8, is_written: bool) -> bool {
         .decimal(parts.nmi as u32)
         .word(b" (NMI)");
     let sum = parts.start as u32 + parts.services as u32 + parts.nmi as u32;
-    put(total(line, sum), is_written)
+    put(rt, total(line, sum), is_written)
 }
 
 // A wired source's name.
@@ -64,14 +64,18 @@ fn source_name(line: Line, wired: u8, source: Source, name: &[u8]) -> Line {
 }
 
 // The line of the wired sources.
-pub fn put_wired(wired: u8, is_written: bool) -> bool {
+pub fn put_wired(rt: &HostRuntime, wired: u8, is_written: bool) -> bool {
     let line = Line::new().word(b"wired:");
     if wired == 0 {
-        return put(line.word(b" none"), is_written);
+        return put(rt, line.word(b" none"), is_written);
     }
     let line = source_name(line, wired, Source::Nmi, b"nmi");
     let line = source_name(line, wired, Source::First, b"1");
     let line = source_name(line, wired, Source::Second, b"2");
     let line = source_name(line, wired, Source::Third, b"3");
-    put(source_name(line, wired, Source::Fourth, b"4"), is_written)
+    put(
+        rt,
+        source_name(line, wired, Source::Fourth, b"4"),
+        is_written,
+    )
 }

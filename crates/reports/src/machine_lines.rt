@@ -70,13 +70,13 @@ fn flags_text(line: Line, name: &[u8], flags: Flags) -> Line {
     digit(zero.word(b" C "), flags.carry)
 }
 
-fn put_flags(pairs: FlagPairs, is_written: bool) -> bool {
+fn put_flags(rt: &HostRuntime, pairs: FlagPairs, is_written: bool) -> bool {
     let normal = pairs.normal;
     let interrupt = pairs.interrupt;
     let nmi = pairs.nmi;
     let line = flags_text(Line::new(), b"flags: normal", normal);
     let line = flags_text(line, b", interrupt", interrupt);
-    put(flags_text(line, b", NMI", nmi), is_written)
+    put(rt, flags_text(line, b", NMI", nmi), is_written)
 }
 
 // The return addresses in use, the top first. They have no page: the bank byte picks it when they are returned to.
@@ -109,19 +109,19 @@ fn data_text(bytes: &[u8; 256], row: usize) -> Line {
     text
 }
 
-fn put_row(bytes: &[u8; 256], row: usize, is_written: bool) -> bool {
+fn put_row(rt: &HostRuntime, bytes: &[u8; 256], row: usize, is_written: bool) -> bool {
     let text = data_text(bytes, row);
     if text.count <= 5 {
         return is_written;
     }
-    put(text, is_written)
+    put(rt, text, is_written)
 }
 
-fn put_data(bytes: &[u8; 256], is_written: bool) -> bool {
+fn put_data(rt: &HostRuntime, bytes: &[u8; 256], is_written: bool) -> bool {
     let mut is_written = is_written;
     let mut row = 0usize;
     while row < 16 {
-        is_written = put_row(bytes, row, is_written);
+        is_written = put_row(rt, bytes, row, is_written);
         row += 1;
     }
     is_written
@@ -134,7 +134,7 @@ pub fn bank_of(m: Machine) -> u8 {
 }
 
 // The machine of an image of so many bytes in lines: control, flags, and the data bytes that are not 0.
-pub fn put_machine(length: usize, m: Machine, is_written: bool) -> bool {
+pub fn put_machine(rt: &HostRuntime, length: usize, m: Machine, is_written: bool) -> bool {
     let c = m.control;
     let mode = c.mode;
     let stack = m.stack;
@@ -147,9 +147,9 @@ pub fn put_machine(length: usize, m: Machine, is_written: bool) -> bool {
     } else {
         line
     };
-    let is_put = put(line, is_written);
+    let is_put = put(rt, line, is_written);
     let line = Line::new().word(b"levels: ").decimal(c.levels as u32);
-    let is_put = put(stack_text(line, &stack, c.levels), is_put);
-    let is_put = put_flags(pairs, is_put);
-    put_data(&bytes, is_put)
+    let is_put = put(rt, stack_text(line, &stack, c.levels), is_put);
+    let is_put = put_flags(rt, pairs, is_put);
+    put_data(rt, &bytes, is_put)
 }

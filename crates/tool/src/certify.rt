@@ -15,36 +15,42 @@ use reports::FAILED;
 use reports::answers::{Subject, put_checked, put_refusal};
 
 // The file is written before the answer, and not touched where there is no certificate.
-fn answer(output: usize, image: &[u8], marks: &mut [u8], subject: Subject) -> u8
+fn answer(rt: &HostRuntime, output: usize, image: &[u8], marks: &mut [u8], subject: Subject) -> u8
     ensures { ZeroMeansAccepted image.now subject.wired result }
 {
     match make(image, subject.wired, marks) {
-        Made::Refused(refusal) => put_refusal(image, marks, subject, refusal),
+        Made::Refused(refusal) => put_refusal(rt, image, marks, subject, refusal),
         Made::Written(_) => {
-            if !write_file(output, marks) {
+            if !write_file(rt, output, marks) {
                 return FAILED;
             }
-            put_checked(image, marks, subject)
+            put_checked(rt, image, marks, subject)
         }
     }
 }
 
-fn certify_image(places: &[usize; PLACES], file: &mut [u8], wired: u8) -> u8 {
+fn certify_image(rt: &HostRuntime, places: &[usize; PLACES], file: &mut [u8], wired: u8) -> u8 {
     let mut space = [0u8; SPACE];
     let mut marks = [0u8; 4096];
-    let ImageRead::Whole { rom, by } = load_image(places, file, &mut space) else {
+    let ImageRead::Whole { rom, by } = load_image(rt, places, file, &mut space) else {
         return FAILED;
     };
-    let subject = subject_of(places, rom, by, wired, true);
+    let subject = subject_of(rt, places, rom, by, wired, true);
     let output = places[OUTPUT];
     let first = image_start(rom);
     let first_mark = marks_start(rom);
-    answer(output, &space[first..], &mut marks[first_mark..], subject)
+    answer(
+        rt,
+        output,
+        &space[first..],
+        &mut marks[first_mark..],
+        subject,
+    )
 }
 
-pub fn run(places: &[usize; PLACES], file: &mut [u8]) -> u8 {
-    match wired_argument(places[WIRED]) {
-        Wired::Byte(wired) => certify_image(places, file, wired),
-        Wired::Wrong => put_usage(bad_value(places, WIRED)),
+pub fn run(rt: &HostRuntime, places: &[usize; PLACES], file: &mut [u8]) -> u8 {
+    match wired_argument(rt, places[WIRED]) {
+        Wired::Byte(wired) => certify_image(rt, places, file, wired),
+        Wired::Wrong => put_usage(rt, bad_value(places, WIRED)),
     }
 }

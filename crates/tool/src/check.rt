@@ -14,6 +14,7 @@ use reports::answers::{Subject, put_checked, put_refusal};
 
 // The exit status 0 means that a certificate of the image is accepted.
 fn answer(
+    rt: &HostRuntime,
     places: &[usize; PLACES],
     file: &mut [u8],
     image: &[u8],
@@ -22,23 +23,24 @@ fn answer(
 ) -> u8
     ensures { ZeroMeansAccepted image.now subject.wired result }
 {
-    match load_marks(places, file, image, subject.wired, marks) {
-        Marks::Ready => put_checked(image, marks, subject),
-        Marks::Refused(refusal) => put_refusal(image, marks, subject, refusal),
+    match load_marks(rt, places, file, image, subject.wired, marks) {
+        Marks::Ready => put_checked(rt, image, marks, subject),
+        Marks::Refused(refusal) => put_refusal(rt, image, marks, subject, refusal),
         Marks::Failed => FAILED,
     }
 }
 
-fn check_image(places: &[usize; PLACES], file: &mut [u8], wired: u8) -> u8 {
+fn check_image(rt: &HostRuntime, places: &[usize; PLACES], file: &mut [u8], wired: u8) -> u8 {
     let mut space = [0u8; SPACE];
     let mut marks = [0u8; 4096];
-    let ImageRead::Whole { rom, by } = load_image(places, file, &mut space) else {
+    let ImageRead::Whole { rom, by } = load_image(rt, places, file, &mut space) else {
         return FAILED;
     };
-    let subject = subject_of(places, rom, by, wired, places[MARKS] == 0);
+    let subject = subject_of(rt, places, rom, by, wired, places[MARKS] == 0);
     let first = image_start(rom);
     let first_mark = marks_start(rom);
     answer(
+        rt,
         places,
         file,
         &space[first..],
@@ -47,9 +49,9 @@ fn check_image(places: &[usize; PLACES], file: &mut [u8], wired: u8) -> u8 {
     )
 }
 
-pub fn run(places: &[usize; PLACES], file: &mut [u8]) -> u8 {
-    match wired_argument(places[WIRED]) {
-        Wired::Byte(wired) => check_image(places, file, wired),
-        Wired::Wrong => put_usage(bad_value(places, WIRED)),
+pub fn run(rt: &HostRuntime, places: &[usize; PLACES], file: &mut [u8]) -> u8 {
+    match wired_argument(rt, places[WIRED]) {
+        Wired::Byte(wired) => check_image(rt, places, file, wired),
+        Wired::Wrong => put_usage(rt, bad_value(places, WIRED)),
     }
 }

@@ -2,7 +2,11 @@
 ghost use Rattle.std.specs.Prelude.{◌≡◌, length};
 ghost use Rattle.io.specs.Counts.{IsPrefixLen};
 
-use reports::output::put_error;
+use crate::arguments::{WORD, word_at};
+use reports::output::{put_error, put_system_error};
+use std::fs::File;
+use std::io::{Read, Write};
+use std::{fs, io, str};
 
 // One byte more than the longest record, and one more again, so that a buffer that is full means a file that is longer.
 const FILE_SPACE: usize = 1048582;
@@ -15,85 +19,106 @@ pub fn file_space() -> [u8; FILE_SPACE]
 }
 
 // Begins an error's line: `st62: FILE: `.
-pub fn put_file_error(argument: usize) {
-    let mut path = io::buffer();
-    let length = os::arg(argument, &mut path);
-    put_error(b"st62: ");
-    put_error(&path[..length]);
-    put_error(b": ");
+pub fn put_file_error(rt: &HostRuntime, argument: usize) {
+    let mut path = [0u8; WORD];
+    let length = word_at(rt, argument, &mut path);
+    put_path(rt, &path[..length]);
+}
+
+fn put_path(rt: &HostRuntime, path: &[u8]) {
+    put_error(rt, b"st62: ");
+    put_error(rt, path);
+    put_error(rt, b": ");
 }
 
 // Says why a call on a file failed: `st62: FILE: reason`.
-pub fn put_failure(path: &[u8]) {
-    put_error(b"st62: ");
-    os::fail(path);
+pub fn put_failure(rt: &HostRuntime, path: &[u8], error: &io::Error) {
+    put_path(rt, path);
+    put_system_error(rt, error);
 }
 
-fn put_too_long(path: &[u8]) {
-    put_error(b"st62: ");
-    put_error(path);
-    put_error(b": longer than any image or record\n");
+fn put_too_long(rt: &HostRuntime, path: &[u8]) {
+    put_path(rt, path);
+    put_error(rt, b"longer than any image or record\n");
 }
 
 // Reads until the file ends or the buffer is full.
-fn read_rest(fd: i32, path: &[u8], buffer: &mut [u8]) -> usize
+fn read_rest(rt: &HostRuntime, file: &mut File, path: &[u8], buffer: &mut [u8]) -> usize
     ensures { IsPrefixLen result buffer.new }
 {
     let mut done = 0;
     while done < buffer.len() {
-        let got = libc::read(fd, &mut buffer[done..]);
-        if got < 0 {
-            put_failure(path);
-            return buffer.len();
+        match file.read(&mut buffer[done..]) {
+            Err(error) => {
+                put_failure(rt, path, &error);
+                return buffer.len();
+            }
+            Ok(0) => return done,
+            Ok(more) => done += more,
         }
-        let more = io::count(got, &buffer[done..]);
-        if more == 0 {
-            return done;
-        }
-        done += more;
     }
-    put_too_long(path);
+    put_too_long(rt, path);
     buffer.len()
+}
+
+// A path as the system's calls take it: text, or the error of one that is none.
+fn path_of(path: &[u8]) -> io::Result<&str> {
+    match str::from_utf8(path) {
+        Ok(text) => Ok(text),
+        Err(_) => Err(io::Error::new(io::ErrorKind::InvalidInput, "its name is not UTF-8")),
+    }
+}
+
+fn open(rt: &HostRuntime, path: &[u8]) -> io::Result<File> {
+    File::open(rt, path_of(path)?)
 }
 
 // Reads the file that an argument names. A buffer that is full means that it could not be read, or is too long; why has
 // been said on standard error.
-pub fn read_file(argument: usize, buffer: &mut [u8]) -> usize
+pub fn read_file(rt: &HostRuntime, argument: usize, buffer: &mut [u8]) -> usize
     ensures { IsPrefixLen result buffer.new }
 {
-    let mut path = io::buffer();
-    let length = os::arg(argument, &mut path);
-    let fd = os::open_read(&path[..length]);
-    if fd < 0 {
-        put_failure(&path[..length]);
-        return buffer.len();
+    let mut path = [0u8; WORD];
+    let length = word_at(rt, argument, &mut path);
+    match open(rt, &path[..length]) {
+        Err(error) => {
+            put_failure(rt, &path[..length], &error);
+            buffer.len()
+        }
+        Ok(mut file) => read_rest(rt, &mut file, &path[..length], buffer),
     }
-    let done = read_rest(fd, &path[..length], buffer);
-    libc::close(fd);
-    done
+}
+
+// Writes a new file whole, down to the disk, which tells what closing it would.
+fn fill(file: &mut File, content: &[u8]) -> io::Result<()> {
+    file.write_all(content)?;
+    file.sync_all()
+}
+
+// Makes a file, and removes it again if it could not be written whole.
+fn make_file(rt: &HostRuntime, path: &str, content: &[u8]) -> io::Result<()> {
+    let mut file = File::create_new(rt, path)?;
+    let filled = fill(&mut file, content);
+    if filled.is_err() {
+        let _ = fs::remove_file(rt, path);
+    }
+    filled
+}
+
+fn make_named(rt: &HostRuntime, path: &[u8], content: &[u8]) -> io::Result<()> {
+    make_file(rt, path_of(path)?, content)
 }
 
 // Makes the file that an argument names; whether all was written. It takes no name that exists, so that it overwrites
 // neither the image nor an older certificate; a file that could not be written whole is removed.
-pub fn write_file(argument: usize, content: &[u8]) -> bool {
-    let mut path = io::buffer();
-    let length = os::arg(argument, &mut path);
-    let fd = os::create(&path[..length]);
-    if fd < 0 {
-        put_failure(&path[..length]);
-        return false;
+pub fn write_file(rt: &HostRuntime, argument: usize, content: &[u8]) -> bool {
+    let mut path = [0u8; WORD];
+    let length = word_at(rt, argument, &mut path);
+    match make_named(rt, &path[..length], content) {
+        Ok(()) => true,
+        Err(error) => {
+            put_failure(rt, &path[..length], &error);
+            false
+        }
     }
-    let is_written = io::write_all(fd, content);
-    if !is_written {
-        put_failure(&path[..length]);
-        libc::close(fd);
-        os::unlink(&path[..length]);
-        return false;
-    }
-    if libc::close(fd) < 0 {
-        put_failure(&path[..length]);
-        os::unlink(&path[..length]);
-        return false;
-    }
-    true
 }

@@ -1,303 +1,352 @@
 // Help, version, and what is wrong with a command line.
-use libc::{STDERR_FILENO, STDOUT_FILENO};
+use crate::arguments::{WORD, word_at};
 use options::Command;
 use options::command_line::Usage;
 use options::words::{
     COUNT, FILL, HELP, IMAGE, MARKS, OUTPUT, QUIET, RAW, RECORD, REQUEST, ROM, STEPS, WIRED,
 };
-use reports::output::{finish, put_error, put_text, put_to};
+use reports::output::{Stream, finish, put_error, put_text, put_to};
 use reports::{DONE, FAILED};
 
 // Help on `check`.
-fn put_check(is_written: bool) -> bool {
+fn put_check(rt: &HostRuntime, is_written: bool) -> bool {
     let is_written = put_text(
+        rt,
         b"usage: st62 check --wired SOURCES [--marks FILE] IMAGE\n",
         is_written,
     );
     let is_written = put_text(
+        rt,
         b"Says whether the program ever needs a seventh level, and how many it uses at most.\n",
         is_written,
     );
     let is_written = put_text(
+        rt,
         b"Without --marks the least certificate is made, and then checked.\n",
         is_written,
     );
     let is_written = put_text(
+        rt,
         b"  --wired SOURCES  every source that the program can enable, and nmi if its pin\n",
         is_written,
     );
-    let is_written = put_text(b"                   can move; never assumed\n", is_written);
+    let is_written = put_text(
+        rt,
+        b"                   can move; never assumed\n",
+        is_written,
+    );
     put_text(
+        rt,
         b"  --marks FILE     a certificate, Intel HEX or raw: a mark for each ROM address\n",
         is_written,
     )
 }
 
 // Help on `certify`.
-fn put_certify(is_written: bool) -> bool {
+fn put_certify(rt: &HostRuntime, is_written: bool) -> bool {
     let is_written = put_text(
+        rt,
         b"usage: st62 certify --wired SOURCES IMAGE -o FILE\n",
         is_written,
     );
     let is_written = put_text(
+        rt,
         b"Writes the least certificate that is accepted, raw, or says why there is none.\n",
         is_written,
     );
-    let is_written = put_text(b"  --wired SOURCES  as for check\n", is_written);
+    let is_written = put_text(rt, b"  --wired SOURCES  as for check\n", is_written);
     put_text(
+        rt,
         b"  -o FILE          a new file, made only where there is a certificate\n",
         is_written,
     )
 }
 
 // Help on `list`.
-fn put_list(is_written: bool) -> bool {
+fn put_list(rt: &HostRuntime, is_written: bool) -> bool {
     let is_written = put_text(
+        rt,
         b"usage: st62 list [--wired SOURCES | --marks FILE] IMAGE\n",
         is_written,
     );
     let is_written = put_text(
+        rt,
         b"Lists what is marked: address, bytes, instruction, mark, kind, need; what lies\nbelow 800h page by page, as 2:3F0, where there are several.\n",
         is_written,
     );
     put_text(
+        rt,
         b"Without --marks the marks are made for the SOURCES, none if not given; with\nboth, --wired says nothing.\n",
         is_written,
     )
 }
 
 // Help on `trace`.
-fn put_trace(is_written: bool) -> bool {
+fn put_trace(rt: &HostRuntime, is_written: bool) -> bool {
     let is_written = put_text(
+        rt,
         b"usage: st62 trace IMAGE --steps N [--request STEP=SOURCE]...\n",
         is_written,
     );
     let is_written = put_text(
+        rt,
         b"Runs a fresh machine for N steps (at most 65535), one line for each.\n",
         is_written,
     );
     put_text(
+        rt,
         b"  --request STEP=SOURCE  the source asks at that step, counted from 0\n",
         is_written,
     )
 }
 
 // Help on `size`.
-fn put_size(is_written: bool) -> bool {
+fn put_size(rt: &HostRuntime, is_written: bool) -> bool {
     let is_written = put_text(
+        rt,
         b"usage: st62 size IMAGE [--marks FILE] --count N\n",
         is_written,
     );
     let is_written = put_text(
+        rt,
         b"The width in millimetres that the gauge would show for the slide count N\n",
         is_written,
     );
     put_text(
+        rt,
         b"(0 to 255), and the steps. Without --marks the certificate is made. Images of 2K\nand 4K only.\n",
         is_written,
     )
 }
 
 // Help on `play`.
-fn put_play(is_written: bool) -> bool {
-    let is_written = put_text(b"usage: st62 play IMAGE RECORD\n", is_written);
+fn put_play(rt: &HostRuntime, is_written: bool) -> bool {
+    let is_written = put_text(rt, b"usage: st62 play IMAGE RECORD\n", is_written);
     let is_written = put_text(
+        rt,
         b"Plays a session's record on a fresh machine, and shows the last machine, or the\n",
         is_written,
     );
     put_text(
+        rt,
         b"entry that ended the playing, with its reason.\n",
         is_written,
     )
 }
 
 // All commands.
-fn put_commands(output: i32, is_written: bool) -> bool {
+fn put_commands(rt: &HostRuntime, stream: Stream, is_written: bool) -> bool {
     let is_written = put_to(
-        output,
+        rt,
+        stream,
         b"usage: st62 check   --wired SOURCES [--marks FILE] IMAGE\n",
         is_written,
     );
     let is_written = put_to(
-        output,
+        rt,
+        stream,
         b"       st62 certify --wired SOURCES IMAGE -o FILE\n",
         is_written,
     );
     let is_written = put_to(
-        output,
+        rt,
+        stream,
         b"       st62 list    [--wired SOURCES | --marks FILE] IMAGE\n",
         is_written,
     );
     let is_written = put_to(
-        output,
+        rt,
+        stream,
         b"       st62 trace   IMAGE --steps N [--request STEP=SOURCE]...\n",
         is_written,
     );
     let is_written = put_to(
-        output,
+        rt,
+        stream,
         b"       st62 size    IMAGE [--marks FILE] --count N\n",
         is_written,
     );
-    let is_written = put_to(output, b"       st62 play    IMAGE RECORD\n", is_written);
+    let is_written = put_to(
+        rt,
+        stream,
+        b"       st62 play    IMAGE RECORD\n",
+        is_written,
+    );
     put_to(
-        output,
+        rt,
+        stream,
         b"       st62 --help | --version | COMMAND --help\n",
         is_written,
     )
 }
 
 // What all commands have in common.
-fn put_common(is_written: bool) -> bool {
+fn put_common(rt: &HostRuntime, is_written: bool) -> bool {
     let is_written = put_text(
+        rt,
         b"IMAGE is Intel HEX (it begins with a colon), 2K or 4K; or raw bytes, 2K, 4K, or\n6K to 20K: pages of 2K, then the fixed half.\n",
         is_written,
     );
     let is_written = put_text(
+        rt,
         b"SOURCES are names with commas between them, of nmi, 1, 2, 3, 4; or none.\n",
         is_written,
     );
     let is_written = put_text(
+        rt,
         b"  --rom 2K|4K   the size of a HEX file's image; else by the lowest address named\n",
         is_written,
     );
     let is_written = put_text(
+        rt,
         b"  --fill HH     the byte where a HEX file names none, 00 if not given\n",
         is_written,
     );
     let is_written = put_text(
+        rt,
         b"  --raw         IMAGE is raw, even if it begins with a colon\n",
         is_written,
     );
     let is_written = put_text(
+        rt,
         b"  --quiet       only the answer: no reason, no line of the image\n",
         is_written,
     );
     put_text(
+        rt,
         b"Exit status: 0 accepted or done, 1 refused or stopped, 2 usage, input or output.\n",
         is_written,
     )
 }
 
 // Help on a command, or on all.
-pub fn put_help(command: Command) -> u8 {
+pub fn put_help(rt: &HostRuntime, command: Command) -> u8 {
     let begun = match command {
-        Command::Check => put_check(true),
-        Command::Certify => put_certify(true),
-        Command::List => put_list(true),
-        Command::Trace => put_trace(true),
-        Command::Size => put_size(true),
-        Command::Play => put_play(true),
-        _ => put_commands(STDOUT_FILENO, true),
+        Command::Check => put_check(rt, true),
+        Command::Certify => put_certify(rt, true),
+        Command::List => put_list(rt, true),
+        Command::Trace => put_trace(rt, true),
+        Command::Size => put_size(rt, true),
+        Command::Play => put_play(rt, true),
+        _ => put_commands(rt, Stream::Output, true),
     };
-    finish(DONE, put_common(begun))
+    finish(DONE, put_common(rt, begun))
 }
 
 // The version, the toolchain, and what is proved and what is not.
-fn put_about(is_written: bool) -> bool {
-    let is_written = put_text(b"st62 0.1\n", is_written);
-    let is_written = put_text(b"built with rattle-kit-5b\n", is_written);
+fn put_about(rt: &HostRuntime, is_written: bool) -> bool {
+    let is_written = put_text(rt, b"st62 0.1\n", is_written);
+    let is_written = put_text(rt, b"built with rattle-kit-13f\n", is_written);
     let is_written = put_text(
+        rt,
         b"proved: Intel HEX and listing as defined; machine, check, maker, gauge, records by the papers; every function returns\n",
         is_written,
     );
     put_text(
+        rt,
         b"not proved: wording, files, terminals, the C library's calls; the toolchain's prover and compiler are trusted\n",
         is_written,
     )
 }
 
-pub fn put_version() -> u8 {
-    finish(DONE, put_about(true))
+pub fn put_version(rt: &HostRuntime) -> u8 {
+    finish(DONE, put_about(rt, true))
 }
 
 // An argument that is wrong: `st62: WORD: reason`.
-fn put_argument(argument: usize, reason: &[u8]) {
-    let mut word = io::buffer();
-    let length = os::arg(argument, &mut word);
-    put_error(b"st62: ");
-    put_error(&word[..length]);
-    put_error(reason);
+fn put_argument(rt: &HostRuntime, argument: usize, reason: &[u8]) {
+    let mut word = [0u8; WORD];
+    let length = word_at(rt, argument, &mut word);
+    put_error(rt, b"st62: ");
+    put_error(rt, &word[..length]);
+    put_error(rt, reason);
 }
 
 // The name of an option, by its place.
-fn put_name(place: usize) {
+fn put_name(rt: &HostRuntime, place: usize) {
     match place {
-        WIRED => put_error(b"--wired"),
-        MARKS => put_error(b"--marks"),
-        OUTPUT => put_error(b"-o"),
-        STEPS => put_error(b"--steps"),
-        REQUEST => put_error(b"--request"),
-        COUNT => put_error(b"--count"),
-        ROM => put_error(b"--rom"),
-        FILL => put_error(b"--fill"),
-        RAW => put_error(b"--raw"),
-        QUIET => put_error(b"--quiet"),
-        HELP => put_error(b"--help"),
-        _ => put_error(b"a file"),
+        WIRED => put_error(rt, b"--wired"),
+        MARKS => put_error(rt, b"--marks"),
+        OUTPUT => put_error(rt, b"-o"),
+        STEPS => put_error(rt, b"--steps"),
+        REQUEST => put_error(rt, b"--request"),
+        COUNT => put_error(rt, b"--count"),
+        ROM => put_error(rt, b"--rom"),
+        FILL => put_error(rt, b"--fill"),
+        RAW => put_error(rt, b"--raw"),
+        QUIET => put_error(rt, b"--quiet"),
+        HELP => put_error(rt, b"--help"),
+        _ => put_error(rt, b"a file"),
     }
 }
 
 // What is wrong with an option: `st62: OPTION: reason`.
-fn put_option(place: usize, reason: &[u8]) {
-    put_error(b"st62: ");
-    put_name(place);
-    put_error(reason);
+fn put_option(rt: &HostRuntime, place: usize, reason: &[u8]) {
+    put_error(rt, b"st62: ");
+    put_name(rt, place);
+    put_error(rt, reason);
 }
 
 // What an option's value can be.
-fn put_values(place: usize) {
+fn put_values(rt: &HostRuntime, place: usize) {
     match place {
-        WIRED => put_error(b": sources are nmi, 1, 2, 3, 4 with commas between them, or none\n"),
-        STEPS => put_error(b": 0 to 65535\n"),
-        REQUEST => put_error(b": STEP=SOURCE, a step below --steps\n"),
-        COUNT => put_error(b": 0 to 255\n"),
-        ROM => put_error(b": 2K or 4K\n"),
-        FILL => put_error(b": two hexadecimal digits\n"),
-        _ => put_error(b": no such value\n"),
+        WIRED => put_error(
+            rt,
+            b": sources are nmi, 1, 2, 3, 4 with commas between them, or none\n",
+        ),
+        STEPS => put_error(rt, b": 0 to 65535\n"),
+        REQUEST => put_error(rt, b": STEP=SOURCE, a step below --steps\n"),
+        COUNT => put_error(rt, b": 0 to 255\n"),
+        ROM => put_error(rt, b": 2K or 4K\n"),
+        FILL => put_error(rt, b": two hexadecimal digits\n"),
+        _ => put_error(rt, b": no such value\n"),
     }
 }
 
 // An option's value that it cannot have: `st62: OPTION VALUE: what it can be`.
-fn put_bad_value(place: usize, argument: usize) {
-    let mut word = io::buffer();
-    let length = os::arg(argument, &mut word);
-    put_option(place, b" ");
-    put_error(&word[..length]);
-    put_values(place);
+fn put_bad_value(rt: &HostRuntime, place: usize, argument: usize) {
+    let mut word = [0u8; WORD];
+    let length = word_at(rt, argument, &mut word);
+    put_option(rt, place, b" ");
+    put_error(rt, &word[..length]);
+    put_values(rt, place);
 }
 
 // What is missing.
-fn put_missing(place: usize) {
+fn put_missing(rt: &HostRuntime, place: usize) {
     match place {
-        IMAGE => put_error(b"st62: no image\n"),
-        RECORD => put_error(b"st62: no record\n"),
-        WIRED => put_error(b"st62: --wired is missing: the wired sources are never assumed\n"),
-        OUTPUT => put_error(b"st62: -o is missing\n"),
-        STEPS => put_error(b"st62: --steps is missing\n"),
-        COUNT => put_error(b"st62: --count is missing\n"),
-        _ => put_error(b"st62: an option is missing\n"),
+        IMAGE => put_error(rt, b"st62: no image\n"),
+        RECORD => put_error(rt, b"st62: no record\n"),
+        WIRED => put_error(
+            rt,
+            b"st62: --wired is missing: the wired sources are never assumed\n",
+        ),
+        OUTPUT => put_error(rt, b"st62: -o is missing\n"),
+        STEPS => put_error(rt, b"st62: --steps is missing\n"),
+        COUNT => put_error(rt, b"st62: --count is missing\n"),
+        _ => put_error(rt, b"st62: an option is missing\n"),
     }
 }
 
-fn put_wrong(usage: Usage) {
+fn put_wrong(rt: &HostRuntime, usage: Usage) {
     match usage {
         Usage::Fine => {}
-        Usage::NoCommand => put_error(b"st62: no command\n"),
-        Usage::UnknownCommand => put_argument(1, b": unknown command\n"),
-        Usage::UnknownOption(argument) => put_argument(argument, b": unknown option\n"),
-        Usage::TooManyFiles(argument) => put_argument(argument, b": one file too many\n"),
-        Usage::TooLong(_) => put_error(b"st62: an argument is too long\n"),
-        Usage::Unfit(place) => put_option(place, b": not an option of this command\n"),
-        Usage::Twice(place) => put_option(place, b": given twice\n"),
-        Usage::NoValue(place) => put_option(place, b": its value is missing\n"),
-        Usage::BadValue { place, argument } => put_bad_value(place, argument),
-        Usage::Missing(place) => put_missing(place),
+        Usage::NoCommand => put_error(rt, b"st62: no command\n"),
+        Usage::UnknownCommand => put_argument(rt, 1, b": unknown command\n"),
+        Usage::UnknownOption(argument) => put_argument(rt, argument, b": unknown option\n"),
+        Usage::TooManyFiles(argument) => put_argument(rt, argument, b": one file too many\n"),
+        Usage::TooLong(_) => put_error(rt, b"st62: an argument is too long\n"),
+        Usage::Unfit(place) => put_option(rt, place, b": not an option of this command\n"),
+        Usage::Twice(place) => put_option(rt, place, b": given twice\n"),
+        Usage::NoValue(place) => put_option(rt, place, b": its value is missing\n"),
+        Usage::BadValue { place, argument } => put_bad_value(rt, place, argument),
+        Usage::Missing(place) => put_missing(rt, place),
     }
 }
 
 // Says what is wrong with a command line, and how it is used.
-pub fn put_usage(usage: Usage) -> u8 {
-    put_wrong(usage);
-    put_commands(STDERR_FILENO, true);
+pub fn put_usage(rt: &HostRuntime, usage: Usage) -> u8 {
+    put_wrong(rt, usage);
+    put_commands(rt, Stream::Error, true);
     FAILED
 }

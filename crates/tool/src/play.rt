@@ -27,13 +27,14 @@ fn played_line(report: PlayReport) -> Line {
 
 // The entry that ended the playing, why, and the machine before it.
 fn put_ended(
+    rt: &HostRuntime,
     image: &[u8],
     m: Machine,
     report: PlayReport,
     refusal: Refusal,
     subject: Subject,
 ) -> u8 {
-    let begun = put(refusal_line(Line::new(), refusal), true);
+    let begun = put(rt, refusal_line(Line::new(), refusal), true);
     if subject.quiet {
         return finish(REFUSED, begun);
     }
@@ -41,66 +42,84 @@ fn put_ended(
         .word(b"entry ")
         .decimal(report.entries)
         .word(b" ended the playing");
-    let named = put(line, begun);
-    let told = put_reason(image, bank_of(m), b"", 0, refusal, named);
-    let played = put(played_line(report), told);
-    let shown = put_machine(image.len(), m, played);
-    finish(REFUSED, put_end(image, subject, shown))
+    let named = put(rt, line, begun);
+    let told = put_reason(rt, image, bank_of(m), b"", 0, refusal, named);
+    let played = put(rt, played_line(report), told);
+    let shown = put_machine(rt, image.len(), m, played);
+    finish(REFUSED, put_end(rt, image, subject, shown))
 }
 
 // The whole record was played: the last machine.
-fn put_whole(image: &[u8], m: Machine, report: PlayReport, subject: Subject) -> u8 {
-    let begun = put(played_line(report), true);
+fn put_whole(
+    rt: &HostRuntime,
+    image: &[u8],
+    m: Machine,
+    report: PlayReport,
+    subject: Subject,
+) -> u8 {
+    let begun = put(rt, played_line(report), true);
     if subject.quiet {
         return finish(DONE, begun);
     }
-    let shown = put_machine(image.len(), m, begun);
-    finish(DONE, put_end(image, subject, shown))
+    let shown = put_machine(rt, image.len(), m, begun);
+    finish(DONE, put_end(rt, image, subject, shown))
 }
 
-fn put_report(image: &[u8], m: Machine, report: PlayReport, subject: Subject) -> u8 {
+fn put_report(
+    rt: &HostRuntime,
+    image: &[u8],
+    m: Machine,
+    report: PlayReport,
+    subject: Subject,
+) -> u8 {
     let ending = report.ending;
     match ending {
-        Ending::Done => put_whole(image, m, report, subject),
-        Ending::Refused(refusal) => put_ended(image, m, report, refusal, subject),
+        Ending::Done => put_whole(rt, image, m, report, subject),
+        Ending::Refused(refusal) => put_ended(rt, image, m, report, refusal, subject),
     }
 }
 
 // A record that is refused before anything is played.
-fn put_refused(image: &[u8], refusal: Refusal, subject: Subject) -> u8 {
-    let begun = put(refusal_line(Line::new(), refusal), true);
+fn put_refused(rt: &HostRuntime, image: &[u8], refusal: Refusal, subject: Subject) -> u8 {
+    let begun = put(rt, refusal_line(Line::new(), refusal), true);
     if subject.quiet {
         return finish(REFUSED, begun);
     }
-    let told = put_reason(image, 0, b"", 0, refusal, begun);
-    finish(REFUSED, put_end(image, subject, told))
+    let told = put_reason(rt, image, 0, b"", 0, refusal, begun);
+    finish(REFUSED, put_end(rt, image, subject, told))
 }
 
-fn answer(image: &[u8], recording: &[u8], subject: Subject) -> u8 {
+fn answer(rt: &HostRuntime, image: &[u8], recording: &[u8], subject: Subject) -> u8 {
     let played = play(image, recording);
     let m = played.machine;
     let answer = played.answer;
     match answer {
-        PlayAnswer::Ended(report) => put_report(image, m, report, subject),
-        PlayAnswer::Refused(refusal) => put_refused(image, refusal, subject),
+        PlayAnswer::Ended(report) => put_report(rt, image, m, report, subject),
+        PlayAnswer::Refused(refusal) => put_refused(rt, image, refusal, subject),
     }
 }
 
-fn play_record(record: usize, file: &mut [u8], image: &[u8], subject: Subject) -> u8 {
-    let length = read_file(record, file);
+fn play_record(
+    rt: &HostRuntime,
+    record: usize,
+    file: &mut [u8],
+    image: &[u8],
+    subject: Subject,
+) -> u8 {
+    let length = read_file(rt, record, file);
     if length == file.len() {
         return FAILED;
     }
-    answer(image, &file[..length], subject)
+    answer(rt, image, &file[..length], subject)
 }
 
-pub fn run(places: &[usize; PLACES], file: &mut [u8]) -> u8 {
+pub fn run(rt: &HostRuntime, places: &[usize; PLACES], file: &mut [u8]) -> u8 {
     let mut space = [0u8; SPACE];
-    let ImageRead::Whole { rom, by } = load_image(places, file, &mut space) else {
+    let ImageRead::Whole { rom, by } = load_image(rt, places, file, &mut space) else {
         return FAILED;
     };
-    let subject = subject_of(places, rom, by, 0, false);
+    let subject = subject_of(rt, places, rom, by, 0, false);
     let record = places[RECORD];
     let first = image_start(rom);
-    play_record(record, file, &space[first..], subject)
+    play_record(rt, record, file, &space[first..], subject)
 }

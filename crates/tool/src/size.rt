@@ -17,25 +17,26 @@ use reports::output::{finish, put};
 use reports::{DONE, FAILED};
 
 // Tenths of a millimetre as millimetres with one decimal, and the steps.
-fn put_width(image: &[u8], subject: Subject, tenths: u16, steps: u16) -> u8 {
+fn put_width(rt: &HostRuntime, image: &[u8], subject: Subject, tenths: u16, steps: u16) -> u8 {
     let line = Line::new()
         .decimal((tenths / 10) as u32)
         .letter(b'.')
         .decimal((tenths % 10) as u32)
         .word(b" mm, ");
-    let begun = put(counted(line, steps as u32, b"step"), true);
-    finish(DONE, put_end(image, subject, begun))
+    let begun = put(rt, counted(line, steps as u32, b"step"), true);
+    finish(DONE, put_end(rt, image, subject, begun))
 }
 
-fn put_sizing(image: &[u8], marks: &mut [u8], subject: Subject, count: u8) -> u8 {
+fn put_sizing(rt: &HostRuntime, image: &[u8], marks: &mut [u8], subject: Subject, count: u8) -> u8 {
     match width(image, marks, count) {
-        Sizing::Measured { width, steps } => put_width(image, subject, width, steps),
-        Sizing::Refused(refusal) => put_refusal(image, marks, subject, refusal),
+        Sizing::Measured { width, steps } => put_width(rt, image, subject, width, steps),
+        Sizing::Refused(refusal) => put_refusal(rt, image, marks, subject, refusal),
     }
 }
 
 // An image with pages is the gauge's to refuse, before marks are read or made.
 fn answer(
+    rt: &HostRuntime,
     places: &[usize; PLACES],
     file: &mut [u8],
     image: &[u8],
@@ -44,25 +45,26 @@ fn answer(
     count: u8,
 ) -> u8 {
     if PROGRAM_SPACE < image.len() {
-        return put_sizing(image, marks, subject, count);
+        return put_sizing(rt, image, marks, subject, count);
     }
-    match load_marks(places, file, image, 0, marks) {
-        Marks::Ready => put_sizing(image, marks, subject, count),
-        Marks::Refused(refusal) => put_refusal(image, marks, subject, refusal),
+    match load_marks(rt, places, file, image, 0, marks) {
+        Marks::Ready => put_sizing(rt, image, marks, subject, count),
+        Marks::Refused(refusal) => put_refusal(rt, image, marks, subject, refusal),
         Marks::Failed => FAILED,
     }
 }
 
-fn size_image(places: &[usize; PLACES], file: &mut [u8], count: u8) -> u8 {
+fn size_image(rt: &HostRuntime, places: &[usize; PLACES], file: &mut [u8], count: u8) -> u8 {
     let mut space = [0u8; SPACE];
     let mut marks = [0u8; 4096];
-    let ImageRead::Whole { rom, by } = load_image(places, file, &mut space) else {
+    let ImageRead::Whole { rom, by } = load_image(rt, places, file, &mut space) else {
         return FAILED;
     };
-    let subject = subject_of(places, rom, by, 0, places[MARKS] == 0);
+    let subject = subject_of(rt, places, rom, by, 0, places[MARKS] == 0);
     let first = image_start(rom);
     let first_mark = marks_start(rom);
     answer(
+        rt,
         places,
         file,
         &space[first..],
@@ -72,14 +74,14 @@ fn size_image(places: &[usize; PLACES], file: &mut [u8], count: u8) -> u8 {
     )
 }
 
-pub fn run(places: &[usize; PLACES], file: &mut [u8]) -> u8 {
-    match number_argument(places[COUNT]) {
+pub fn run(rt: &HostRuntime, places: &[usize; PLACES], file: &mut [u8]) -> u8 {
+    match number_argument(rt, places[COUNT]) {
         Parsed::Number(count) => {
             if 255 < count {
-                return put_usage(bad_value(places, COUNT));
+                return put_usage(rt, bad_value(places, COUNT));
             }
-            size_image(places, file, count as u8)
+            size_image(rt, places, file, count as u8)
         }
-        Parsed::Wrong => put_usage(bad_value(places, COUNT)),
+        Parsed::Wrong => put_usage(rt, bad_value(places, COUNT)),
     }
 }

@@ -1,7 +1,7 @@
 // `st62 trace`: a fresh machine, step by step.
 ghost use Rattle.std.specs.Prelude.{◌≤◌};
 
-use crate::arguments::{number_argument, read_argument, request_argument};
+use crate::arguments::{argument_count, number_argument, read_argument, request_argument};
 use crate::help::put_usage;
 use crate::image::{image_start, load_image, subject_of};
 use bench::services::{ended_request, latest_source};
@@ -119,6 +119,7 @@ fn service_note(
 
 // Writes the line of a step that completed. `latest` is the source taken last.
 fn put_step(
+    rt: &HostRuntime,
     number: u16,
     length: usize,
     before: Machine,
@@ -137,6 +138,7 @@ fn put_step(
     let line = step_line(begun, length, before, after, report, cycles);
     let taken = request_in(action);
     put(
+        rt,
         service_note(line, before.control, after.control, taken, latest),
         is_written,
     )
@@ -160,25 +162,37 @@ fn is_stopped(stepped: Stepped) -> bool {
 }
 
 // Why a step was refused or stopped, after the job program's line of it. A stop leaves the machine as it was.
-fn put_stop(image: &[u8], subject: Subject, stepped: Stepped, is_written: bool) -> u8 {
+fn put_stop(
+    rt: &HostRuntime,
+    image: &[u8],
+    subject: Subject,
+    stepped: Stepped,
+    is_written: bool,
+) -> u8 {
     let m = stepped.machine;
     let report = stepped.report;
     let answer = report.answer;
     match answer {
         StepAnswer::Done(_) => finish(DONE, is_written),
         StepAnswer::Refused(refusal) => {
-            let begun = put(refusal_line(Line::new(), refusal), is_written);
+            let begun = put(rt, refusal_line(Line::new(), refusal), is_written);
             if subject.quiet {
                 return finish(REFUSED, begun);
             }
-            let told = put_reason(image, bank_of(m), b"", 0, refusal, begun);
-            finish(REFUSED, put_end(image, subject, told))
+            let told = put_reason(rt, image, bank_of(m), b"", 0, refusal, begun);
+            finish(REFUSED, put_end(rt, image, subject, told))
         }
     }
 }
 
 // The steps of a fresh machine, up to the first that stops.
-fn put_steps(image: &[u8], requests: &[u8; MOST_STEPS], steps: u16, subject: Subject) -> u8 {
+fn put_steps(
+    rt: &HostRuntime,
+    image: &[u8],
+    requests: &[u8; MOST_STEPS],
+    steps: u16,
+    subject: Subject,
+) -> u8 {
     let mut m = fresh();
     let mut latest = Source::Nmi;
     let mut is_written = true;
@@ -187,30 +201,31 @@ fn put_steps(image: &[u8], requests: &[u8; MOST_STEPS], steps: u16, subject: Sub
         let request = requests[i as usize];
         let stepped = step(image, m, request);
         if is_stopped(stepped) {
-            return put_stop(image, subject, stepped, is_written);
+            return put_stop(rt, image, subject, stepped, is_written);
         }
         latest = latest_after(latest, stepped);
-        is_written = put_step(i, image.len(), m, stepped, latest, is_written);
+        is_written = put_step(rt, i, image.len(), m, stepped, latest, is_written);
         m = stepped.machine;
         i += 1;
     }
-    finish(DONE, put_end(image, subject, is_written))
+    finish(DONE, put_end(rt, image, subject, is_written))
 }
 
 // Reads an argument as the command line is read, and notes the request that it gives, if any; whether it is one, within
 // the steps, where one is awaited.
 fn note_request(
+    rt: &HostRuntime,
     places: &mut [usize; PLACES],
     argument: usize,
     steps: u16,
     requests: &mut [u8; MOST_STEPS],
 ) -> bool {
     let awaited = places[AWAITED];
-    read_argument(places, Command::Trace, argument);
+    read_argument(rt, places, Command::Trace, argument);
     if awaited != REQUEST {
         return true;
     }
-    match request_argument(argument) {
+    match request_argument(rt, argument) {
         Request::At(at, bit) => {
             if steps <= at {
                 return false;
@@ -223,12 +238,12 @@ fn note_request(
 }
 
 // The requests of all arguments; the number of the first that is none, or 0.
-fn read_requests(steps: u16, requests: &mut [u8; MOST_STEPS]) -> usize {
+fn read_requests(rt: &HostRuntime, steps: u16, requests: &mut [u8; MOST_STEPS]) -> usize {
     let mut places = [0usize; PLACES];
-    let count = os::arg_count();
+    let count = argument_count(rt);
     let mut argument = 2;
     while argument < count {
-        if !note_request(&mut places, argument, steps, requests) {
+        if !note_request(rt, &mut places, argument, steps, requests) {
             return argument;
         }
         argument += 1;
@@ -237,35 +252,44 @@ fn read_requests(steps: u16, requests: &mut [u8; MOST_STEPS]) -> usize {
 }
 
 fn trace_image(
+    rt: &HostRuntime,
     places: &[usize; PLACES],
     file: &mut [u8],
     requests: &[u8; MOST_STEPS],
     steps: u16,
 ) -> u8 {
     let mut space = [0u8; SPACE];
-    let ImageRead::Whole { rom, by } = load_image(places, file, &mut space) else {
+    let ImageRead::Whole { rom, by } = load_image(rt, places, file, &mut space) else {
         return FAILED;
     };
-    let subject = subject_of(places, rom, by, 0, false);
+    let subject = subject_of(rt, places, rom, by, 0, false);
     let first = image_start(rom);
-    put_steps(&space[first..], requests, steps, subject)
+    put_steps(rt, &space[first..], requests, steps, subject)
 }
 
-fn trace_with_requests(places: &[usize; PLACES], file: &mut [u8], steps: u16) -> u8 {
+fn trace_with_requests(
+    rt: &HostRuntime,
+    places: &[usize; PLACES],
+    file: &mut [u8],
+    steps: u16,
+) -> u8 {
     let mut requests = [0u8; MOST_STEPS];
-    let wrong = read_requests(steps, &mut requests);
+    let wrong = read_requests(rt, steps, &mut requests);
     if wrong != 0 {
-        return put_usage(Usage::BadValue {
-            place: REQUEST,
-            argument: wrong,
-        });
+        return put_usage(
+            rt,
+            Usage::BadValue {
+                place: REQUEST,
+                argument: wrong,
+            },
+        );
     }
-    trace_image(places, file, &requests, steps)
+    trace_image(rt, places, file, &requests, steps)
 }
 
-pub fn run(places: &[usize; PLACES], file: &mut [u8]) -> u8 {
-    match number_argument(places[STEPS]) {
-        Parsed::Number(steps) => trace_with_requests(places, file, steps),
-        Parsed::Wrong => put_usage(bad_value(places, STEPS)),
+pub fn run(rt: &HostRuntime, places: &[usize; PLACES], file: &mut [u8]) -> u8 {
+    match number_argument(rt, places[STEPS]) {
+        Parsed::Number(steps) => trace_with_requests(rt, places, file, steps),
+        Parsed::Wrong => put_usage(rt, bad_value(places, STEPS)),
     }
 }
