@@ -5,7 +5,7 @@ use Rattle.intel_hex.specs.Place.{goes}
 use Rattle.intel_hex.specs.Take.{after_line}
 
 -- the CRC-32 of `123456789`
--- proved by check-value, proofs/Cases
+-- proved by check_value, proofs/Cases
 abbrev pub CheckValue : Type 0
 CheckValue = crc_of (49 ∷ 50 ∷ 51 ∷ 52 ∷ 53 ∷ 54 ∷ 55 ∷ 56 ∷ 57 ∷ []) ≡ 0xCBF43926
 
@@ -16,7 +16,7 @@ example_line =
     ∷ 50 ∷ 48 ∷ 54 ∷ 55 ∷ 54 ∷ 49 ∷ 55 ∷ 48 ∷ 65 ∷ 55 ∷ []
 
 -- .. names eleven bytes from 010h on, the letters `address gap`; the memory is shown as far as 01Fh
--- proved by example-is-placed, proofs/Cases
+-- proved by example_is_placed, proofs/Cases
 abbrev pub ExampleIsPlaced : Type 0
 ExampleIsPlaced =
     after_line 0 false (replicate 32 256) example_line

@@ -40,7 +40,7 @@ hex_of image =
 
 -- an image of either length, written, is read as that image, whatever the fill and whatever the lent image held; its
 -- first address is the lowest
--- proved by written-is-read, proofs/WrittenIsRead
+-- proved by written_is_read, proofs/WrittenIsRead
 pub record WrittenIsRead : Type 0 where
   pub answer :
       (image : List ℕ) → Bytes image → is_space (length image) ≡ true

@@ -21,7 +21,7 @@ pub record Answers (line before after : List ℕ) (r : Answered) : Type 0 where
   pub buffer : after ≡ cond (fits line before) (line ++ drop (length line) before) before
 
 -- a buffer of 16 bytes takes every line that is answered so
--- proved by sixteen-bytes-are-enough, proofs/AnswerLaws
+-- proved by sixteen_bytes_are_enough, proofs/AnswerLaws
 abbrev pub SixteenBytesAreEnough : Type 0
 SixteenBytesAreEnough =
     (line before after : List ℕ) (r : Answered) → Answers line before after r → 16 ≤ length before

@@ -6,7 +6,7 @@ use Rattle.jobs.specs.CheckJob.{job_for, job_of}
 use Rattle.jobs.specs.Line.{line_of}
 
 -- what is printed, byte for byte
--- proved by printed-cases, proofs/Cases
+-- proved by printed_cases, proofs/Cases
 pub record PrintedCases : Type 0 where
   -- P11: "`accepted 2` and a newline"
   pub p11 :

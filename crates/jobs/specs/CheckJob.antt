@@ -44,7 +44,7 @@ job_for wired image certificate =
     1 ∷ count / 256 ∷ count % 256 ∷ wired ∷ (image ++ certificate)
 
 -- a job of an image of either length and a certificate as long answers what the check answers of them
--- proved by jobs-are-checked, proofs/CheckJob
+-- proved by jobs_are_checked, proofs/CheckJob
 abbrev pub JobsAreChecked : Type 0
 JobsAreChecked =
     (wired : ℕ) (image certificate : List ℕ)

@@ -84,7 +84,7 @@ address_line image bank certificate a =
     pad_to (length page + 33) (pad_to (length page + 15) code ++ standing_text a d) ++ mark_text certificate a d
 
 -- an address's line has at most 82 bytes, so that nothing of it is cut off
--- proved by line-fits, proofs/Fits
+-- proved by line_fits, proofs/Fits
 abbrev pub LineFits : Type 0
 LineFits =
     (image : List ℕ) → Bytes image → (bank : ℕ) → (certificate : List ℕ) → (a : ℕ)

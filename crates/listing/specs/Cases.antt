@@ -8,7 +8,7 @@ use Rattle.listing.specs.InstructionText.{instruction_text}
 use Rattle.listing.specs.AddressLine.{address_line}
 
 -- instructions in the manual's notation
--- proved by text-cases, proofs/Cases
+-- proved by text_cases, proofs/Cases
 pub record TextCases : Type 0 where
   pub call : instruction_text (I.Call 0x890) 0x881 ≡ ascii "CALL 890h"
   pub bit : instruction_text (I.Jrr 4 0x12 (pos 0x34)) 0x100 ≡ ascii "JRR 4,12h,136h"
@@ -25,7 +25,7 @@ abbrev pub marked : List ℕ
 marked = put 0x800 (0x21 ∷ []) blank ++ certificate11
 
 -- lines of the image and the certificate of P11, and of an image of two pages
--- proved by line-cases, proofs/Cases
+-- proved by line_cases, proofs/Cases
 pub record LineCases : Type 0 where
   pub call :
       address_line image11 0 certificate11 0x881

@@ -72,7 +72,7 @@ instruction_text I.Stop a = ascii "STOP"
 instruction_text I.Wait a = ascii "WAIT"
 
 -- the text of a decoded instruction has at most 16 bytes
--- proved by text-fits, proofs/Fits
+-- proved by text_fits, proofs/Fits
 abbrev pub TextFits : Type 0
 TextFits =
     (image : List ℕ) → Bytes image →

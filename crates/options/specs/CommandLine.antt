@@ -122,7 +122,7 @@ bad_value_of places p =
 
 -- which sources are wired is never assumed: a command line to check or to certify lacks nothing only where an argument
 -- gives them, or help is asked for
--- proved by wired-is-never-assumed, proofs/NeverAssumed
+-- proved by wired_is_never_assumed, proofs/NeverAssumed
 pub record WiredIsNeverAssumed : Type 0 where
   pub check :
       (places : List ℕ) → lack_of places command.Check ≡ usage.Fine → is_open places place.help ≡ true

@@ -108,7 +108,7 @@ pub record ByLowest (file : List ℕ) (size : Rom) (b : ChosenBy) : Type 0 where
 
 -- the size of an image is never guessed: a HEX file's is that which is asked for, or where none is, that for the lowest
 -- address that the file names; and a raw file's is its own
--- proved by size-is-never-guessed, proofs/NeverGuessed
+-- proved by size_is_never_guessed, proofs/NeverGuessed
 pub record SizeIsNeverGuessed
     (file : List ℕ) (fill : ℕ) (raw : Bool) (space after : List ℕ) (size : Rom) (b : ChosenBy) : Type 0 where
   pub asks_2k :

@@ -16,7 +16,7 @@ same (x ∷ a) [] = false
 same (x ∷ a) (y ∷ b) = eqb x y && same a b
 
 -- words are the same exactly where they are equal
--- proved by same-is-equal, proofs/WordLaws
+-- proved by same_is_equal, proofs/WordLaws
 pub record SameIsEqual : Type 0 where
   pub equal : (a b : List ℕ) → same a b ≡ true → a ≡ b
   pub itself : (a : List ℕ) → same a a ≡ true
