@@ -1,7 +1,7 @@
 -- The line that an answer is printed as, in ASCII (document 01, P11 and P12).
 use Rattle.std.specs.Prelude.{ℕ, zero, suc, ◌+◌, ◌-◌, ◌/◌, ◌%◌, cond, List, [], ◌∷◌, ◌++◌, ltb}
 use Rattle.isa.specs.Refusals.{plain, located, done, refused}
-use Rattle.certificate.specs.Check.{Verdict, accepted}
+use Rattle.certificate.specs.Check.{Verdict}
 
 -- `accepted` and a space
 abbrev pub accepted_word : List ℕ

@@ -2,7 +2,6 @@
 use Prim.Native.Nat.{◌≤◌}
 use native.Mathlib.Omega.{arith}
 use mathlib.Core.Path.{sym, ◌∙◌}
-use mathlib.Core.Bool.{false}
 use lib.ListN.{length, take}
 use lib.Seq.{length-take-le}
 use Rattle.intel_hex.proofs.LineLaws.{size_within, rest_less}

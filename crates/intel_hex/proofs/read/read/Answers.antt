@@ -1,6 +1,5 @@
 -- `read::read` meets its contract: the image is written only after every line.
 use mathlib.Core.Path.{sym, ◌∙◌}
-use mathlib.Core.Bool.{true}
 use Rattle.intel_hex.specs.Place.{none_named}
 use Rattle.intel_hex.proofs.ReadLaws.{reads_nothing, reads_refused, reads_whole}
 use Rattle.intel_hex.proofs.read.read.Goals as goal

@@ -1,7 +1,6 @@
 -- `check_job::check_job` meets its contract: 20, 21, 22, then the check of the parts.
-use mathlib.Core.Bool.{true}
 use borrow.Author.Tests.{eq-eqb, ne_eqb, le-leb, lt-leb}
-use Rattle.jobs.specs.CheckJob.{is_count, job_of}
+use Rattle.jobs.specs.CheckJob.{job_of}
 use Rattle.jobs.proofs.check_job.check_job.Goals as goal
 
 pub returns-then-job-lt3 : goal.returns-then-job-lt3
