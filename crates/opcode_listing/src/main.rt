@@ -52,7 +52,10 @@ fn list_opcode(rt: &impl Print, opcode: u8) -> io::Result<()> {
             instruction(code(&image, length, cycles), decoded, 0x100),
         )?,
         Decoded::Refused(refusal) => {
-            put_line(rt, Line::new().byte(opcode).word(b"             undefined, "))?;
+            put_line(
+                rt,
+                Line::new().byte(opcode).word(b"             undefined, "),
+            )?;
             put_refusal(rt, refusal)?;
         }
     }
