@@ -7,7 +7,7 @@ use mathlib.Core.Bool.{Bool, true, false}
 use mathlib.Core.List.{List}
 use Rattle.isa.specs.Refusals.{done, refused}
 use Rattle.certificate.specs.Check.{Verdict, check_of}
-use Rattle.reports.specs.Output.{exit_status, status_of, Exits, Refuses, IsAccepted, ZeroMeansAccepted}
+use Rattle.reports.specs.Output.{exit_status, status_of, Exits, Refuses, ZeroMeansAccepted}
 
 -- an answer, written or not
 pub exits : (answer : Verdict) (status : ℕ) (is-written : Bool) → status ≡ exit_status (status_of answer) is-written

@@ -1,5 +1,5 @@
 -- `page_found::page_found` meets its contract. The loop goes through the pages: with none before does the check refuse there.
-use Prim.Native.Nat.{ℕ, ◌-◌}
+use Prim.Native.Nat.{ℕ}
 use native.Mathlib.Omega.{arith}
 use mathlib.Core.Path.{◌≡◌, ◌∙◌, ap, sym}
 use mathlib.Core.Logic.{inl, inr}
