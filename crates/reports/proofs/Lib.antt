@@ -1,4 +1,3 @@
 pub mod FirstLine
 pub mod PartsAddUp
-pub mod ExitStatus
 pub mod PageLaws
