@@ -13,7 +13,7 @@ TOKEN = re.compile(r"[A-Za-z_ℕ][\w'ℕ]*(?:-[\wℕ'*]+)*")
 CAMEL = re.compile(r"(?:[a-z]\w*[a-z0-9])[A-Z]\w*$|[a-z][A-Z]\w*$")
 HEAD = re.compile(r"^(\s*)(?:(?:abbrev|unfoldable|pub|private)\s+)*([a-z_][\w'-]*)\s*(?:\{[^}]*\}\s*|\([^)]*\)\s*)*:(?!:)(.*)$")
 IMPORT = re.compile(r"use (Rattle\.(\w+)\.[\w.+·'-]*)\.\{([^}]*)\}", re.S)
-SPECIAL = {"asks2K": "asks_2k", "asks4K": "asks_4k", "n6K": "n_6k"}
+SPECIAL = {"storeAOf": "store_a_of", "asks2K": "asks_2k", "asks4K": "asks_4k", "n6K": "n_6k"}
 
 
 def antt_files():

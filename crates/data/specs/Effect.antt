@@ -72,8 +72,8 @@ abbrev pub load_of : List ℕ → Bool → ℕ → Data
 load_of bytes carry v = store_result_of bytes 0xFF (result_of v carry)
 
 -- LD of A to an operand
-abbrev pub store_aOf : List ℕ → Bool → ℕ → Data
-store_aOf bytes carry a = store_result_of bytes a (result_of (accumulator_of bytes) carry)
+abbrev pub store_a_of : List ℕ → Bool → ℕ → Data
+store_a_of bytes carry a = store_result_of bytes a (result_of (accumulator_of bytes) carry)
 
 -- INC and DEC
 abbrev pub increment_of : List ℕ → List ℕ → Bool → ℕ → Data
@@ -131,7 +131,7 @@ effect_of image d (Jrs n a e) = data_of d.bytes (test_bit_of image d.bytes d.fla
 effect_of image d (Res n a) = reset_bit_of image d.bytes d.flags a n
 effect_of image d (Set n a) = set_bit_of image d.bytes d.flags a n
 effect_of image d (LoadA o) = load_of d.bytes d.flags.carry (operand_of image d.bytes o)
-effect_of image d (StoreA o) = store_aOf d.bytes d.flags.carry (address_of d.bytes o)
+effect_of image d (StoreA o) = store_a_of d.bytes d.flags.carry (address_of d.bytes o)
 effect_of image d (LoadAImmediate v) = load_of d.bytes d.flags.carry v
 effect_of image d (LoadImmediate a v) = store_immediate_of d.bytes d.flags a v
 effect_of image d (Inc o) = increment_of image d.bytes d.flags.carry (address_of d.bytes o)

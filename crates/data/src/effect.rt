@@ -8,7 +8,7 @@ ghost use Rattle.data.specs.Effect.{
   store_result_of,
   accumulator_of,
   load_of,
-  store_aOf,
+  store_a_of,
   increment_of,
   decrement_of,
   add_of,
@@ -52,7 +52,7 @@ pub fn load(value: u8, bytes: &mut [u8; 256], carry: bool) -> Flags
 
 // LD of A to a data address.
 pub fn store_a(address: u8, bytes: &mut [u8; 256], carry: bool) -> Flags
-    ensures { data_of bytes.new result ≡ store_aOf bytes.old carry address }
+    ensures { data_of bytes.new result ≡ store_a_of bytes.old carry address }
 {
     let result = alu::result(accumulator(bytes), carry);
     store_result(bytes, address, result)
