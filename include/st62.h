@@ -1,4 +1,4 @@
-/* The proved ST62 bench for C and C++: the functions of crate exports, which `rt staticlib exports` builds into
+/* The proved ST62 bench for C and C++: the functions of crate exports, which `tools/build exports` builds into
  * target/staticlib/libexports.a. It needs only memcpy, memmove and memset. The rules behind these comments stand in
  * docs/REFERENCE.md, sections 10 and 11.
  *
