@@ -117,15 +117,15 @@ module _ {certificate : List ℕ} {M : Mode} {q : ℕ} {t : List ℕ} where
   pub above_moved : {wired : ℕ} {d : StackEffect} {m m' : Mode} {p p' : ℕ} {s s' : List ℕ}
       → Moves certificate wired d m p s m' p' s' → Above certificate M q t m p s
       → Ended M q t d m m' p' s' ⊎ Stays certificate M q t d m m' p' s'
-  above_moved moves.idles a = other (λ e. let z : ◌≡◌ {A = ℕ} 0 1 = cc in omega arith) a
-  above_moved (moves.continues c) a = other (λ e. let z : ◌≡◌ {A = ℕ} 0 1 = cc in omega arith) (continue a c)
+  above_moved moves.idles a = other (λ e. cc) a
+  above_moved (moves.continues c) a = other (λ e. cc) (continue a c)
   above_moved (moves.calls c) a =
-      other (λ e. let z : ◌≡◌ {A = ℕ} 0 1 = cc in omega arith) (subroutine (continue a c.back) c.target_kind)
-  above_moved (moves.returns k) a = other (λ e. let z : ◌≡◌ {A = ℕ} 0 1 = cc in omega arith) (ret a k)
+      other (λ e. cc) (subroutine (continue a c.back) c.target_kind)
+  above_moved (moves.returns k) a = other (λ e. cc) (ret a k)
   above_moved (moves.leaves k) a = reti a k
   above_moved (moves.begins e) a = absurd (let h = deeper a in omega arith)
   above_moved (moves.takes h w) a =
-      other (λ e. let z : ◌≡◌ {A = ℕ} 0 1 = cc in omega arith) (inner (over_taken h) a w.kind)
+      other (λ e. cc) (inner (over_taken h) a w.kind)
 
 -- the flag pair of an interrupted mode is none of those used as deep as its service
 apart : {M under : Mode} → Over M under → (m : Mode) → open_services M ≤ open_services m → pair_number m ≢ pair_number under
@@ -158,12 +158,12 @@ pub record Begun (certificate : List ℕ) (source : Source) (m m' : Mode) (p p' 
 pub begun : {certificate : List ℕ} {wired : ℕ} {source : Source} {d : StackEffect} {m m' : Mode} {p p' : ℕ}
     {s s' : List ℕ}
     → Moves certificate wired d m p s m' p' s' → d ≡ by_request source → Begun certificate source m m' p p' s s'
-begun moves.idles e = let z : ◌≡◌ {A = ℕ} 0 1 = cc in absurd (omega arith)
-begun (moves.continues c) e = let z : ◌≡◌ {A = ℕ} 0 1 = cc in absurd (omega arith)
-begun (moves.calls c) e = let z : ◌≡◌ {A = ℕ} 0 1 = cc in absurd (omega arith)
-begun (moves.returns h) e = let z : ◌≡◌ {A = ℕ} 0 1 = cc in absurd (omega arith)
-begun (moves.leaves h) e = let z : ◌≡◌ {A = ℕ} 0 1 = cc in absurd (omega arith)
-begun (moves.begins h) e = let z : ◌≡◌ {A = ℕ} 0 1 = cc in absurd (omega arith)
+begun moves.idles e = cc
+begun (moves.continues c) e = cc
+begun (moves.calls c) e = cc
+begun (moves.returns h) e = cc
+begun (moves.leaves h) e = cc
+begun (moves.begins h) e = cc
 begun {source = source} (moves.takes {source = taken} h w) e =
     let same : taken ≡ source = cc in
     record { takes = rw same at h; mode_set = rw same refl; above = service w.kind }

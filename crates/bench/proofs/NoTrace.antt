@@ -14,6 +14,7 @@ use Rattle.isa.specs.ControlFlow.{flow_of}
 use Rattle.isa.specs.declared.Instruction.TheVariants as I
 use Rattle.isa.specs.declared.Source.{Source}
 use Rattle.control.specs.declared.Mode.{Mode}
+use Rattle.std.specs.Prelude.{Option, Some, None}
 use Rattle.control.specs.declared.Stop.{Stop}
 use Rattle.control.specs.declared.Stop.TheVariants as stop
 use Rattle.control.specs.declared.Control.{Control}
@@ -72,11 +73,10 @@ unfolding advanced_of acted_of taken_of taken_by
 taken_flags program m request source e =
     rw (takes_due program m request source e) (by_stop (take_of m.stack m.control source).stop)
   where
-    by_stop : (s : Stop)
+    by_stop : (s : Option Stop)
         → (stopped_of m s (done_of (served_of m (take_of m.stack m.control source)) 1)).machine.flags ≡ m.flags
-    by_stop stop.None = refl
-    by_stop stop.Full = refl
-    by_stop stop.Empty = refl
+    by_stop None = refl
+    by_stop (Some s) = refl
 
 -- after a RETI the machine is awake as before it
 reti_awake : (slots : List ℕ) (c : Control) (next : ℕ)
@@ -152,13 +152,12 @@ module _ (image certificate : List ℕ) (wired number : ℕ) (ok : Rules image c
       reti : Transferred
       reti = return_from_interrupt_of m.stack m.control (forward_of m.control.pc x.bytes)
 
-      by_stop : (s : Stop)
+      by_stop : (s : Option Stop)
           → (stopped_of m s
           (done_of (after_of m (execution_by (effect_of program (view_of m) I.Reti) reti)) x.cycles)
           ).machine.control.asleep ≡ false
-      by_stop stop.None = reti_awake m.stack m.control (forward_of m.control.pc x.bytes) ∙ x.awake
-      by_stop stop.Full = x.awake
-      by_stop stop.Empty = x.awake
+      by_stop None = reti_awake m.stack m.control (forward_of m.control.pc x.bytes) ∙ x.awake
+      by_stop (Some s) = x.awake
 
   module _ (m₀ : Machine) (M : Mode) (m : Machine) (g : MachineInvariant certificate wired m)
       (s : Serving certificate m₀ M m) where
@@ -199,7 +198,7 @@ module _ (image certificate : List ℕ) (wired number : ℕ) (ok : Rules image c
             by_move e
             (above_moved (step_goes image certificate wired number ok m g request e asks).moves s.above)
         by_test false e =
-            stays (λ x. let n = x.named in let z : ◌≡◌ {A = ℕ} 0 1 = cc in omega arith)
+            stays (λ x. let n = x.named in cc)
             (rw (step_refused image certificate wired number ok m g request e) s)
 
     -- a host store keeps all but data

@@ -3,13 +3,12 @@ use Prim.Native.Nat.{ℕ, ◌+◌}
 use mathlib.Core.Path.{◌≡◌, refl}
 use mathlib.Core.Bool.{Bool, true, false, cond, false≢true, and-eq-true_iff}
 use mathlib.Core.List.{List}
+use Rattle.std.specs.Prelude.{Option, Some, None}
 use Rattle.isa.specs.Sources.{is_named, vector_of}
 use Rattle.isa.specs.declared.Source.{Source}
 use Rattle.isa.specs.declared.Source.TheVariants.{Nmi, First, Second, Third, Fourth}
 use Rattle.control.specs.declared.Mode.{Mode}
 use Rattle.control.specs.declared.Mode.TheVariants.{Reset, Normal, Interrupt, NmiOverNormal, NmiOverInterrupt}
-use Rattle.control.specs.declared.Requested.{Requested}
-use Rattle.control.specs.declared.Requested.TheVariants.{Nothing, Taken}
 use Rattle.control.specs.Requests.{can_take, is_taken, requested_of}
 use Rattle.certificate.specs.Marks.{need_at}
 use Rattle.certificate.specs.Levels.{levels_for}
@@ -18,12 +17,12 @@ use Rattle.bench.specs.Calls.{AsksOnly}
 use Rattle.bench.proofs.Moves.{Takes, nmi, first, second, third, fourth, nested, Wired}
 
 -- the request that is taken, if any, has a property
-abbrev pub IfTaken : (Source → Type 0) → Requested → Type 0
-IfTaken P Nothing = Unit {0}
-IfTaken P (Taken source) = P source
+abbrev pub IfTaken : (Source → Type 0) → Option Source → Type 0
+IfTaken P None = Unit {0}
+IfTaken P (Some source) = P source
 
-one_asks : (P : Source → Type 0) (source : Source) (more : Requested) (b : Bool) → (b ≡ true → P source)
-    → IfTaken P more → IfTaken P (cond b (Taken source) more)
+one_asks : (P : Source → Type 0) (source : Source) (more : Option Source) (b : Bool) → (b ≡ true → P source)
+    → IfTaken P more → IfTaken P (cond b (Some source) more)
 one_asks P source more true p rest = p refl
 one_asks P source more false p rest = rest
 

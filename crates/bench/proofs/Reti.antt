@@ -1,6 +1,5 @@
 -- A step whose effect on the stack is that of RETI executes one, and the other way round.
 use Prim.Native.Nat.{ℕ}
-use native.Mathlib.Omega.{arith}
 use mathlib.Core.Path.{◌≡◌, refl}
 use mathlib.Core.Bool.{Bool, true, false, cond, ◌&&◌}
 use mathlib.Core.List.{List, []}
@@ -16,6 +15,7 @@ use Rattle.control.specs.declared.Mode.{Mode}
 use Rattle.control.specs.declared.Control.{Control}
 use Rattle.control.specs.Modes.{is_reset}
 use Rattle.control.specs.declared.Mode.TheVariants.{Normal}
+use Rattle.std.specs.Prelude.{Option, Some, None}
 use Rattle.control.specs.declared.Stop.{Stop}
 use Rattle.control.specs.declared.Stop.TheVariants as stop
 use Rattle.control.specs.Stack.{pop_of}
@@ -36,13 +36,13 @@ use Rattle.bench.specs.NoTrace.{RetiIn}
 -- the effect of a RETI that pops is had only by its flow
 flow_reti : (c : Control) (f : Flow) → flow_effect c f ≡ by_reti → f ≡ flow.ReturnFromInterrupt
 unfolding flow_effect
-flow_reti c flow.Next e = let z : ◌≡◌ {A = ℕ} 0 1 = cc in absurd (omega arith)
-flow_reti c (flow.Jump to) e = let z : ◌≡◌ {A = ℕ} 0 1 = cc in absurd (omega arith)
-flow_reti c (flow.Branch condition to) e = let z : ◌≡◌ {A = ℕ} 0 1 = cc in absurd (omega arith)
-flow_reti c (flow.Call to) e = let z : ◌≡◌ {A = ℕ} 0 1 = cc in absurd (omega arith)
-flow_reti c flow.Return e = let z : ◌≡◌ {A = ℕ} 0 1 = cc in absurd (omega arith)
+flow_reti c flow.Next e = cc
+flow_reti c (flow.Jump to) e = cc
+flow_reti c (flow.Branch condition to) e = cc
+flow_reti c (flow.Call to) e = cc
+flow_reti c flow.Return e = cc
 flow_reti c flow.ReturnFromInterrupt e = refl
-flow_reti c flow.Sleep e = let z : ◌≡◌ {A = ℕ} 0 1 = cc in absurd (omega arith)
+flow_reti c flow.Sleep e = cc
 
 -- no other instruction has the flow of RETI: what else pops nothing off an empty stack goes on
 is_reti_lem : (i : Instruction) (a : ℕ) → flow_of i a ≡ flow.ReturnFromInterrupt → i ≡ I.Reti
@@ -53,12 +53,12 @@ is_reti_lem i a h = by_kind i (may_stop i) h
     emptied = record { pc = a; levels = 0; mode = Normal; asleep = false }
 
     by_kind : (i : Instruction) → MayStop i → flow_of i a ≡ flow.ReturnFromInterrupt → i ≡ I.Reti
-    by_kind _ (stops.is_call to) h = let z : ◌≡◌ {A = ℕ} 0 1 = cc in absurd (omega arith)
-    by_kind _ stops.is_ret h = let z : ◌≡◌ {A = ℕ} 0 1 = cc in absurd (omega arith)
+    by_kind _ (stops.is_call to) h = cc
+    by_kind _ stops.is_ret h = cc
     by_kind _ stops.is_reti_lem h = refl
     by_kind i (stops.goes_on_lem e) h =
-        let x : ◌≡◌ {A = Stop} stop.Empty stop.None = rw h at (e [] (view_of fresh_of) [] emptied 0) in
-        let z : ◌≡◌ {A = ℕ} 0 1 = cc in absurd (omega arith)
+        let x : ◌≡◌ {A = Option Stop} (Some stop.Empty) None = rw h at (e [] (view_of fresh_of) [] emptied 0) in
+        cc
 
 -- the effect of a RETI that pops is had only by a RETI
 pub reti_executed : (image : List ℕ) (mode : Mode) (m : Machine) (request : ℕ) → names_only_sources request ≡ true
@@ -69,9 +69,9 @@ reti_executed image mode m request named in_mode e =
   where
     by_due : (a : StepAction) → Due (program_of image m.bytes) m request a → action_effect m.control a ≡ by_reti
         → RetiIn image mode m request
-    by_due _ (taking source is) e = let z : ◌≡◌ {A = ℕ} 0 1 = cc in absurd (omega arith)
-    by_due _ (idling nothing asleep) e = let z : ◌≡◌ {A = ℕ} 0 1 = cc in absurd (omega arith)
-    by_due _ (undecoding r nothing awake at) e = let z : ◌≡◌ {A = ℕ} 0 1 = cc in absurd (omega arith)
+    by_due _ (taking source is) e = cc
+    by_due _ (idling nothing asleep) e = cc
+    by_due _ (undecoding r nothing awake at) e = cc
     by_due _ (executing i bytes cycles nothing awake at) e =
         let is = is_reti_lem i m.control.pc (flow_reti m.control (flow_of i m.control.pc) e) in
         record {

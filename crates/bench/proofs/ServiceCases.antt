@@ -8,6 +8,7 @@ use lib.Dec.{eqb}
 use lib.ListN.{get_or}
 use borrow.Author.Tests.{eq-eqb}
 use borrow.Author.Count.{below_more}
+use Rattle.std.specs.Prelude.{Option, Some}
 use Rattle.isa.specs.Map
 use Rattle.isa.specs.Table
 use Rattle.isa.specs.Rom
@@ -21,8 +22,6 @@ use Rattle.control.specs.declared.Mode.{Mode}
 use Rattle.control.specs.declared.Mode.TheVariants.{Interrupt, NmiOverNormal, NmiOverInterrupt}
 use Rattle.control.specs.declared.Control.{Control}
 use Rattle.control.specs.Modes.{is_reset}
-use Rattle.control.specs.declared.Requested.{Requested}
-use Rattle.control.specs.declared.Requested.TheVariants.{Taken}
 use Rattle.control.specs.Stack
 use Rattle.control.specs.Transfers
 use Rattle.control.specs.Requests
@@ -62,7 +61,7 @@ all_fit wired request =
 
 implies : (a b : Bool) → (not a || b) ≡ true → a ≡ true → b ≡ true
 implies true b e t = e
-implies false b e t = let z : ◌≡◌ {A = ℕ} 0 1 = cc in absurd (omega arith)
+implies false b e t = cc
 
 asks_by : (wired request : ℕ) → all_fit wired request ≡ true → AsksOnly wired request
 asks_by wired request e s =
@@ -150,11 +149,11 @@ none_ending image mode started (step request ∷ calls) m e =
           x.in_mode,
           eq-eqb (mode_number mode) (mode_number mode) refl,
         ) at t in
-        let z : ◌≡◌ {A = ℕ} 0 1 = cc in omega arith
-none_ending image mode started (run requests n ∷ calls) m e = let z : ◌≡◌ {A = ℕ} 0 1 = cc in absurd (omega arith)
+        cc
+none_ending image mode started (run requests n ∷ calls) m e = cc
 none_ending image mode started (store address value ∷ calls) m e =
     (tt, none_ending image mode started calls (leaves image (store address value) m) e)
-none_ending image mode started (reset ∷ calls) m e = let z : ◌≡◌ {A = ℕ} 0 1 = cc in absurd (omega arith)
+none_ending image mode started (reset ∷ calls) m e = cc
 
 in_mode_set : (image : List ℕ) (calls : List Call) (m : Machine) (a b : Mode) → a ≡ b → NoneEnding image b calls m
     → NoneEnding image a calls m
@@ -166,7 +165,7 @@ in_mode_set image calls m a b e n = rw e n
 record Computed : Type 0 where
   fit : Bool
   named : Bool
-  takes : Requested
+  takes : Option Source
   mode_set : Mode
   stays : Bool
   last_named : Bool
@@ -181,7 +180,7 @@ whole source mode from to =
     record {
       fit = true;
       named = true;
-      takes = Taken source;
+      takes = Some source;
       mode_set = mode;
       stays = true;
       last_named = true;

@@ -6,12 +6,11 @@ use mathlib.Core.Bool.{Bool, true, false, cond}
 use mathlib.Core.List.{List, [], ◌∷◌, ◌++◌}
 use lib.Dec.{ltb}
 use borrow.Author.Tests.{ltb-true}
+use Rattle.std.specs.Prelude.{Option, Some, None}
 use Rattle.isa.specs.Sources.{names_only_sources}
 use Rattle.isa.specs.declared.Source.{Source}
 use Rattle.control.specs.declared.Mode.{Mode}
 use Rattle.control.specs.declared.Mode.TheVariants.{Interrupt}
-use Rattle.control.specs.declared.Requested.{Requested}
-use Rattle.control.specs.declared.Requested.TheVariants.{Nothing, Taken}
 use Rattle.control.specs.Requests.{requested_of, service_mode}
 use Rattle.machine.specs.declared.Machine.{Machine}
 use Rattle.machine.specs.State.{reset_of}
@@ -37,7 +36,7 @@ use Rattle.bench.proofs.NoTrace.{Serving, Goes, call_serves, all_kept, at_moment
 
 -- a taking sets a mode that serves it
 taking_served : {m : Mode} {source : Source} → Takes m source → (latest : Source)
-    → served_in (service_mode source m) (latest_of latest (Taken source)) ≡ Taken source
+    → served_in (service_mode source m) (latest_of latest (Some source)) ≡ Some source
 taking_served nmi latest = refl
 taking_served first latest = refl
 taking_served second latest = refl
@@ -46,15 +45,15 @@ taking_served fourth latest = refl
 taking_served nested latest = refl
 
 -- within a service no source is taken but NMI
-latest_kept : (m : Mode) → 1 ≤ open_services m → (latest : Source) (r : Requested) → IfTaken (Takes m) r
+latest_kept : (m : Mode) → 1 ≤ open_services m → (latest : Source) (r : Option Source) → IfTaken (Takes m) r
     → latest_of latest r ≡ latest
-latest_kept _ inside latest Nothing t = refl
-latest_kept _ inside latest (Taken source) nmi = refl
-latest_kept _ inside latest (Taken source) first = absurd (omega arith)
-latest_kept _ inside latest (Taken source) second = absurd (omega arith)
-latest_kept _ inside latest (Taken source) third = absurd (omega arith)
-latest_kept _ inside latest (Taken source) fourth = absurd (omega arith)
-latest_kept _ inside latest (Taken source) nested = refl
+latest_kept _ inside latest None t = refl
+latest_kept _ inside latest (Some source) nmi = refl
+latest_kept _ inside latest (Some source) first = absurd (omega arith)
+latest_kept _ inside latest (Some source) second = absurd (omega arith)
+latest_kept _ inside latest (Some source) third = absurd (omega arith)
+latest_kept _ inside latest (Some source) fourth = absurd (omega arith)
+latest_kept _ inside latest (Some source) nested = refl
 
 -- so what its mode serves stays
 served_kept : {M under : Mode} → Over M under → (m : Mode) → open_services M ≤ open_services m → (enabled : Bool)
@@ -76,11 +75,11 @@ ended_over source_normal a b before after latest = rw (before, after) refl
 ended_over nmi_normal a b before after latest = rw (before, after) refl
 ended_over nmi_interrupt a b before after latest = rw (before, after) refl
 
-fewer : (r : Requested) (source : Source) (b : Bool) → cond b r Nothing ≡ Taken source → b ≡ true
+fewer : (r : Option Source) (source : Source) (b : Bool) → cond b r None ≡ Some source → b ≡ true
 fewer r source true e = refl
-fewer r source false e = let z : ◌≡◌ {A = ℕ} 0 1 = cc in absurd (omega arith)
+fewer r source false e = cc
 
-fewer_open : (m m' : Mode) (latest source : Source) → ended_of m m' latest ≡ Taken source
+fewer_open : (m m' : Mode) (latest source : Source) → ended_of m m' latest ≡ Some source
     → open_services m' < open_services m
 unfolding ended_of
 fewer_open m m' latest source e =
@@ -134,7 +133,7 @@ module _ (image certificate : List ℕ) (wired number : ℕ) (ok : Rules image c
   -- at its taking, whatever was taken before
   begin_follows : (m : Machine) → MachineInvariant certificate wired m → (request : ℕ) → AsksOnly wired request
       → (source : Source) → TakesRequest m request source → (latest : Source)
-      → served_in (step_of image m request).machine.control.mode (latest_after (step request) m latest) ≡ Taken source
+      → served_in (step_of image m request).machine.control.mode (latest_after (step request) m latest) ≡ Some source
   begin_follows m g request asks source t latest =
       let b =
       begun (step_goes image certificate wired number ok m g request t.named asks).moves
@@ -146,7 +145,7 @@ module _ (image certificate : List ℕ) (wired number : ℕ) (ok : Rules image c
       → EndsService s request → (begins : Source)
       → ended_of (current s).control.mode (after_step s request).control.mode
       (latest_after_all image (s.before ++ (step s.request ∷ s.since)) start begins)
-      ≡ Taken s.source
+      ≡ Some s.source
   unfolding leaves
   end_named start calls g asks s request n x begins =
       let h = at_moment image certificate wired number ok start calls g asks s in
@@ -160,7 +159,7 @@ module _ (image certificate : List ℕ) (wired number : ℕ) (ok : Rules image c
 
   end_only : (m : Machine) → MachineInvariant certificate wired m → (request : ℕ) → AsksOnly wired request
       → (latest source : Source)
-      → ended_of m.control.mode (step_of image m request).machine.control.mode latest ≡ Taken source
+      → ended_of m.control.mode (step_of image m request).machine.control.mode latest ≡ Some source
       → RetiIn image m.control.mode m request
   end_only m g request asks latest source e = by_test (names_only_sources request) refl
     where

@@ -17,7 +17,7 @@ use Rattle.isa.specs.declared.Source.{Source}
 use Rattle.control.specs.declared.Mode.{Mode}
 use Rattle.control.specs.declared.Mode.TheVariants.{Reset, Normal, Interrupt, NmiOverNormal, NmiOverInterrupt}
 use Rattle.control.specs.declared.Control.{Control}
-use Rattle.control.specs.declared.Stop.TheVariants as stop
+use Rattle.std.specs.Prelude.{None}
 use Rattle.control.specs.Stack.{Transferred, in_use, is_full, push_of, pop_of}
 use Rattle.control.specs.Transfers.{slept_of, call_of, return_from_interrupt_of, advance_of}
 use Rattle.control.specs.Requests.{serving_of, take_of}
@@ -46,7 +46,7 @@ use Rattle.bench.proofs.Invariant.{Invariant, MachineInvariant}
 -- control and stack go on without a stop, by a move from where they were
 pub record Goes (certificate : List ℕ) (wired : ℕ) (d : StackEffect) (slots : List ℕ) (c : Control)
     (t : Transferred) : Type 0 where
-  pub no_stop : t.stop ≡ stop.None
+  pub no_stop : t.stop ≡ None
   pub six : length t.stack ≡ 6
   pub moves : Moves certificate wired d
       c.mode c.pc (in_use c.levels slots) t.control.mode t.control.pc
@@ -216,8 +216,7 @@ module _ (image certificate : List ℕ) (wired number : ℕ) (ok : Rules image c
         subst Goes_on (ap decoded_action (sym runs.decodes ∙ at)) instruct
     acts request asks _ (undecoding r nothing awake at) =
         let x = sym at ∙ runs.decodes in
-        let z : ◌≡◌ {A = ℕ} 0 1 = cc in
-        absurd (omega arith)
+        cc
 
     -- a step whose requests are of wired sources goes on
     pub advances : (request : ℕ) → AsksOnly wired request

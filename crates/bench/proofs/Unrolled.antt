@@ -146,7 +146,7 @@ module _ (image : List ℕ) where
       by_ending (done tt) is first all =
           leaves_append (as_steps requests n) (step request ∷ []) m
           ∙ rw (first is) (sym (continued_machine image before request (done tt) refl))
-      by_ending (refused r) is first all = let z : ◌≡◌ {A = ℕ} 0 1 = cc in absurd (omega arith)
+      by_ending (refused r) is first all = cc
 
 module _ (image certificate : List ℕ) (wired number : ℕ) (ok : Rules image certificate wired number) where
   call_unrolled : (c : Call) (m : Machine) → CallAsksOnly wired c → MachineInvariant certificate wired m

@@ -1,13 +1,11 @@
 -- Which request's service a step ends, told by the modes before and after it (document 02, W-214): what a trace says of
 -- a RETI. The claim is `EndTold`.
-use Rattle.std.specs.Prelude.{ℕ, ◌≡◌, cond, List, [], ◌∷◌, ◌++◌, ltb}
+use Rattle.std.specs.Prelude.{ℕ, ◌≡◌, cond, List, [], ◌∷◌, ◌++◌, ltb, Option, Some, None}
 use Rattle.isa.specs.Sources.{names_only_sources}
 use Rattle.isa.specs.declared.Source.{Source}
 use Rattle.isa.specs.declared.Source.TheVariants.{Nmi, First, Second, Third, Fourth}
 use Rattle.control.specs.declared.Mode.{Mode}
 use Rattle.control.specs.declared.Mode.TheVariants.{Reset, Normal, Interrupt, NmiOverNormal, NmiOverInterrupt}
-use Rattle.control.specs.declared.Requested.{Requested}
-use Rattle.control.specs.declared.Requested.TheVariants.{Nothing, Taken}
 use Rattle.control.specs.Requests.{requested_of}
 use Rattle.machine.specs.declared.Machine.{Machine}
 use Rattle.machine.specs.State.{reset_of}
@@ -25,25 +23,25 @@ open_services NmiOverNormal = 1
 open_services NmiOverInterrupt = 2
 
 -- of the sources 1 to 4 the one taken last, where a step takes a request or none
-abbrev pub latest_of : (latest : Source) → Requested → Source
-latest_of latest Nothing = latest
-latest_of latest (Taken Nmi) = latest
-latest_of latest (Taken First) = First
-latest_of latest (Taken Second) = Second
-latest_of latest (Taken Third) = Third
-latest_of latest (Taken Fourth) = Fourth
+abbrev pub latest_of : (latest : Source) → Option Source → Source
+latest_of latest None = latest
+latest_of latest (Some Nmi) = latest
+latest_of latest (Some First) = First
+latest_of latest (Some Second) = Second
+latest_of latest (Some Third) = Third
+latest_of latest (Some Fourth) = Fourth
 
 -- the request that a mode serves: in interrupt mode it is that of the source taken last
-abbrev pub served_in : Mode → (latest : Source) → Requested
-served_in Reset latest = Nothing
-served_in Normal latest = Nothing
-served_in Interrupt latest = Taken latest
-served_in NmiOverNormal latest = Taken Nmi
-served_in NmiOverInterrupt latest = Taken Nmi
+abbrev pub served_in : Mode → (latest : Source) → Option Source
+served_in Reset latest = None
+served_in Normal latest = None
+served_in Interrupt latest = Some latest
+served_in NmiOverNormal latest = Some Nmi
+served_in NmiOverInterrupt latest = Some Nmi
 
 -- the request whose service a step ends: that of the mode before it, where it leaves fewer services open
-unfoldable pub ended_of : (before after : Mode) → (latest : Source) → Requested
-ended_of before after latest = cond (ltb (open_services after) (open_services before)) (served_in before latest) Nothing
+unfoldable pub ended_of : (before after : Mode) → (latest : Source) → Option Source
+ended_of before after latest = cond (ltb (open_services after) (open_services before)) (served_in before latest) None
 
 -- the source taken last, after a call; a step with one of bits 5 to 7 set is refused and takes none, and in a list with
 -- its runs as steps there is no run
@@ -71,7 +69,7 @@ pub record EndTold : Type 0 where
       → (begun : Source)
       → ended_of (current s).control.mode (after_step s request).control.mode
       (latest_after_all image (s.before ++ (step s.request ∷ s.since)) (reset_of m) begun)
-      ≡ Taken s.source
+      ≡ Some s.source
   -- and a step of which a request is told executes a RETI
   pub only :
       (image certificate : List ℕ) (wired number : ℕ) → check_of image certificate wired ≡ accepted number
@@ -80,5 +78,5 @@ pub record EndTold : Type 0 where
       → (latest source : Source)
       → ended_of (leaves_all image before (reset_of m)).control.mode
       (leaves image (step request) (leaves_all image before (reset_of m))).control.mode latest
-      ≡ Taken source
+      ≡ Some source
       → RetiIn image (leaves_all image before (reset_of m)).control.mode (leaves_all image before (reset_of m)) request

@@ -4,9 +4,7 @@ use Rattle.std.specs.Prelude.{ℕ, ◌≤◌, ◌<◌, ◌≡◌, ◌⊎◌, Lis
 use Rattle.isa.specs.Refusals.{plain, done, refused}
 use Rattle.control.specs.Stack.{in_use}
 use Rattle.machine.specs.declared.Machine.{Machine}
-use Rattle.machine.specs.State as state
 use Rattle.machine.specs.State.{HostStore, host_store_of, reset_of}
-use Rattle.machine.specs.Step as stepping
 use Rattle.machine.specs.Step.{Step, step_of}
 use Rattle.machine.specs.Run.{Run, steps_of, run_of}
 use Rattle.certificate.specs.Check.{check_of, accepted}

@@ -20,10 +20,10 @@ pub fn reset_store_run(
 {
     let mut held = m;
     key_reset(&mut held);
-    key_store(&mut held, address, value);
+    let _ = key_store(&mut held, address, value);
     let report = key_run(&mut held, image, requests, n);
     Ran {
         machine: held,
-        report: report,
+        report,
     }
 }

@@ -3,55 +3,47 @@
 ghost use Rattle.std.specs.Prelude.{◌≡◌};
 ghost use Rattle.bench.specs.ServiceEnds.{open_services, latest_of, served_in, ended_of};
 
-use control::{Mode, Requested};
+use control::Mode;
 use isa::Source;
 
 fn open_services(mode: Mode) -> u8
     ensures { result ≡ open_services mode }
 {
     match mode {
-        Mode::Reset => 0,
-        Mode::Normal => 0,
-        Mode::Interrupt => 1,
-        Mode::NmiOverNormal => 1,
+        Mode::Reset | Mode::Normal => 0,
+        Mode::Interrupt | Mode::NmiOverNormal => 1,
         Mode::NmiOverInterrupt => 2,
     }
 }
 
-fn served_in(mode: Mode, latest: Source) -> Requested
+fn served_in(mode: Mode, latest: Source) -> Option<Source>
     ensures { result ≡ served_in mode latest }
 {
     match mode {
-        Mode::Reset => return Requested::Nothing,
-        Mode::Normal => return Requested::Nothing,
-        Mode::Interrupt => return Requested::Taken(latest),
-        Mode::NmiOverNormal => return Requested::Taken(Source::Nmi),
-        Mode::NmiOverInterrupt => return Requested::Taken(Source::Nmi),
+        Mode::Reset | Mode::Normal => None,
+        Mode::Interrupt => Some(latest),
+        Mode::NmiOverNormal | Mode::NmiOverInterrupt => Some(Source::Nmi),
     }
 }
 
 // Of the sources 1 to 4 the one taken last, where a step takes a request or none.
-pub fn latest_source(latest: Source, requested: Requested) -> Source
+pub fn latest_source(latest: Source, requested: Option<Source>) -> Source
     ensures { result ≡ latest_of latest requested }
 {
-    let Requested::Taken(source) = requested else {
-        return latest;
-    };
-    match source {
-        Source::Nmi => latest,
-        Source::First => Source::First,
-        Source::Second => Source::Second,
-        Source::Third => Source::Third,
-        Source::Fourth => Source::Fourth,
+    match requested {
+        None | Some(Source::Nmi) => latest,
+        Some(source) => source,
     }
 }
 
 // The request whose service a step ends, if any.
-pub fn ended_request(before: Mode, after: Mode, latest: Source) -> Requested
+#[tactic(auto, unfolding(crate::specs::ServiceEnds::ended_of))]
+pub fn ended_request(before: Mode, after: Mode, latest: Source) -> Option<Source>
     ensures { result ≡ ended_of before after latest }
 {
     if open_services(after) < open_services(before) {
-        return served_in(before, latest);
+        served_in(before, latest)
+    } else {
+        None
     }
-    Requested::Nothing
 }

@@ -1,10 +1,10 @@
 // The manual's examples of instructions on data, but for those that are among P1 to P6.
+use crate::parts::place;
 use alu::Flags;
 use control::{Control, Mode};
 use machine::state::fresh;
 use machine::step::step;
 use machine::{FlagPairs, Machine};
-use printing::{put, put_byte};
 use std::io;
 
 // A machine in normal mode at an address, with Z, C and data bytes.
@@ -13,8 +13,7 @@ pub fn machine_at(pc: u16, zero: bool, carry: bool, bytes: [u8; 256]) -> Machine
         zero: false,
         carry: false,
     };
-    let blank = fresh();
-    let stack = blank.stack;
+    let stack = fresh().stack;
     Machine {
         control: Control {
             pc,
@@ -32,96 +31,71 @@ pub fn machine_at(pc: u16, zero: bool, carry: bool, bytes: [u8; 256]) -> Machine
     }
 }
 
-fn flag(is: bool) -> u8 {
-    if is { 1 } else { 0 }
-}
-
 // A 4K image with up to three bytes at 100h; the window shows 00h-3Fh, where a data address of 40h to 7Fh finds its
 // value.
 fn image_of(code: [u8; 3], address: u8, value: u8) -> [u8; 4096] {
     let mut image = [0u8; 4096];
-    image[0x100] = code[0];
-    image[0x101] = code[1];
-    image[0x102] = code[2];
-    if 0x40 <= address {
-        if address < 0x80 {
-            image[(address - 0x40) as usize] = value;
-        }
+    place(&mut image, 0x100, &code);
+    if 0x40 <= address && address < 0x80 {
+        image[(address - 0x40) as usize] = value;
     }
     image
 }
 
-// Whether A, the byte at an address, Z and C are as expected.
-fn agrees(m: Machine, address: u8, after: [u8; 4]) -> bool {
-    let bytes = m.bytes;
-    let pairs = m.flags;
-    let normal = pairs.normal;
-    if bytes[0xFF] != after[0] {
-        return false;
-    }
-    if bytes[address as usize] != after[1] {
-        return false;
-    }
-    if flag(normal.zero) != after[2] {
-        return false;
-    }
-    flag(normal.carry) == after[3]
-}
-
-fn with_byte(bytes: [u8; 256], address: u8, value: u8) -> [u8; 256] {
-    let mut changed = bytes;
-    changed[address as usize] = value;
-    changed
+// A, the byte at an address, Z and C.
+fn outcome(m: Machine, address: u8) -> [u8; 4] {
+    let flags = m.flags.normal;
+    [
+        m.bytes[0xFF],
+        m.bytes[address as usize],
+        u8::from(flags.zero),
+        u8::from(flags.carry),
+    ]
 }
 
 // One example. Before: A, X, Y, an address and its byte, C. After: A, the byte, Z, C.
 fn example(
     rt: &impl Print,
-    what: &[u8],
+    what: &str,
     code: [u8; 3],
     before: [u8; 6],
     after: [u8; 4],
 ) -> io::Result<()> {
+    let [a, x, y, address, value, carry] = before;
     let mut bytes = [0u8; 256];
-    let address = before[3];
-    bytes[0xFF] = before[0];
-    bytes[0x80] = before[1];
-    bytes[0x81] = before[2];
-    bytes = with_byte(bytes, address, before[4]);
-    let image = image_of(code, address, before[4]);
-    let m = machine_at(0x100, false, before[5] == 1, bytes);
+    bytes[0xFF] = a;
+    bytes[0x80] = x;
+    bytes[0x81] = y;
+    bytes[address as usize] = value;
+    let image = image_of(code, address, value);
+    let m = machine_at(0x100, false, carry == 1, bytes);
     let stepped = step(&image, m, 0);
-    let result = stepped.machine;
-    put(rt, what)?;
-    put(rt, b": A ")?;
-    put_byte(rt, after[0])?;
-    put(rt, b", byte ")?;
-    put_byte(rt, after[1])?;
-    if agrees(result, address, after) {
-        put(rt, b", flags: as expected\n")
+    print!(rt; "{what}: A {:02X}, byte {:02X}", after[0], after[1])?;
+    if outcome(stepped.machine, address) == after {
+        println!(rt; ", flags: as expected")
     } else {
-        put(rt, b": DIFFERS\n")
+        println!(rt; ": DIFFERS")
     }
 }
 
 fn put_sums(rt: &impl Print) -> io::Result<()> {
     example(
         rt,
-        b"ADDI A,22h",
+        "ADDI A,22h",
         [0x57, 0x22, 0],
         [0x20, 0, 0, 0x22, 0, 1],
         [0x42, 0, 0, 0],
     )?;
     example(
         rt,
-        b"AND A,54h",
+        "AND A,54h",
         [0xBF, 0x54, 0],
         [0xCC, 0, 0, 0x54, 0xF0, 1],
         [0xC0, 0xF0, 0, 1],
     )?;
     example(
         rt,
-        b"ANDI A,33h",
+        "ANDI A,33h",
         [0xB7, 0x33, 0],
         [0x0F, 0, 0, 0x22, 0, 0],
         [0x03, 0, 0, 0],
@@ -131,28 +105,28 @@ fn put_sums(rt: &impl Print) -> io::Result<()> {
 fn put_comparisons(rt: &impl Print) -> io::Result<()> {
     example(
         rt,
-        b"CP A,34h",
+        "CP A,34h",
         [0x3F, 0x34, 0],
         [0xF8, 0, 0, 0x34, 0x1C, 1],
         [0xF8, 0x1C, 0, 0],
     )?;
     example(
         rt,
-        b"CPI A,1Ch",
+        "CPI A,1Ch",
         [0x37, 0x1C, 0],
         [0xF8, 0, 0, 0x34, 0, 1],
         [0xF8, 0, 0, 0],
     )?;
     example(
         rt,
-        b"RLC A",
+        "RLC A",
         [0xAD, 0, 0],
         [0x89, 0, 0, 0x22, 0, 0],
         [0x12, 0, 0, 1],
     )?;
     example(
         rt,
-        b"SLA A",
+        "SLA A",
         [0x5F, 0xFF, 0],
         [0xCD, 0, 0, 0x22, 0, 0],
         [0x9A, 0, 0, 1],
@@ -162,14 +136,14 @@ fn put_comparisons(rt: &impl Print) -> io::Result<()> {
 fn put_differences(rt: &impl Print) -> io::Result<()> {
     example(
         rt,
-        b"SUB A,(Y)",
+        "SUB A,(Y)",
         [0xCF, 0, 0],
         [0x78, 0, 0x23, 0x23, 0x53, 1],
         [0x25, 0x53, 0, 0],
     )?;
     example(
         rt,
-        b"SUBI A,25h",
+        "SUBI A,25h",
         [0xD7, 0x25, 0],
         [0x56, 0, 0, 0x22, 0, 1],
         [0x31, 0, 0, 0],
@@ -181,28 +155,28 @@ fn put_differences(rt: &impl Print) -> io::Result<()> {
 fn put_stores(rt: &impl Print) -> io::Result<()> {
     example(
         rt,
-        b"CLR 22h",
+        "CLR 22h",
         [0x0D, 0x22, 0x00],
         [0x01, 0, 0, 0x22, 0x33, 1],
         [0x01, 0x00, 0, 1],
     )?;
     example(
         rt,
-        b"DEC (X), X 25h",
+        "DEC (X), X 25h",
         [0xE7, 0, 0],
         [0x01, 0x25, 0, 0x25, 0x16, 1],
         [0x01, 0x15, 0, 1],
     )?;
     example(
         rt,
-        b"INC (X), X 25h",
+        "INC (X), X 25h",
         [0x67, 0, 0],
         [0x01, 0x25, 0, 0x25, 0x16, 0],
         [0x01, 0x17, 0, 0],
     )?;
     example(
         rt,
-        b"DEC (X), X 45h",
+        "DEC (X), X 45h",
         [0xE7, 0, 0],
         [0x01, 0x45, 0, 0x45, 0x01, 0],
         [0x01, 0x01, 1, 0],
@@ -212,21 +186,21 @@ fn put_stores(rt: &impl Print) -> io::Result<()> {
 fn put_loads(rt: &impl Print) -> io::Result<()> {
     example(
         rt,
-        b"LD A,34h",
+        "LD A,34h",
         [0x1F, 0x34, 0],
         [0x00, 0, 0, 0x34, 0x45, 1],
         [0x45, 0x45, 0, 1],
     )?;
     example(
         rt,
-        b"LDI 34h,45h",
+        "LDI 34h,45h",
         [0x0D, 0x34, 0x45],
         [0x00, 0, 0, 0x34, 0x00, 1],
         [0x00, 0x45, 0, 1],
     )?;
     example(
         rt,
-        b"LDI A,00h",
+        "LDI A,00h",
         [0x17, 0x00, 0],
         [0x45, 0, 0, 0x34, 0x00, 1],
         [0x00, 0x00, 1, 1],
@@ -236,7 +210,7 @@ fn put_loads(rt: &impl Print) -> io::Result<()> {
 fn put_bits(rt: &impl Print) -> io::Result<()> {
     example(
         rt,
-        b"SET 4,23h",
+        "SET 4,23h",
         [0x3B, 0x23, 0],
         [0x00, 0, 0, 0x23, 0x00, 0],
         [0x00, 0x10, 0, 0],

@@ -1,9 +1,9 @@
 // The manual's examples of jumps and returns, but for those that are among P7 to P10, and document 01's words on
 // their ends.
 use crate::examples::machine_at;
+use machine::Machine;
 use machine::step::step;
-use machine::{Machine, StepAnswer};
-use printing::{put, put_address, put_refusal};
+use printing::put_refusal;
 use std::io;
 
 // A 4K image with up to three bytes at an address, and 0 elsewhere.
@@ -17,25 +17,20 @@ fn image_at(at: u16, code: [u8; 3]) -> [u8; 4096] {
 }
 
 // Where one step of a machine goes, or what stops it.
-fn put_step(rt: &impl Print, what: &[u8], image: &[u8], m: Machine) -> io::Result<()> {
+fn put_step(rt: &impl Print, what: &str, image: &[u8], m: Machine) -> io::Result<()> {
     let stepped = step(image, m, 0);
-    let after = stepped.machine;
-    let report = stepped.report;
-    let answer = report.answer;
-    let control = after.control;
-    put(rt, what)?;
-    put(rt, b": ")?;
-    match answer {
-        StepAnswer::Done(_) => put_address(rt, control.pc)?,
-        StepAnswer::Refused(refusal) => put_refusal(rt, refusal)?,
+    print!(rt; "{what}: ")?;
+    match stepped.report.answer {
+        Ok(_) => print!(rt; "{:03X}", stepped.machine.control.pc)?,
+        Err(refusal) => put_refusal(rt, refusal)?,
     }
-    put(rt, b"\n")
+    println!(rt; "")
 }
 
 // A jump at an address, with Z and C.
 fn jump(
     rt: &impl Print,
-    what: &[u8],
+    what: &str,
     at: u16,
     code: [u8; 3],
     zero: bool,
@@ -46,37 +41,20 @@ fn jump(
 }
 
 // The same with one level in use, whose return address is given.
-fn with_level(
-    rt: &impl Print,
-    what: &[u8],
-    at: u16,
-    code: [u8; 3],
-    address: u16,
-) -> io::Result<()> {
+fn with_level(rt: &impl Print, what: &str, at: u16, code: [u8; 3], address: u16) -> io::Result<()> {
     let image = image_at(at, code);
     let mut m = machine_at(at, false, false, [0u8; 256]);
-    let mut control = m.control;
-    let mut stack = m.stack;
-    stack[0] = address;
-    control.levels = 1;
-    m.stack = stack;
-    m.control = control;
+    m.stack[0] = address;
+    m.control.levels = 1;
     put_step(rt, what, &image, m)
 }
 
 pub fn put_jumps(rt: &impl Print) -> io::Result<()> {
-    jump(rt, b"JRC +8 at 200h, C 1", 0x200, [0x3E, 0, 0], false, true)?;
+    jump(rt, "JRC +8 at 200h, C 1", 0x200, [0x3E, 0, 0], false, true)?;
+    jump(rt, "JRC +8 at 200h, C 0", 0x200, [0x3E, 0, 0], false, false)?;
     jump(
         rt,
-        b"JRC +8 at 200h, C 0",
-        0x200,
-        [0x3E, 0, 0],
-        false,
-        false,
-    )?;
-    jump(
-        rt,
-        b"JRNC -5 at 200h, C 0",
+        "JRNC -5 at 200h, C 0",
         0x200,
         [0xD2, 0, 0],
         false,
@@ -84,18 +62,18 @@ pub fn put_jumps(rt: &impl Print) -> io::Result<()> {
     )?;
     jump(
         rt,
-        b"JRNZ -5 at 200h, Z 0",
+        "JRNZ -5 at 200h, Z 0",
         0x200,
         [0xD0, 0, 0],
         false,
         false,
     )?;
-    jump(rt, b"JRZ +8 at 200h, Z 1", 0x200, [0x3C, 0, 0], true, false)?;
-    with_level(rt, b"RET at 456h to 3DFh", 0x456, [0xCD, 0, 0], 0x3DF)?;
-    with_level(rt, b"RETI at 456h to 3DFh", 0x456, [0x4D, 0, 0], 0x3DF)?;
+    jump(rt, "JRZ +8 at 200h, Z 1", 0x200, [0x3C, 0, 0], true, false)?;
+    with_level(rt, "RET at 456h to 3DFh", 0x456, [0xCD, 0, 0], 0x3DF)?;
+    with_level(rt, "RETI at 456h to 3DFh", 0x456, [0x4D, 0, 0], 0x3DF)?;
     jump(
         rt,
-        b"RET at 456h, stack empty",
+        "RET at 456h, stack empty",
         0x456,
         [0xCD, 0, 0],
         false,
@@ -103,13 +81,13 @@ pub fn put_jumps(rt: &impl Print) -> io::Result<()> {
     )?;
     jump(
         rt,
-        b"CALL at FFFh, operand at 000h",
+        "CALL at FFFh, operand at 000h",
         0xFFF,
         [0x01, 0x20, 0],
         false,
         false,
     )?;
-    jump(rt, b"JRC at FFFh, +16", 0xFFF, [0x7E, 0, 0], false, true)?;
-    jump(rt, b"STOP at FFFh", 0xFFF, [0x6D, 0, 0], false, false)?;
-    jump(rt, b"Undefined 8Dh", 0x300, [0x8D, 0, 0], false, false)
+    jump(rt, "JRC at FFFh, +16", 0xFFF, [0x7E, 0, 0], false, true)?;
+    jump(rt, "STOP at FFFh", 0xFFF, [0x6D, 0, 0], false, false)?;
+    jump(rt, "Undefined 8Dh", 0x300, [0x8D, 0, 0], false, false)
 }

@@ -10,6 +10,7 @@ mod keys;
 mod lines;
 mod making;
 mod pages;
+mod parts;
 mod playing;
 mod programs;
 mod readings;

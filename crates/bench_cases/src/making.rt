@@ -2,9 +2,8 @@
 use crate::lines::{IMAGE, MARKS, p11};
 use crate::sizing::{recursive_image, sizing_image};
 use crate::widths::put_formula;
-use maker::Made;
 use maker::make::make;
-use printing::{put, put_address, put_byte, put_number, put_refusal};
+use printing::put_refusal;
 use std::io;
 
 // What a buffer holds before.
@@ -12,55 +11,45 @@ const FILL: u8 = 0xAA;
 
 // The marks of a 2K certificate, each after its address.
 fn put_marks(rt: &impl Print, certificate: &[u8; 2048]) -> io::Result<()> {
-    for i in 0..2048u16 {
-        let mark = certificate[i as usize];
+    for (i, mark) in certificate.iter().enumerate() {
+        let mark = *mark;
+        let address = 0x800 + i;
         if mark != 0 {
-            put(rt, b" ")?;
-            put_address(rt, 0x800 + i)?;
-            put(rt, b":")?;
-            put_byte(rt, mark)?;
+            print!(rt; " {address:03X}:{mark:02X}")?;
         }
     }
     Ok(())
 }
 
 // How many bytes of a buffer are as they were.
-fn kept(buffer: &[u8; 2048]) -> u32 {
-    let mut same: u32 = 0;
-    for i in 0..2048u32 {
-        if buffer[i as usize] == FILL {
-            same += 1;
-        }
-    }
-    same
+fn kept(buffer: &[u8; 2048]) -> usize {
+    buffer.iter().filter(|byte| **byte == FILL).count()
 }
 
 // Makes a certificate into a buffer of 2K.
-fn put_made(rt: &impl Print, what: &[u8], image: &[u8], wired: u8) -> io::Result<()> {
+fn put_made(rt: &impl Print, what: &str, image: &[u8], wired: u8) -> io::Result<()> {
     let mut buffer = [FILL; 2048];
-    put(rt, what)?;
-    put(rt, b": ")?;
+    print!(rt; "{what}: ")?;
     match make(image, wired, &mut buffer) {
-        Made::Written(levels) => {
-            put_number(rt, levels as u32)?;
-            put(rt, b" levels,")?;
+        Ok(levels) => {
+            print!(rt; "{levels} levels,")?;
             put_marks(rt, &buffer)?;
         }
-        Made::Refused(refusal) => {
+        Err(refusal) => {
             put_refusal(rt, refusal)?;
-            put(rt, b", bytes kept: ")?;
-            put_number(rt, kept(&buffer))?;
+            let kept = kept(&buffer);
+            print!(rt; ", bytes kept: {kept}")?;
         }
     }
-    put(rt, b"\n")
+    println!(rt; "")
 }
 
 // The sizing program's widths, with the certificate that is made for it.
 fn put_sized(rt: &impl Print) -> io::Result<()> {
     let image = sizing_image();
     let mut certificate = [0u8; 2048];
-    make(&image, 0, &mut certificate);
-    put(rt, b"with the made certificate, ")?;
+    let _ = make(&image, 0, &mut certificate);
+    print!(rt; "with the made certificate, ")?;
     put_formula(rt, &image, &certificate)
 }
 
@@ -69,16 +58,16 @@ fn put_refused(rt: &impl Print) -> io::Result<()> {
     let recursive = recursive_image();
     // 05h is no instruction: with a long enough buffer this would be 26.
     let large = [0x05u8; 4096];
-    put_made(rt, b"recursion", &recursive, 0x00)?;
-    put_made(rt, b"4K into 2K", &large, 0x00)?;
-    put_made(rt, b"4K into 2K, wired 20h", &large, 0x20)?;
-    put_made(rt, b"2047 bytes, wired 20h", &large[..2047], 0x20)
+    put_made(rt, "recursion", &recursive, 0x00)?;
+    put_made(rt, "4K into 2K", &large, 0x00)?;
+    put_made(rt, "4K into 2K, wired 20h", &large, 0x20)?;
+    put_made(rt, "2047 bytes, wired 20h", &large[..2047], 0x20)
 }
 
 pub fn put_making(rt: &impl Print) -> io::Result<()> {
     let job = p11();
-    put_made(rt, b"P11 made", &job[IMAGE..MARKS], 0x01)?;
-    put_made(rt, b"P11 with all wired", &job[IMAGE..MARKS], 0x1F)?;
+    put_made(rt, "P11 made", &job[IMAGE..MARKS], 0x01)?;
+    put_made(rt, "P11 with all wired", &job[IMAGE..MARKS], 0x1F)?;
     put_sized(rt)?;
     put_refused(rt)
 }

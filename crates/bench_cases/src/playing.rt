@@ -2,42 +2,29 @@
 use crate::sample::sample;
 use crate::states::{put_ending, put_state};
 use playback::play::play;
-use playback::{PlayAnswer, PlayReport};
-use printing::{put, put_number, put_refusal};
+use printing::put_refusal;
 use std::io;
 
-fn put_played(rt: &impl Print, report: PlayReport) -> io::Result<()> {
-    let ending = report.ending;
-    put_number(rt, report.entries)?;
-    put(rt, b" entries, ")?;
-    put_number(rt, report.cycles)?;
-    put(rt, b" cycles, ")?;
-    put_ending(rt, ending)
-}
-
-fn put_playing(rt: &impl Print, what: &[u8], image: &[u8], recording: &[u8]) -> io::Result<()> {
-    let played = play(image, recording);
-    let after = played.machine;
-    let answer = played.answer;
-    put(rt, what)?;
-    put(rt, b": ")?;
-    match answer {
-        PlayAnswer::Refused(refusal) => {
-            put_refusal(rt, refusal)?;
-            put(rt, b"\n")
+fn put_playing(rt: &impl Print, what: &str, image: &[u8], recording: &[u8]) -> io::Result<()> {
+    print!(rt; "{what}: ")?;
+    match play(image, recording) {
+        Ok(played) => {
+            print!(rt; "{} entries, {} cycles, ", played.entries, played.cycles)?;
+            put_ending(rt, played.ending)?;
+            put_state(rt, played.machine)
         }
-        PlayAnswer::Ended(report) => {
-            put_played(rt, report)?;
-            put_state(rt, after)
+        Err(refusal) => {
+            put_refusal(rt, refusal)?;
+            println!(rt; "")
         }
     }
 }
 
 fn put_whole(rt: &impl Print, image: &[u8]) -> io::Result<()> {
-    put_playing(rt, b"empty", image, b"\x01\x00\x00")?;
+    put_playing(rt, "empty", image, b"\x01\x00\x00")?;
     put_playing(
         rt,
-        b"store, step, step, reset, step",
+        "store, step, step, reset, step",
         image,
         b"\x01\x00\x0A\x01\x22\x30\x00\x00\x00\x00\x02\x00\x00",
     )
@@ -47,13 +34,13 @@ fn put_whole(rt: &impl Print, image: &[u8]) -> io::Result<()> {
 fn put_ended(rt: &impl Print, image: &[u8]) -> io::Result<()> {
     put_playing(
         rt,
-        b"step, reset, store at 40h, step",
+        "step, reset, store at 40h, step",
         image,
         b"\x01\x00\x08\x00\x00\x02\x01\x40\x30\x00\x00",
     )?;
     put_playing(
         rt,
-        b"step, step with 20h",
+        "step, step with 20h",
         image,
         b"\x01\x00\x04\x00\x00\x00\x20",
     )
@@ -65,22 +52,22 @@ fn put_stopped(rt: &impl Print) -> io::Result<()> {
     image[0x7FE] = 0xCD;
     put_playing(
         rt,
-        b"store, step that stops",
+        "store, step that stops",
         &image,
         b"\x01\x00\x05\x01\x22\x30\x00\x00",
     )
 }
 
 fn put_refused(rt: &impl Print, image: &[u8]) -> io::Result<()> {
-    put_playing(rt, b"short image", b"\x00", b"\x03")?;
-    put_playing(rt, b"two bytes of version 3", image, b"\x03\x00")?;
-    put_playing(rt, b"version 3, wrong count", image, b"\x03\x00\x01")?;
-    put_playing(rt, b"three bytes of version 2", image, b"\x02\x00\x00")?;
-    put_playing(rt, b"version 2, one reset", image, b"\x02\x00\x00\x01\x02")?;
-    put_playing(rt, b"wrong count", image, b"\x01\x00\x02\x03")?;
-    put_playing(rt, b"unknown entry", image, b"\x01\x00\x03\x00\x00\x03")?;
-    put_playing(rt, b"cut step", image, b"\x01\x00\x01\x00")?;
-    put_playing(rt, b"cut store", image, b"\x01\x00\x02\x01\x22")
+    put_playing(rt, "short image", b"\x00", b"\x03")?;
+    put_playing(rt, "two bytes of version 3", image, b"\x03\x00")?;
+    put_playing(rt, "version 3, wrong count", image, b"\x03\x00\x01")?;
+    put_playing(rt, "three bytes of version 2", image, b"\x02\x00\x00")?;
+    put_playing(rt, "version 2, one reset", image, b"\x02\x00\x00\x01\x02")?;
+    put_playing(rt, "wrong count", image, b"\x01\x00\x02\x03")?;
+    put_playing(rt, "unknown entry", image, b"\x01\x00\x03\x00\x00\x03")?;
+    put_playing(rt, "cut step", image, b"\x01\x00\x01\x00")?;
+    put_playing(rt, "cut store", image, b"\x01\x00\x02\x01\x22")
 }
 
 // Version 2 with the least number of bytes that it is for, and with one less.
@@ -90,11 +77,11 @@ fn put_long(rt: &impl Print, image: &[u8]) -> io::Result<()> {
     recording[1] = 1;
     recording[2] = 0;
     recording[3] = 0;
-    put_playing(rt, b"version 2, 65536 resets", image, &recording)?;
+    put_playing(rt, "version 2, 65536 resets", image, &recording)?;
     recording[1] = 0;
     recording[2] = 0xFF;
     recording[3] = 0xFF;
-    put_playing(rt, b"version 2, 65535 resets", image, &recording[..65539])
+    put_playing(rt, "version 2, 65535 resets", image, &recording[..65539])
 }
 
 pub fn put_playings(rt: &impl Print) -> io::Result<()> {

@@ -1,4 +1,5 @@
 // Small programs, by their bytes.
+use crate::parts::place;
 
 // RETI; LDI A,20h; LDI 22h,33h; ADD A,22h; COM A; ADDI A,60h; RLC A; CPI A,20h; SUBI A,1Ah; AND A,22h; ANDI A,0Fh;
 // SUB A,A; SLA A.
@@ -48,19 +49,10 @@ pub const ASKED: [u8; 18] = [
 // A 4K image with the code at 100h, JP 100h at FFEh, and RETI at the vectors of NMI and of the sources.
 pub fn image_of(code: &[u8]) -> [u8; 4096] {
     let mut image = [0u8; 4096];
-    let mut i: usize = 0;
-    while i < code.len() {
-        if i < 256 {
-            image[0x100 + i] = code[i];
-        }
-        i += 1;
+    place(&mut image, 0x100, code);
+    place(&mut image, 0xFFE, b"\x09\x10");
+    for vector in [0xFFC, 0xFF6, 0xFF4, 0xFF2, 0xFF0] {
+        place(&mut image, vector, b"\x4D");
     }
-    image[0xFFE] = 0x09;
-    image[0xFFF] = 0x10;
-    image[0xFFC] = 0x4D;
-    image[0xFF6] = 0x4D;
-    image[0xFF4] = 0x4D;
-    image[0xFF2] = 0x4D;
-    image[0xFF0] = 0x4D;
     image
 }

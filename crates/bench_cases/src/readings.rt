@@ -2,29 +2,27 @@
 use crate::examples::machine_at;
 use crate::sample::sample;
 use crate::states::put_origin;
+use machine::Machine;
 use machine::reading::read;
-use machine::{Machine, ReadAnswer};
-use printing::{put, put_byte, put_refusal};
+use printing::put_refusal;
 use std::io;
 
 fn put_reading(
     rt: &impl Print,
-    what: &[u8],
+    what: &str,
     image: &[u8],
     m: Machine,
     address: u8,
 ) -> io::Result<()> {
-    put(rt, what)?;
-    put(rt, b": ")?;
+    print!(rt; "{what}: ")?;
     match read(image, m, address) {
-        ReadAnswer::Done { byte, origin } => {
-            put_byte(rt, byte)?;
-            put(rt, b" from ")?;
-            put_origin(rt, origin)?;
+        Ok(reading) => {
+            print!(rt; "{:02X} from ", reading.byte)?;
+            put_origin(rt, reading.origin)?;
         }
-        ReadAnswer::Refused(refusal) => put_refusal(rt, refusal)?,
+        Err(refusal) => put_refusal(rt, refusal)?,
     }
-    put(rt, b"\n")
+    println!(rt; "")
 }
 
 // A machine with a page in the ROM window register, sources enabled, and a byte after both registers.
@@ -41,21 +39,21 @@ fn with_page(page: u8) -> Machine {
 // Page 22h shows 880h, where the sample begins; the 2K image has nothing at page 1Fh, and begins at page 20h.
 fn put_bytes(rt: &impl Print, image: &[u8]) -> io::Result<()> {
     let m = with_page(0x22);
-    put_reading(rt, b"3Fh", image, m, 0x3F)?;
-    put_reading(rt, b"80h", image, m, 0x80)?;
-    put_reading(rt, b"41h, page 22h", image, m, 0x41)?;
-    put_reading(rt, b"7Fh, page 1Fh", image, with_page(0x1F), 0x7F)?;
-    put_reading(rt, b"40h, page 20h", image, with_page(0x20), 0x40)?;
-    put_reading(rt, b"C8h, 10h stored", image, m, 0xC8)?;
-    put_reading(rt, b"C9h, 22h stored", image, m, 0xC9)?;
-    put_reading(rt, b"CAh, 55h stored", image, m, 0xCA)
+    put_reading(rt, "3Fh", image, m, 0x3F)?;
+    put_reading(rt, "80h", image, m, 0x80)?;
+    put_reading(rt, "41h, page 22h", image, m, 0x41)?;
+    put_reading(rt, "7Fh, page 1Fh", image, with_page(0x1F), 0x7F)?;
+    put_reading(rt, "40h, page 20h", image, with_page(0x20), 0x40)?;
+    put_reading(rt, "C8h, 10h stored", image, m, 0xC8)?;
+    put_reading(rt, "C9h, 22h stored", image, m, 0xC9)?;
+    put_reading(rt, "CAh, 55h stored", image, m, 0xCA)
 }
 
 // No image and a PC outside program space: 1 comes first; then that PC alone.
 fn put_refusals(rt: &impl Print, image: &[u8]) -> io::Result<()> {
     let m = machine_at(0x1000, false, false, [0u8; 256]);
-    put_reading(rt, b"no image, PC 1000h", b"", m, 0x3F)?;
-    put_reading(rt, b"PC 1000h", image, m, 0x3F)
+    put_reading(rt, "no image, PC 1000h", b"", m, 0x3F)?;
+    put_reading(rt, "PC 1000h", image, m, 0x3F)
 }
 
 pub fn put_readings(rt: &impl Print) -> io::Result<()> {

@@ -1,15 +1,6 @@
 // Programs for the gauge, each an image of 2K and its certificate, both from 800h on.
 
-// Writes a part from a place on, as far as there is room.
-fn place(bytes: &mut [u8; 2048], start: usize, part: &[u8]) {
-    let mut at = start;
-    for i in 0..part.len() {
-        if at < 2048 {
-            bytes[at] = part[i];
-            at += 1;
-        }
-    }
-}
+use crate::parts::place;
 
 // FFEh JP 880h; 880h RETI, which ends start-up; from 881h on the main code.
 fn image_of(main: &[u8]) -> [u8; 2048] {

@@ -3,8 +3,8 @@ use Prim.Native.Nat.{ℕ, zero, suc, ◌+◌, ◌-◌, ◌≤◌, ◌<◌, ◌/�
 use native.Mathlib.Omega.{arith}
 use mathlib.Core.Bool.{Bool, true, false, cond, ◌&&◌}
 use mathlib.Core.Logic.{◌≢◌}
-use borrow.Author.Tests.{leb-true, le-leb, lt-ltb, eq-eqb, ne_eqb}
-use mathlib.Core.Path.{◌≡◌, refl, sym}
+use borrow.Author.Tests.{leb-true, le-leb, lt-ltb}
+use mathlib.Core.Path.{◌≡◌, refl}
 use mathlib.Core.List.{List}
 use lib.Dec.{ltb, leb, eqb}
 use lib.ListN.{length, get_or}
@@ -13,9 +13,7 @@ use Rattle.isa.specs.Decode.{Decoding, decode_at}
 use Rattle.isa.specs.FlowAt as flow_at
 use Rattle.isa.specs.FlowAt.{Continuing, continuation_from}
 use Rattle.isa.specs.Refusals.{Numbered, located, Answer, done, refused, unless}
-use Rattle.certificate.specs.Marks.{mark_at, WellFormed, kind_of, kind_at, need_at, lowest}
-use Rattle.certificate.specs.Successors.{has_kind, covers_mark, covers}
-use Rattle.certificate.specs.declared.successors.Successor.{Successor}
+use Rattle.certificate.specs.Marks.{mark_at, WellFormed, kind_of, lowest}
 use Rattle.certificate.specs.Findings.{Found, passes, fault, and_then}
 use Rattle.certificate.specs.Check.{flow_found, decoded_found, pages_found, mark_found, marks_in}
 use Rattle.certificate.specs.Passes.{page_found}
@@ -62,9 +60,6 @@ pub both_pass : (f g : Found) → and_then f g ≡ passes → (f ≡ passes) × 
 both_pass passes g e = (refl, e)
 both_pass (fault r) g e = absurd (not_both e)
 
-pub positive : {k : ℕ} → k ≢ 0 → 0 < k
-positive n = omega arith
-
 -- a mark has a kind exactly when it is well formed, and that is its high digit
 pub well_formed_lem : (mark : ℕ) → 1 ≤ kind_of mark → WellFormed mark
 well_formed_lem mark h = go (leb (mark / 16) 4) (leb (mark % 16) 6) refl refl h
@@ -95,17 +90,3 @@ at_most_4096 n = by_test (eqb n 2048)
     by_test : (b : Bool) → cond b 2048 4096 ≤ 4096
     by_test true = omega arith
     by_test false = omega arith
-
--- the tests of a successor, by its mark
-module _ (certificate : List ℕ) (s : Successor) {mark : ℕ} (at : mark ≡ mark_at certificate s.address) where
-  pub right_kind : {kind : ℕ} → kind ≡ kind_of mark → kind ≡ s.kind → has_kind certificate s ≡ true
-  unfolding kind_at
-  right_kind e k = rw (← at, ← e) (eq-eqb _ _ k)
-
-  pub wrong_kind : {kind : ℕ} → kind ≡ kind_of mark → kind ≢ s.kind → has_kind certificate s ≡ false
-  unfolding kind_at
-  wrong_kind e k = rw (← at, ← e) (ne_eqb _ _ k)
-
-  pub covered : (need : ℕ) {r : Bool} → r ≡ covers_mark need mark s.levels → covers certificate need s ≡ r
-  unfolding need_at
-  covered need e = rw (← at) (sym e)

@@ -11,7 +11,7 @@ use borrow.Author.Tests.{leb-true, le-leb, eqb-true, eq-eqb, ne_eqb}
 use Rattle.isa.specs.Refusals.{located}
 use Rattle.isa.specs.declared.Flow.{Flow}
 use Rattle.isa.specs.declared.Flow.TheVariants as flow
-use Rattle.certificate.specs.declared.successors.Successor.{Successor}
+use Rattle.certificate.specs.Successors.{Successor}
 use Rattle.certificate.specs.Findings.{passes}
 use Rattle.certificate.specs.Marks.{kind_at, need_at}
 use Rattle.certificate.specs.Successors.{placed, continues_at, successors_of, all_have_kind, covers_all}

@@ -20,7 +20,7 @@ use Rattle.isa.specs.declared.Flow.{Flow}
 use Rattle.isa.specs.declared.Flow.TheVariants as flow
 use Rattle.isa.specs.declared.Source.{Source}
 use Rattle.isa.specs.declared.Source.TheVariants.{Nmi, First, Second, Third, Fourth}
-use Rattle.certificate.specs.declared.successors.Successor.{Successor}
+use Rattle.certificate.specs.Successors.{Successor}
 use Rattle.certificate.specs.Marks.{mark_at, Marked, kind_of, kind_at, need_at, lowest}
 use Rattle.certificate.specs.Findings.{passes, fault}
 use Rattle.certificate.specs.Successors.{placed, successors_of, every, has_kind, all_have_kind, covers, covers_all}

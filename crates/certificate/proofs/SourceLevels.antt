@@ -10,7 +10,7 @@ use Rattle.isa.specs.Sources.{is_named, vector_of}
 use Rattle.isa.specs.declared.Source.{Source}
 use Rattle.isa.specs.declared.Source.TheVariants.{First, Second, Third, Fourth}
 use Rattle.certificate.specs.Marks.{need_at}
-use Rattle.certificate.specs.Levels.{wired_needs, greatest, if_any, source_levels, levels_for}
+use Rattle.certificate.specs.Levels.{wired_needs, if_any, source_levels, levels_for}
 
 -- one need more, where its source is wired
 one_more : (wired : Bool) (n : ℕ) (ns : List ℕ) → if_any (cond wired (n ∷ ns) ns) ≡ max (cond wired (1 + n) 0) (if_any ns)

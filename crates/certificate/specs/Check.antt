@@ -5,11 +5,9 @@ use Rattle.isa.specs.Rom.{is_image, spaces_in, space_of}
 use Rattle.isa.specs.Decode.{Decoding, decode_at}
 use Rattle.isa.specs.Displacement.{forward_of}
 use Rattle.isa.specs.ControlFlow.{flow_of}
-use Rattle.isa.specs.Refusals.{plain, located, numbered, Answer, done, refused, unless}
+use Rattle.isa.specs.Refusals.{plain, located, Answer, done, refused, unless}
 use Rattle.isa.specs.Sources.{names_only_sources}
 use Rattle.isa.specs.declared.Flow.{Flow}
-use Rattle.certificate.specs.declared.Checked.{Checked}
-use Rattle.certificate.specs.declared.Checked.TheVariants.{Accepted, Refused}
 use Rattle.certificate.specs.Findings.{Found, passes, fault, and_then}
 use Rattle.certificate.specs.Marks.{kind_of, need_of, lowest}
 use Rattle.certificate.specs.Successors.{placed, successors_of, successors_found}
@@ -22,11 +20,6 @@ Verdict = Answer ℕ
 
 abbrev pub accepted : (levels : ℕ) → Verdict
 accepted levels = done levels
-
--- the program's answer by document 01's numbers
-abbrev pub answered : Checked → Verdict
-answered (Accepted levels) = accepted levels
-answered (Refused refusal) = refused (numbered refusal)
 
 -- "15 misplaced RET or RETI; 16 ..; 17 .."
 unfoldable pub flow_found : List ℕ → (a mark : ℕ) → Flow → (next : ℕ) → Found

@@ -1,17 +1,14 @@
--- What a part of the check finds (document 01, "Check").
-use Rattle.isa.specs.Refusals.{Numbered, numbered}
-use Rattle.certificate.specs.declared.Finding.{Finding}
-use Rattle.certificate.specs.declared.Finding.TheVariants.{Passes, Fault}
+-- What a part of the check finds (document 01, "Check"): nothing, or a refusal.
+use Rattle.isa.specs.Refusals.{Numbered, Ended, done, refused}
 
--- nothing, or a refusal
-pub data Found : Type 0 where
-  passes : Found
-  fault : Numbered → Found
+abbrev pub Found : Type 0
+Found = Ended
 
--- the program's finding by document 01's numbers
-abbrev pub found : Finding → Found
-found Passes = passes
-found (Fault refusal) = fault (numbered refusal)
+pattern abbrev pub passes : Found
+passes = done tt
+
+pattern abbrev pub fault : Numbered → Found
+fault refusal = refused refusal
 
 -- "The first that applies is given": the first of two parts
 abbrev pub and_then : Found → Found → Found

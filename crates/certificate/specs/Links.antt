@@ -2,9 +2,8 @@
 -- every successor is as it must be.
 use Rattle.std.specs.Prelude.{ℕ, ◌+◌, ◌≤◌, ◌≡◌, true, List, [], ◌∷◌}
 use Rattle.isa.specs.declared.Flow.{Flow}
-use Rattle.certificate.specs.declared.successors.Successor.{Successor}
 use Rattle.certificate.specs.Marks.{kind_at, need_at}
-use Rattle.certificate.specs.Successors.{placed, successors_of}
+use Rattle.certificate.specs.Successors.{Successor, placed, successors_of}
 use Rattle.certificate.specs.Rules.{FlowRule}
 
 -- from an instruction at a to its successor s: "has the same kind", or "the target has kind 4"; "The need is at least

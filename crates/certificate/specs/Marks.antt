@@ -1,5 +1,7 @@
 -- The certificate's marks (document 01, "The certificate").
-use Rattle.std.specs.Prelude.{ℕ, ◌+◌, ◌-◌, ◌/◌, ◌%◌, ◌≤◌, cond, ◌&&◌, ◌≢◌, List, leb, ltb, length, get_or}
+use Rattle.std.specs.Prelude.{ℕ, ◌+◌, ◌-◌, ◌/◌, ◌%◌, ◌≤◌, cond, ◌&&◌, ◌≢◌, List, leb, ltb, length, get_or, Option, Some, None}
+use Rattle.certificate.specs.declared.marks.Kind.{Kind}
+use Rattle.certificate.specs.declared.marks.Kind.TheVariants.{StartUp, Main, Service, Subroutine}
 
 -- "lowest address first": that of the first mark, 800h or 000h
 abbrev pub lowest : (certificate : List ℕ) → ℕ
@@ -25,6 +27,14 @@ pub record WellFormed (mark : ℕ) : Type 0 where
 -- malformed marks counting so" is then one test, that the kind is another
 abbrev pub kind_of : (mark : ℕ) → ℕ
 kind_of mark = cond (leb (mark / 16) 4 && leb (mark % 16) 6) (mark / 16) 0
+
+-- the program's kind by its number: "1 start-up, 2 main, 3 service, 4 subroutine", and 0 for none
+abbrev pub kind_number : Option Kind → ℕ
+kind_number None = 0
+kind_number (Some StartUp) = 1
+kind_number (Some Main) = 2
+kind_number (Some Service) = 3
+kind_number (Some Subroutine) = 4
 
 -- "Low digit, the need"
 abbrev pub need_of : (mark : ℕ) → ℕ

@@ -1,8 +1,8 @@
 -- A pass of the check over marks with one page in place.
-use Rattle.std.specs.Prelude.{ℕ, zero, suc, ◌+◌, ◌≤◌, ◌<◌, ◌≡◌, List, [], ◌∷◌, ltb, get_or, take}
+use Rattle.std.specs.Prelude.{ℕ, zero, suc, ◌+◌, ◌<◌, ◌≡◌, List, ltb, get_or}
 use Rattle.isa.specs.Decode.{decode_at}
 use Rattle.isa.specs.Refusals.{located, unless}
-use Rattle.certificate.specs.Findings.{Found, passes, fault, and_then}
+use Rattle.certificate.specs.Findings.{Found, passes, fault}
 use Rattle.certificate.specs.Marks.{kind_of, lowest}
 use Rattle.certificate.specs.Check.{decoded_found}
 

@@ -11,9 +11,8 @@ use Rattle.isa.specs.declared.Flow.{Flow}
 use Rattle.isa.specs.declared.Flow.TheVariants as flow
 use Rattle.isa.specs.declared.Source.{Source}
 use Rattle.isa.specs.declared.Source.TheVariants.{Nmi, First, Second, Third, Fourth}
-use Rattle.certificate.specs.declared.successors.Successor.{Successor}
 use Rattle.certificate.specs.Marks.{mark_at, Marked, WellFormed, kind_at, need_at, lowest}
-use Rattle.certificate.specs.Successors.{successors_of}
+use Rattle.certificate.specs.Successors.{Successor, successors_of}
 use Rattle.certificate.specs.Levels.{levels_of}
 use Rattle.certificate.specs.Check.{Verdict, marks_in, check_of}
 

@@ -1,13 +1,20 @@
 -- Where an instruction may stand and where it leads (document 01, "The certificate"), as the check goes by it.
-use Rattle.std.specs.Prelude.{ℕ, ◌+◌, Bool, true, cond, ◌&&◌, ◌||◌, List, [], ◌∷◌, leb, eqb}
+use Rattle.std.specs.Prelude.{ℕ, ◌+◌, Bool, true, cond, ◌&&◌, ◌||◌, List, [], ◌∷◌, leb, eqb, Some}
 use Rattle.isa.specs.Refusals.{located, unless}
 use Rattle.isa.specs.declared.Flow.{Flow}
 use Rattle.isa.specs.declared.Flow.TheVariants as flow
-use Rattle.certificate.specs.declared.successors.Successor.{Successor}
+use Rattle.certificate.specs.declared.successors.Successor as program
 use Rattle.certificate.specs.declared.successors.Successors.{Successors}
 use Rattle.certificate.specs.declared.successors.Successors.TheVariants.{None, One, Two}
 use Rattle.certificate.specs.Findings.{Found, passes, fault}
-use Rattle.certificate.specs.Marks.{need_of, kind_at, need_at}
+use Rattle.certificate.specs.Marks.{need_of, kind_number, kind_at, need_at}
+
+-- a successor of an instruction or the target of a CALL: the kind that its mark must have, and the levels that going
+-- there takes
+pub record Successor : Type 0 where
+  pub address : ℕ
+  pub kind : ℕ
+  pub levels : ℕ
 
 -- "RET stands only in kind 4, RETI only in 1 and 3"
 unfoldable pub placed : (kind : ℕ) → Flow → Bool
@@ -39,11 +46,15 @@ successors_of kind flow.Return next = []
 successors_of kind flow.ReturnFromInterrupt next = cond (eqb kind 1) (continues_at next 2 ∷ []) []
 successors_of kind flow.Sleep next = continues_at next kind ∷ []
 
+-- the program's successor, its kind by number
+abbrev pub successor_of : program.Successor → Successor
+successor_of s = record { address = s.address; kind = kind_number (Some s.kind); levels = s.levels }
+
 -- the program's successors as a list
 abbrev pub listed : Successors → List Successor
 listed None = []
-listed (One s) = s ∷ []
-listed (Two s t) = s ∷ t ∷ []
+listed (One s) = successor_of s ∷ []
+listed (Two s t) = successor_of s ∷ successor_of t ∷ []
 
 -- "each successor": all of them pass a test
 abbrev pub every : (Successor → Bool) → List Successor → Bool

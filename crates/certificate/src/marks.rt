@@ -1,22 +1,33 @@
 // Marks: the kind in the high digit, the need in the low one.
-ghost use Rattle.std.specs.Prelude.{◌≡◌};
-ghost use Rattle.certificate.specs.Marks.{mark_at, kind_of, need_of, kind_at, need_at};
+ghost use Rattle.std.specs.Prelude.{◌≡◌, Some};
+ghost use Rattle.certificate.specs.Marks.{mark_at, kind_of, kind_number, need_of, kind_at, need_at};
 
 use isa::rom::PROGRAM_SPACE;
 
-// The kinds.
-pub const START_UP: u8 = 1;
+// What an address is code of.
+#[derive(Clone, Copy, Debug, PartialEq, Eq)]
+pub enum Kind {
+    StartUp = 1,
+    Main = 2,
+    Service = 3,
+    Subroutine = 4,
+}
 
-pub const MAIN: u8 = 2;
+// A kind's digit in a mark.
+impl From<Kind> for u8 {
+    ghost from_gives = { λ kind r. r ≡ kind_number (Some kind) };
 
-pub const SERVICE: u8 = 3;
-
-pub const SUBROUTINE: u8 = 4;
+    fn from(kind: Kind) -> u8 {
+        kind as u8
+    }
+}
 
 // The levels of the stack: no need, and no certificate's levels, may be more.
 pub const MOST_LEVELS: u8 = 6;
 
-// The mark of a program address, 0 outside ROM. The last mark is that of FFFh.
+// The mark of a program address. Outside ROM it is 0 and not None: the paper counts such an address as unmarked. The
+// last mark is that of FFFh.
+#[tactic(auto, unfolding(crate::specs::Marks::mark_at))]
 pub fn mark_at(certificate: &[u8], address: u16) -> u8
     ensures { result ≡ mark_at certificate.now address }
 {
@@ -28,15 +39,20 @@ pub fn mark_at(certificate: &[u8], address: u16) -> u8
     certificate[end - PROGRAM_SPACE]
 }
 
-// The kind of a mark, 0 where there is no mark or it is malformed.
-pub fn kind_of(mark: u8) -> u8
-    ensures { result ≡ kind_of mark }
+// The kind of a mark; none where there is no mark or it is malformed.
+pub fn kind_of(mark: u8) -> Option<Kind>
+    ensures { kind_number result ≡ kind_of mark }
 {
-    let kind = mark / 16;
-    if SUBROUTINE < kind || MOST_LEVELS < mark % 16 {
-        return 0;
+    if MOST_LEVELS < mark % 16 {
+        return None;
     }
-    kind
+    match mark / 16 {
+        1 => Some(Kind::StartUp),
+        2 => Some(Kind::Main),
+        3 => Some(Kind::Service),
+        4 => Some(Kind::Subroutine),
+        _ => None,
+    }
 }
 
 // The need of a mark.
@@ -46,14 +62,16 @@ pub fn need_of(mark: u8) -> u8
     mark % 16
 }
 
-// The kind of an address, 0 where it is outside ROM, unmarked or malformed: no rule asks for this kind.
-pub fn kind_at(certificate: &[u8], address: u16) -> u8
-    ensures { result ≡ kind_at certificate.now address }
+// The kind of an address; none where it is outside ROM, unmarked or malformed.
+#[tactic(auto, unfolding(crate::specs::Marks::kind_at))]
+pub fn kind_at(certificate: &[u8], address: u16) -> Option<Kind>
+    ensures { kind_number result ≡ kind_at certificate.now address }
 {
     kind_of(mark_at(certificate, address))
 }
 
 // The need of an address.
+#[tactic(auto, unfolding(crate::specs::Marks::need_at))]
 pub fn need_at(certificate: &[u8], address: u16) -> u8
     ensures { result ≡ need_at certificate.now address }
 {

@@ -1,24 +1,26 @@
 // The rules of one instruction: where it may stand, where it leads, and what the marks there must be.
-ghost use Rattle.std.specs.Prelude.{◌≡◌, [], ◌∷◌};
-ghost use Rattle.certificate.specs.Findings.{found};
-ghost use Rattle.certificate.specs.Successors.{placed, continues_at, successors_of, listed};
-ghost use Rattle.certificate.specs.Successors.{covers_mark, successors_found};
+ghost use Rattle.std.specs.Prelude.{◌≡◌, Some, true, false, MatchResult};
+ghost use Rattle.isa.specs.Refusals.{answered, located, unless};
+ghost use Rattle.certificate.specs.Marks.{mark_at, kind_number};
+ghost use Rattle.certificate.specs.Findings.{passes, fault};
+ghost use Rattle.certificate.specs.Successors.{placed, continues_at, successors_of, successor_of, listed};
+ghost use Rattle.certificate.specs.Successors.{has_kind, covers_mark, successors_found};
 
-use crate::Finding;
-use crate::marks::{MAIN, SERVICE, START_UP, SUBROUTINE, kind_of, mark_at, need_of};
+use crate::marks::{Kind, kind_of, mark_at, need_of};
 use isa::{Flow, Refusal};
 
 // A successor of an instruction or the target of a CALL: the kind that its mark must have, and the levels that going
 // there takes.
-#[derive(Clone, Copy)]
+#[derive(Clone, Copy, Debug, PartialEq, Eq)]
 pub struct Successor {
     pub address: u16,
-    pub kind: u8,
+    pub kind: Kind,
     pub levels: u8,
 }
 
-// The successors of an instruction, in the order in which the check looks.
-#[derive(Clone, Copy)]
+// The successors of an instruction, in the order in which the check looks: up to two, so no Option; an array with a count
+// would be gone through in a loop, and the time of the check is measured.
+#[derive(Clone, Copy, Debug, PartialEq, Eq)]
 pub enum Successors {
     None,
     One(Successor),
@@ -26,19 +28,20 @@ pub enum Successors {
 }
 
 // Whether an instruction may stand in code of a kind: RET only in subroutines, RETI only in start-up and services.
-pub fn is_placed(kind: u8, flow: Flow) -> bool
-    ensures { result ≡ placed kind flow }
+#[tactic(auto, unfolding(crate::specs::Successors::placed))]
+pub fn is_placed(kind: Kind, flow: Flow) -> bool
+    ensures { result ≡ placed (kind_number (Some kind)) flow }
 {
     match flow {
-        Flow::Return => kind == SUBROUTINE,
-        Flow::ReturnFromInterrupt => kind == START_UP || kind == SERVICE,
+        Flow::Return => kind == Kind::Subroutine,
+        Flow::ReturnFromInterrupt => kind == Kind::StartUp || kind == Kind::Service,
         _ => true,
     }
 }
 
 // A successor in code of a kind, which takes no level.
-fn continues_at(address: u16, kind: u8) -> Successor
-    ensures { result ≡ continues_at address kind }
+fn continues_at(address: u16, kind: Kind) -> Successor
+    ensures { successor_of result ≡ continues_at address (kind_number (Some kind)) }
 {
     Successor {
         address,
@@ -48,11 +51,12 @@ fn continues_at(address: u16, kind: u8) -> Successor
 }
 
 // Where an instruction in code of a kind leads. Only RETI leaves its kind: start-up code ends, and main code begins.
-pub fn successors_of(kind: u8, flow: Flow, next: u16) -> Successors
-    ensures { listed result ≡ successors_of kind flow next }
+#[tactic(auto, unfolding(crate::specs::Successors::successors_of))]
+pub fn successors_of(kind: Kind, flow: Flow, next: u16) -> Successors
+    ensures { listed result ≡ successors_of (kind_number (Some kind)) flow next }
 {
     match flow {
-        Flow::Next => Successors::One(continues_at(next, kind)),
+        Flow::Next | Flow::Sleep => Successors::One(continues_at(next, kind)),
         Flow::Jump(target) => Successors::One(continues_at(target, kind)),
         Flow::Branch {
             condition: _,
@@ -62,83 +66,73 @@ pub fn successors_of(kind: u8, flow: Flow, next: u16) -> Successors
         Flow::Call(target) => Successors::Two(
             Successor {
                 address: target,
-                kind: SUBROUTINE,
+                kind: Kind::Subroutine,
                 levels: 1,
             },
             continues_at(next, kind),
         ),
         Flow::Return => Successors::None,
         Flow::ReturnFromInterrupt => {
-            if kind == START_UP {
-                Successors::One(continues_at(next, MAIN))
+            if kind == Kind::StartUp {
+                Successors::One(continues_at(next, Kind::Main))
             } else {
                 Successors::None
             }
         }
-        Flow::Sleep => Successors::One(continues_at(next, kind)),
     }
 }
 
-// Whether a need covers that of a mark, with the levels that going there takes.
-fn is_covered(need: u8, mark: u8, levels: u8) -> bool
-    ensures { result ≡ covers_mark need mark levels }
-{
-    need_of(mark) as u16 + levels as u16 <= need as u16
-}
-
-// 16 and 17 of an instruction with one successor, whose mark is looked up once.
-fn check_one(certificate: &[u8], address: u16, need: u8, successor: Successor) -> Finding
-    ensures { found result ≡ successors_found certificate.now address need (successor ∷ []) }
+// 16: the mark of a successor, where it has the kind that it must have.
+#[tactic(auto, unfolding(crate::specs::Marks::kind_at))]
+fn check_kind(certificate: &[u8], address: u16, successor: Successor) -> Result<u8, Refusal>
+    ensures { MatchResult result
+        (λ mark. (mark ≡ mark_at certificate.now successor.address)
+        × (has_kind certificate.now (successor_of successor) ≡ true))
+        (λ refusal. (refusal ≡ Refusal.SuccessorKind address)
+        × (has_kind certificate.now (successor_of successor) ≡ false)) }
 {
     let mark = mark_at(certificate, successor.address);
-    if kind_of(mark) != successor.kind {
-        return Finding::Fault(Refusal::SuccessorKind(address));
+    if kind_of(mark) == Some(successor.kind) {
+        Ok(mark)
+    } else {
+        Err(Refusal::SuccessorKind(address))
     }
-    if !is_covered(need, mark, successor.levels) {
-        return Finding::Fault(Refusal::NeedTooSmall(address));
-    }
-    Finding::Passes
 }
 
-// 16 and 17 of an instruction with two successors: the 16 of either comes before the 17 of either.
-fn check_two(
-    certificate: &[u8],
-    address: u16,
-    need: u8,
-    first: Successor,
-    second: Successor,
-) -> Finding
-    ensures { found result ≡ successors_found certificate.now address need (first ∷ second ∷ []) }
+// 17: whether a need covers that of a successor's mark, with the levels that going there takes. In 32 bits, which the
+// processor compares with fewer instructions than 16.
+fn check_need(address: u16, need: u8, mark: u8, levels: u8) -> Result<(), Refusal>
+    ensures { answered result ≡ unless (covers_mark need mark levels) (fault (located 17 address)) passes }
 {
-    let first_mark = mark_at(certificate, first.address);
-    if kind_of(first_mark) != first.kind {
-        return Finding::Fault(Refusal::SuccessorKind(address));
+    if need_of(mark) as u32 + levels as u32 <= need as u32 {
+        Ok(())
+    } else {
+        Err(Refusal::NeedTooSmall(address))
     }
-    let second_mark = mark_at(certificate, second.address);
-    if kind_of(second_mark) != second.kind {
-        return Finding::Fault(Refusal::SuccessorKind(address));
-    }
-    if !is_covered(need, first_mark, first.levels) {
-        return Finding::Fault(Refusal::NeedTooSmall(address));
-    }
-    if !is_covered(need, second_mark, second.levels) {
-        return Finding::Fault(Refusal::NeedTooSmall(address));
-    }
-    Finding::Passes
 }
 
-// 16 and 17 of the instruction at an address with a need.
+// 16 and 17 of the instruction at an address with a need: the 16 of either successor comes before the 17 of either. Each
+// mark is looked up once.
+#[tactic(auto, unfolding(crate::specs::Successors::successors_found, crate::specs::Successors::all_have_kind, crate::specs::Successors::covers_all, crate::specs::Marks::need_at))]
 pub fn check_successors(
     certificate: &[u8],
     address: u16,
     need: u8,
     successors: Successors,
-) -> Finding
-    ensures { found result ≡ successors_found certificate.now address need (listed successors) }
+) -> Result<(), Refusal>
+    ensures { answered result ≡ successors_found certificate.now address need (listed successors) }
 {
     match successors {
-        Successors::None => Finding::Passes,
-        Successors::One(successor) => check_one(certificate, address, need, successor),
-        Successors::Two(first, second) => check_two(certificate, address, need, first, second),
+        Successors::None => Ok(()),
+        Successors::One(successor) => {
+            let mark = check_kind(certificate, address, successor)?;
+            check_need(address, need, mark, successor.levels)
+        }
+        Successors::Two(first, second) => {
+            let first_mark = check_kind(certificate, address, first)?;
+            let second_mark = check_kind(certificate, address, second)?;
+            check_need(address, need, first_mark, first.levels)?;
+            check_need(address, need, second_mark, second.levels)
+        }
     }
 }

@@ -1,2 +1,3 @@
 pub mod StaysWellFormed
 pub mod Stopped
+pub mod FirstTaken

@@ -1,10 +1,12 @@
 -- Control and stack stay well formed.
 use Prim.Native.Nat.{ℕ, zero, suc, ◌+◌, ◌-◌, ◌<◌, ◌≤◌}
-use mathlib.Core.Path.{◌≡◌, refl}
+use mathlib.Core.Path.{◌≡◌, refl, sym}
 use mathlib.Core.Bool.{Bool, true, false, cond, and-eq-true_iff}
 use mathlib.Core.List.{List, [], ◌∷◌}
 use native.Mathlib.Omega.{arith}
-use lib.ListN.{get_or, set}
+use lib.ListN.{length, get_or, set, take}
+use Rattle.std.proofs.lemmas.List.{length-take-le, get_or-take}
+use Rattle.std.specs.Prelude.{◌↔◌, IsTrue, EachIndex}
 use lib.Dec.{ltb, leb, eqb}
 use lib.Seq.{get_or-set_other}
 use borrow.Author.Count.{below_more}
@@ -16,7 +18,7 @@ use Rattle.isa.specs.declared.Source.TheVariants.{Nmi, First, Second, Third, Fou
 use Rattle.isa.specs.declared.Flow.{Flow}
 use Rattle.isa.specs.declared.Flow.TheVariants as flow
 use Rattle.control.specs.declared.Control.{Control}
-use Rattle.control.specs.declared.Stop.TheVariants as stop
+use Rattle.control.specs.declared.Stop.TheVariants.{Full, Empty}
 use Rattle.control.specs.Update.{with_pc, with_levels, with_mode}
 use Rattle.control.specs.Modes.{mode_beneath}
 use Rattle.control.specs.Stack.{goes_on, stops, is_full, push_of, pop_of}
@@ -46,11 +48,21 @@ below_addresses stack zero all = refl
 below_addresses stack (suc n) all =
     rw (lt-ltb (get_or stack n 0) 0x1000 (all n (omega arith))) (below_addresses stack n (λ k h. all k (omega arith)))
 
--- an address in use that does not fit makes the test fail
-pub unfit :
-    (stack : List ℕ) (n k : ℕ) → k < n → 0x1000 ≤ get_or stack k 0 → (b : Bool) → addresses_fit stack n ≡ b → b ≡ false
-unfit stack n k h high false e = refl
-unfit stack n k h high true e = absurd (omega (arith, addresses_below stack n e k h))
+-- the test of the first n addresses, looked at as a list of their own
+pub fit_as_list :
+    (stack : List ℕ) (n : ℕ) → n ≤ length stack → (b : Bool) →
+    (IsTrue b ↔ EachIndex (take n stack) (λ k. get_or (take n stack) k 0 < 0x1000)) →
+    b ≡ addresses_fit stack n
+fit_as_list stack n h true all =
+    sym (below_addresses stack n
+    (λ k l. rw (← get_or-take n stack k 0 l) (all.0 refl k (rw (length-take-le n stack h) l))))
+fit_as_list stack n h false all = by_test (addresses_fit stack n) refl
+  where
+    by_test : (t : Bool) → addresses_fit stack n ≡ t → false ≡ t
+    by_test false e = refl
+    by_test true e =
+        let in_list : (k : ℕ) → k < length (take n stack) → k < n = λ k l. rw (← length-take-le n stack h) l in
+        all.1 (λ k l. rw (get_or-take n stack k 0 (in_list k l)) (addresses_below stack n e k (in_list k l)))
 
 pub formed_exactly : FormedExactly
 unfolding well_formed
@@ -82,7 +94,7 @@ module _ (stack : List ℕ) (c : Control) (formed : Formed stack c) where
   pushed :
       (address : ℕ) → address < 0x1000 → (b : Bool) → is_full c ≡ b →
       FormedAfter
-      (cond b (stops stack c stop.Full) (goes_on (set stack c.levels address) (with_levels c (c.levels + 1))))
+      (cond b (stops stack c Full) (goes_on (set stack c.levels address) (with_levels c (c.levels + 1))))
   pushed address h true e = formed
   pushed address h false e =
       let room : c.levels < 6 = leb-false 6 c.levels e in
@@ -99,7 +111,7 @@ module _ (stack : List ℕ) (c : Control) (formed : Formed stack c) where
   popped :
       (b : Bool) → eqb c.levels 0 ≡ b →
       FormedAfter
-      (cond b (stops stack c stop.Empty)
+      (cond b (stops stack c Empty)
       (goes_on stack (with_levels (with_pc c (get_or stack (c.levels - 1) 0)) (c.levels - 1))))
   popped true e = formed
   popped false e =

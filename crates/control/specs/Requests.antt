@@ -1,13 +1,11 @@
 -- Requests: which one a step takes, and what taking it does (document 01, "Modes, stack, sleep").
-use Rattle.std.specs.Prelude.{ℕ, Bool, true, false, cond, ◌&&◌, List}
+use Rattle.std.specs.Prelude.{ℕ, Bool, true, false, cond, ◌&&◌, List, Option, Some, None}
 use Rattle.isa.specs.Sources.{is_named, vector_of}
 use Rattle.isa.specs.declared.Source.{Source}
 use Rattle.isa.specs.declared.Source.TheVariants.{Nmi, First, Second, Third, Fourth}
 use Rattle.control.specs.declared.Mode.{Mode}
 use Rattle.control.specs.declared.Mode.TheVariants.{Reset, Normal, Interrupt, NmiOverNormal, NmiOverInterrupt}
 use Rattle.control.specs.declared.Control.{Control}
-use Rattle.control.specs.declared.Requested.{Requested}
-use Rattle.control.specs.declared.Requested.TheVariants.{Nothing, Taken}
 use Rattle.control.specs.Update.{with_pc, with_mode, with_sleep}
 use Rattle.control.specs.Stack.{Transferred, push_of}
 
@@ -32,13 +30,13 @@ abbrev pub is_taken : Mode → (enabled : Bool) → (request : ℕ) → Source �
 is_taken mode enabled request source = is_named request source && can_take mode enabled source
 
 -- "the lowest number wins"
-unfoldable pub requested_of : Mode → (enabled : Bool) → (request : ℕ) → Requested
+unfoldable pub requested_of : Mode → (enabled : Bool) → (request : ℕ) → Option Source
 requested_of mode enabled request =
-    cond (is_taken mode enabled request Nmi) (Taken Nmi)
-    (cond (is_taken mode enabled request First) (Taken First)
-    (cond (is_taken mode enabled request Second) (Taken Second)
-    (cond (is_taken mode enabled request Third) (Taken Third)
-    (cond (is_taken mode enabled request Fourth) (Taken Fourth) Nothing))))
+    cond (is_taken mode enabled request Nmi) (Some Nmi)
+    (cond (is_taken mode enabled request First) (Some First)
+    (cond (is_taken mode enabled request Second) (Some Second)
+    (cond (is_taken mode enabled request Third) (Some Third)
+    (cond (is_taken mode enabled request Fourth) (Some Fourth) None))))
 
 -- the mode of NMI's service over a mode; a second NMI does not nest
 abbrev pub nmi_over : Mode → Mode

@@ -9,9 +9,7 @@ pub mod transfers;
 mod update;
 pub mod well_formed;
 
-use isa::Source;
-
-#[derive(Clone, Copy)]
+#[derive(Clone, Copy, Debug, PartialEq, Eq)]
 pub enum Mode {
     Reset,
     Normal,
@@ -20,8 +18,9 @@ pub enum Mode {
     NmiOverInterrupt,
 }
 
-// The stack is lent beside it: its slots 0 to levels - 1 are in use, and the last of them is the top.
-#[derive(Clone, Copy)]
+// The stack is lent beside it, since control alone is handed on by value at each step: its slots 0 to levels - 1 are in
+// use, and the last of them is the top.
+#[derive(Clone, Copy, Debug, PartialEq, Eq)]
 pub struct Control {
     pub pc: u16,
     pub levels: u8,
@@ -29,24 +28,9 @@ pub struct Control {
     pub asleep: bool,
 }
 
-// Whether control goes on, or what stops it: a push on a full stack or a pop on an empty one.
-#[derive(Clone, Copy)]
+// What stops control: a push on a full stack or a pop on an empty one.
+#[derive(Clone, Copy, Debug, PartialEq, Eq)]
 pub enum Stop {
-    None,
     Full,
     Empty,
-}
-
-// Where an instruction or a request takes control, unless it stops.
-#[derive(Drop)]
-pub struct Transfer {
-    pub control: Control,
-    pub stop: Stop,
-}
-
-// The request that a step takes, if any.
-#[derive(Drop)]
-pub enum Requested {
-    Nothing,
-    Taken(Source),
 }

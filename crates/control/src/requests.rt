@@ -4,29 +4,17 @@ ghost use Rattle.control.specs.Stack.{transfer_of};
 ghost use Rattle.control.specs.Requests.{can_take, is_taken, requested_of, nmi_over, service_mode, serving_of, take_of};
 
 use crate::stack::push;
-use crate::{Control, Mode, Requested, Transfer};
+use crate::{Control, Mode, Stop};
 use isa::Source;
-use isa::sources::{names, vector_of};
+use isa::sources::{SOURCES, names, vector_of};
 
 // Whether a mode takes a source's request.
 fn takes(mode: Mode, enabled: bool, source: Source) -> bool
     ensures { result ≡ can_take mode enabled source }
 {
     match mode {
-        Mode::Normal => match source {
-            Source::Nmi => true,
-            Source::First => enabled,
-            Source::Second => enabled,
-            Source::Third => enabled,
-            Source::Fourth => enabled,
-        },
-        Mode::Interrupt => match source {
-            Source::Nmi => true,
-            Source::First => false,
-            Source::Second => false,
-            Source::Third => false,
-            Source::Fourth => false,
-        },
+        Mode::Normal => source == Source::Nmi || enabled,
+        Mode::Interrupt => source == Source::Nmi,
         Mode::Reset => false,
         Mode::NmiOverNormal => false,
         Mode::NmiOverInterrupt => false,
@@ -41,29 +29,19 @@ fn is_taken(mode: Mode, enabled: bool, request: u8, source: Source) -> bool
 }
 
 // The request that a step takes: the lowest number wins among those that can be taken now.
-pub fn requested(mode: Mode, enabled: bool, request: u8) -> Requested
+pub fn requested(mode: Mode, enabled: bool, request: u8) -> Option<Source>
     ensures { result ≡ requested_of mode enabled request }
 {
     // Most steps have no request.
     if request == 0 {
-        return Requested::Nothing;
+        return None;
     }
-    if is_taken(mode, enabled, request, Source::Nmi) {
-        return Requested::Taken(Source::Nmi);
+    for source in SOURCES {
+        if is_taken(mode, enabled, request, source) {
+            return Some(source);
+        }
     }
-    if is_taken(mode, enabled, request, Source::First) {
-        return Requested::Taken(Source::First);
-    }
-    if is_taken(mode, enabled, request, Source::Second) {
-        return Requested::Taken(Source::Second);
-    }
-    if is_taken(mode, enabled, request, Source::Third) {
-        return Requested::Taken(Source::Third);
-    }
-    if is_taken(mode, enabled, request, Source::Fourth) {
-        return Requested::Taken(Source::Fourth);
-    }
-    Requested::Nothing
+    None
 }
 
 // The mode of NMI's service over a mode.
@@ -71,11 +49,8 @@ fn nmi_over(mode: Mode) -> Mode
     ensures { result ≡ nmi_over mode }
 {
     match mode {
-        Mode::Reset => Mode::NmiOverNormal,
-        Mode::Normal => Mode::NmiOverNormal,
-        Mode::Interrupt => Mode::NmiOverInterrupt,
-        Mode::NmiOverNormal => Mode::NmiOverNormal,
-        Mode::NmiOverInterrupt => Mode::NmiOverInterrupt,
+        Mode::Reset | Mode::Normal | Mode::NmiOverNormal => Mode::NmiOverNormal,
+        Mode::Interrupt | Mode::NmiOverInterrupt => Mode::NmiOverInterrupt,
     }
 }
 
@@ -85,33 +60,25 @@ fn service_mode(source: Source, mode: Mode) -> Mode
 {
     match source {
         Source::Nmi => nmi_over(mode),
-        Source::First => Mode::Interrupt,
-        Source::Second => Mode::Interrupt,
-        Source::Third => Mode::Interrupt,
-        Source::Fourth => Mode::Interrupt,
+        Source::First | Source::Second | Source::Third | Source::Fourth => Mode::Interrupt,
     }
 }
 
 // Control at the start of a source's service, awake.
+#[tactic(auto, unfolding(crate::specs::Requests::serving_of))]
 fn serving(c: Control, source: Source) -> Control
     ensures { result ≡ serving_of c source }
 {
-    let mode = c.mode;
-    let served = c
-        .with_pc(vector_of(source))
-        .with_mode(service_mode(source, mode));
-    served.with_sleep(false)
+    c.with_pc(vector_of(source))
+        .with_mode(service_mode(source, c.mode))
+        .with_sleep(false)
 }
 
 // Taking a request pushes PC: a stop on six levels.
-pub fn take(stack: &mut [u16; 6], c: Control, source: Source) -> Transfer
-    ensures { transfer_of stack.new result ≡ take_of stack.old c source }
+#[tactic(auto, unfolding(crate::specs::Requests::take_of))]
+pub fn take(stack: &mut [u16; 6], c: Control, source: Source) -> Result<Control, Stop>
+    ensures { transfer_of stack.new (serving_of c source) result ≡ take_of stack.old c source }
 {
-    let pushed = push(stack, c, c.pc);
-    let control = pushed.control;
-    let stop = pushed.stop;
-    Transfer {
-        control: serving(control, source),
-        stop,
-    }
+    let pushed = push(stack, c, c.pc)?;
+    Ok(serving(pushed, source))
 }

@@ -5,35 +5,27 @@ ghost use Rattle.control.specs.Update.{with_pc, with_levels, with_mode, with_sle
 use crate::{Control, Mode};
 
 impl Control {
-    pub fn with_pc(mut self, pc: u16) -> Self
+    pub fn with_pc(self, pc: u16) -> Self
         ensures { result ≡ with_pc self pc }
     {
-        self.pc = pc;
-        self
+        Control { pc, ..self }
     }
 
-    pub fn with_levels(mut self, levels: u8) -> Self
+    pub fn with_levels(self, levels: u8) -> Self
         ensures { result ≡ with_levels self levels }
     {
-        self.levels = levels;
-        self
+        Control { levels, ..self }
     }
 
     pub fn with_mode(self, mode: Mode) -> Self
         ensures { result ≡ with_mode self mode }
     {
-        Control {
-            pc: self.pc,
-            levels: self.levels,
-            mode,
-            asleep: self.asleep,
-        }
+        Control { mode, ..self }
     }
 
-    pub fn with_sleep(mut self, asleep: bool) -> Self
+    pub fn with_sleep(self, asleep: bool) -> Self
         ensures { result ≡ with_sleep self asleep }
     {
-        self.asleep = asleep;
-        self
+        Control { asleep, ..self }
     }
 }

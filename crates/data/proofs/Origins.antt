@@ -8,8 +8,7 @@ use borrow.Author.Tests.{leb-true, leb-false, ltb-true, ltb-false}
 use lib.Dec.{leb, ltb}
 use lib.ListN.{get_or}
 use Rattle.isa.specs.Rom.{rom_at}
-use Rattle.isa.specs.declared.rom.RomByte.{RomByte}
-use Rattle.isa.specs.declared.rom.RomByte.TheVariants.{Byte, Outside}
+use Rattle.std.specs.Prelude.{Option, Some, None}
 use Rattle.data.specs.declared.Origin.TheVariants.{Ram, Register}
 use Rattle.data.specs.Space.{is_write_only, shown_of, window_address, window_origin, held_of, read_of, origin_of}
 use Rattle.data.specs.Laws.{ComesFrom, ram, register, write_only, rom, no_rom, ByteComesFrom}
@@ -17,10 +16,10 @@ use Rattle.data.proofs.WriteOnly.{reads_zero, reads_held, is_register}
 
 module _ (image bytes : List ℕ) (a : ℕ) where
   in_window_lem :
-      0x40 ≤ a → a < 0x80 → (r : RomByte) → rom_at image (window_address bytes a) ≡ r →
+      0x40 ≤ a → a < 0x80 → (r : Option ℕ) → rom_at image (window_address bytes a) ≡ r →
       ComesFrom image bytes a (shown_of r) (window_origin (window_address bytes a) r)
-  in_window_lem low high (Byte byte) e = rom byte low high e
-  in_window_lem low high Outside e = no_rom low high e
+  in_window_lem low high (Some byte) e = rom byte low high e
+  in_window_lem low high None e = no_rom low high e
 
   -- a byte that can be read, by the tests of the window's two ends, and of 80h
   by_tests :

@@ -5,16 +5,14 @@ use mathlib.Core.Path.{◌≡◌, refl, sym, ap, ◌∙◌}
 use mathlib.Core.Bool.{Bool, true, false, cond}
 use mathlib.Core.List.{List}
 use native.Mathlib.Omega.{arith}
-use borrow.Author.Tests.{eqb-true, eqb-false, ltb-true, ltb-false}
-use lib.Dec.{eqb, ltb}
-use lib.ListN.{length, length-set, get_or, set, get_or-eq_default}
-use lib.Seq.{get_or-set_same, get_or-set_other, set_out}
+use Rattle.std.proofs.lemmas.Grind.{common_steps}
+use lib.ListN.{length-set, get_or, set}
+use lib.Seq.{get_or-set_other}
 use Rattle.isa.specs.Rom.{rom_at, space_of}
 use Rattle.isa.specs.declared.Operand.{Operand}
 use Rattle.isa.specs.declared.Operand.TheVariants.{Direct, Short, ThroughX, ThroughY}
 use Rattle.isa.specs.declared.Instruction.{Instruction}
-use Rattle.data.specs.declared.OperandRead.{OperandRead}
-use Rattle.data.specs.declared.OperandRead.TheVariants as operand
+use Rattle.std.specs.Prelude.{Option, Some, None}
 use Rattle.data.specs.Space.{
   program_of,
   in_window,
@@ -63,9 +61,9 @@ module _ (b b' : List ℕ) (same : SameButUnder b b') where
   unfolding origin_of
   same_origin image a = rw (same.elsewhere 0xC9 refl)
 
-  by_operand : (image : List ℕ) (r : OperandRead) → origin_at image b r ≡ origin_at image b' r
-  by_operand image (operand.Is o) = rw (same_address o, same_origin image (address_of b' o))
-  by_operand image operand.Nothing = refl
+  by_operand : (image : List ℕ) (r : Option Operand) → origin_at image b r ≡ origin_at image b' r
+  by_operand image (Some o) = rw (same_address o, same_origin image (address_of b' o))
+  by_operand image None = refl
 
   pub same_origin_read : (image : List ℕ) (i : Instruction) → origin_read_of image b i ≡ origin_read_of image b' i
   unfolding origin_read_of
@@ -73,30 +71,10 @@ module _ (b b' : List ℕ) (same : SameButUnder b b') where
 
   -- where a byte is set, wherever that is
   module _ (a value : ℕ) where
-    at_place : (inside : Bool) → ltb a (length b) ≡ inside → get_or (set b a value) a 0 ≡ get_or (set b' a value) a 0
-    at_place true e =
-        get_or-set_same b a value 0 (ltb-true a (length b) e)
-        ∙ sym (get_or-set_same b' a value 0 (omega (arith, ltb-true a (length b) e, same.size)))
-    at_place false e =
-        rw (
-          set_out b a value (ltb-false a (length b) e),
-          set_out b' a value (omega (arith, ltb-false a (length b) e, same.size)),
-        )
-        (get_or-eq_default b 0 (ltb-false a (length b) e)
-        ∙ sym (get_or-eq_default b' 0 (omega (arith, ltb-false a (length b) e, same.size))))
-
-    by_place :
-        (k : ℕ) → in_window k ≡ false → (t : Bool) → eqb k a ≡ t →
-        get_or (set b a value) k 0 ≡ get_or (set b' a value) k 0
-    by_place k e true t = rw (eqb-true k a t) (at_place (ltb a (length b)) refl)
-    by_place k e false t =
-        get_or-set_other b a k value 0 (eqb-false k a t) ∙ same.elsewhere k e
-        ∙ sym (get_or-set_other b' a k value 0 (eqb-false k a t))
-
     pub same_set : SameButUnder (set b a value) (set b' a value)
     same_set = record {
       size = length-set b a value ∙ same.size ∙ sym (length-set b' a value);
-      elsewhere = λ k e. by_place k e (eqb k a) refl;
+      elsewhere = λ k e. grind (arith, common_steps, same.elsewhere k e, same.size);
     }
 
     by_test : (w : Bool) → SameButUnder (cond w b (set b a value)) (cond w b' (set b' a value))

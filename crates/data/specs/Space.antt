@@ -1,9 +1,7 @@
 -- Data space and the ROM window (document 01, "Program space and data space"), the two registers that can't be read
 -- (document 02, W-204), and where a byte comes from (document 02, W-203).
-use Rattle.std.specs.Prelude.{ℕ, ◌+◌, ◌-◌, ◌*◌, ◌%◌, Bool, cond, ◌&&◌, ◌||◌, List, get_or, set, ltb, leb, eqb}
+use Rattle.std.specs.Prelude.{ℕ, ◌+◌, ◌-◌, ◌*◌, ◌%◌, Bool, cond, ◌&&◌, ◌||◌, List, get_or, set, ltb, leb, eqb, Option, Some, None}
 use Rattle.isa.specs.Rom.{space_of, rom_at}
-use Rattle.isa.specs.declared.rom.RomByte.{RomByte}
-use Rattle.isa.specs.declared.rom.RomByte.TheVariants.{Byte, Outside}
 use Rattle.isa.specs.declared.Operand.{Operand}
 use Rattle.isa.specs.declared.Operand.TheVariants.{Direct, Short, ThroughX, ThroughY}
 use Rattle.data.specs.declared.Origin.{Origin}
@@ -22,9 +20,9 @@ abbrev pub is_write_only : ℕ → Bool
 is_write_only a = eqb a 0xC8 || eqb a 0xC9
 
 -- "ROM that the image lacks reads 0"
-abbrev pub shown_of : RomByte → ℕ
-shown_of (Byte byte) = byte
-shown_of Outside = 0
+abbrev pub shown_of : Option ℕ → ℕ
+shown_of (Some byte) = byte
+shown_of None = 0
 
 -- "w being the low six bits of 0C9h": of the byte stored there, not of a program's read, which gives 0. "The stored
 -- bytes still drive the enable and the window." (W-204)
@@ -46,9 +44,9 @@ unfoldable pub read_of : (image bytes : List ℕ) → (a : ℕ) → ℕ
 read_of image bytes a = cond (is_write_only a) 0 (held_of image bytes a)
 
 -- "the ROM window with its ROM address, or the window where the image has nothing"
-abbrev pub window_origin : (address : ℕ) → RomByte → Origin
-window_origin address (Byte byte) = Rom address
-window_origin address Outside = NoRom
+abbrev pub window_origin : (address : ℕ) → Option ℕ → Origin
+window_origin address (Some byte) = Rom address
+window_origin address None = NoRom
 
 -- where the byte of `read_of` comes from: "RAM, a register from 80h up" (0C8h and 0C9h too), or the window, at the
 -- address that is read there

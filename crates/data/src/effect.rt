@@ -35,7 +35,9 @@ fn accumulator(bytes: &[u8; 256]) -> u8
     bytes[A as usize]
 }
 
-// Stores a result, and hands over its flags.
+// Stores a result, and hands over its flags. What follows names its operation each: one function that is given the
+// operation would make none of it shorter.
+#[tactic(auto, unfolding(crate::specs::Effect::store_result_of))]
 fn store_result(bytes: &mut [u8; 256], address: u8, res: Outcome) -> Flags
     ensures { data_of bytes.new result ≡ store_result_of bytes.old address res }
 {
@@ -166,6 +168,7 @@ pub fn test_bit(image: &[u8], bytes: &[u8; 256], zero: bool, address: u8, bit: u
 }
 
 // An instruction's effect. Jumps on a flag, CALL, JP, returns, STOP and WAIT have none.
+#[tactic(auto, unfolding(crate::specs::Effect::effect_of))]
 pub fn effect(image: &[u8], bytes: &mut [u8; 256], flags: Flags, instruction: Instruction) -> Flags
     ensures { IsImage image.now
         → data_of bytes.new result
@@ -174,8 +177,9 @@ pub fn effect(image: &[u8], bytes: &mut [u8; 256], flags: Flags, instruction: In
 {
     let carry = flags.carry;
     match instruction {
-        Instruction::Jrr(bit, at, _) => test_bit(image, bytes, flags.zero, at, bit),
-        Instruction::Jrs(bit, at, _) => test_bit(image, bytes, flags.zero, at, bit),
+        Instruction::Jrr(bit, at, _) | Instruction::Jrs(bit, at, _) => {
+            test_bit(image, bytes, flags.zero, at, bit)
+        }
         Instruction::Res(bit, at) => reset_bit(image, bytes, flags, at, bit),
         Instruction::Set(bit, at) => set_bit(image, bytes, flags, at, bit),
         Instruction::LoadA(o) => load(operand(image, bytes, o), bytes, carry),

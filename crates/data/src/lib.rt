@@ -6,10 +6,8 @@ pub mod effect;
 pub mod reads;
 pub mod space;
 
-use isa::Operand;
-
 // Where a data byte comes from.
-#[derive(Clone, Copy)]
+#[derive(Clone, Copy, Debug, PartialEq, Eq)]
 pub enum Origin {
     // 00h-3Fh.
     Ram,
@@ -19,18 +17,4 @@ pub enum Origin {
     Rom(u16),
     // The ROM window where the image has nothing.
     NoRom,
-}
-
-// The data operand that an instruction reads, if any.
-#[derive(Drop)]
-pub enum OperandRead {
-    Nothing,
-    Is(Operand),
-}
-
-// The origin of a data operand that was read, if any.
-#[derive(Clone, Copy)]
-pub enum OriginRead {
-    Nothing,
-    From(Origin),
 }

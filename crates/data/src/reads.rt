@@ -4,37 +4,37 @@ ghost use Rattle.isa.specs.Rom.{IsImage};
 ghost use Rattle.data.specs.Space.{program_of};
 ghost use Rattle.data.specs.Reads.{operand_read_of, origin_read_of};
 
+use crate::Origin;
 use crate::space::{address, origin};
-use crate::{OperandRead, OriginRead};
 use isa::{Instruction, Operand};
 
 // The data operand that an instruction reads, by its form.
-fn operand_read(instruction: Instruction) -> OperandRead
+#[tactic(auto, unfolding(crate::specs::Reads::operand_read_of))]
+fn operand_read(instruction: Instruction) -> Option<Operand>
     ensures { result ≡ operand_read_of instruction }
 {
     match instruction {
-        Instruction::LoadA(o) => OperandRead::Is(o),
-        Instruction::Add(o) => OperandRead::Is(o),
-        Instruction::Sub(o) => OperandRead::Is(o),
-        Instruction::And(o) => OperandRead::Is(o),
-        Instruction::Cp(o) => OperandRead::Is(o),
-        Instruction::Inc(o) => OperandRead::Is(o),
-        Instruction::Dec(o) => OperandRead::Is(o),
-        Instruction::Set(_, at) => OperandRead::Is(Operand::Direct(at)),
-        Instruction::Res(_, at) => OperandRead::Is(Operand::Direct(at)),
-        Instruction::Jrr(_, at, _) => OperandRead::Is(Operand::Direct(at)),
-        Instruction::Jrs(_, at, _) => OperandRead::Is(Operand::Direct(at)),
-        _ => OperandRead::Nothing,
+        Instruction::LoadA(o)
+        | Instruction::Add(o)
+        | Instruction::Sub(o)
+        | Instruction::And(o)
+        | Instruction::Cp(o)
+        | Instruction::Inc(o)
+        | Instruction::Dec(o) => Some(o),
+        Instruction::Set(_, at)
+        | Instruction::Res(_, at)
+        | Instruction::Jrr(_, at, _)
+        | Instruction::Jrs(_, at, _) => Some(Operand::Direct(at)),
+        _ => None,
     }
 }
 
-// The origin of the data operand that an instruction reads.
-pub fn origin_read(image: &[u8], bytes: &[u8; 256], instruction: Instruction) -> OriginRead
+// The origin of the data operand that an instruction reads, if it reads one.
+#[tactic(auto, unfolding(crate::specs::Reads::origin_read_of))]
+pub fn origin_read(image: &[u8], bytes: &[u8; 256], instruction: Instruction) -> Option<Origin>
     ensures { IsImage image.now
         → result ≡ origin_read_of (program_of image.now bytes.now) bytes.now instruction }
 {
-    match operand_read(instruction) {
-        OperandRead::Nothing => OriginRead::Nothing,
-        OperandRead::Is(o) => OriginRead::From(origin(image, bytes, address(bytes, o))),
-    }
+    let o = operand_read(instruction)?;
+    Some(origin(image, bytes, address(bytes, o)))
 }

@@ -9,7 +9,7 @@ ghost use Rattle.data.specs.Space.{store_of, address_of, operand_of};
 
 use crate::Origin;
 use isa::Operand;
-use isa::rom::{RomByte, fixed_of, page_of, rom_byte};
+use isa::rom::Space;
 
 // Data addresses that the paper names: X, Y, A, the interrupt option register, the ROM window register and the bank
 // register.
@@ -50,25 +50,22 @@ fn window_address(bytes: &[u8; 256], address: u8) -> u16
 }
 
 // The byte of program space, as it stands, that the ROM window shows at an address in it.
-fn window_byte(image: &[u8], bytes: &[u8; 256], address: u8) -> RomByte
+#[tactic(auto, unfolding(isa::specs::Rom::space_of), using(isa::proofs::Halves::halves))]
+fn window_byte(image: &[u8], bytes: &[u8; 256], address: u8) -> Option<u8>
     requires { (0x40 ≤ address) × (address < 0x80) }
     ensures { IsImage image.now
         → result ≡ rom_at (program_of image.now bytes.now)
         (window_address bytes.now address) }
 {
     let at = window_address(bytes, address);
-    let page = page_of(image, bytes[BANK]);
-    rom_byte(page, fixed_of(image), at)
+    Space::of(image, bytes[BANK]).byte(at)
 }
 
 // What the ROM window shows: a byte, 0 where the image has none.
-fn shown(byte: RomByte) -> u8
+fn shown(byte: Option<u8>) -> u8
     ensures { result ≡ shown_of byte }
 {
-    match byte {
-        RomByte::Byte(byte) => byte,
-        RomByte::Outside => 0,
-    }
+    byte.unwrap_or(0)
 }
 
 // The byte that stands at a data address, whether a program can read it or not.
@@ -84,6 +81,7 @@ fn held(image: &[u8], bytes: &[u8; 256], address: u8) -> u8
 }
 
 // The one read of a data byte.
+#[tactic(auto, unfolding(crate::specs::Space::read_of))]
 pub fn read(image: &[u8], bytes: &[u8; 256], address: u8) -> u8
     ensures { IsImage image.now
         → result ≡ read_of (program_of image.now bytes.now) bytes.now address }
@@ -95,6 +93,7 @@ pub fn read(image: &[u8], bytes: &[u8; 256], address: u8) -> u8
 }
 
 // Where the byte that `read` gives at an address comes from.
+#[tactic(auto, unfolding(crate::specs::Space::origin_of))]
 pub fn origin(image: &[u8], bytes: &[u8; 256], address: u8) -> Origin
     ensures { IsImage image.now
         → result ≡ origin_of (program_of image.now bytes.now) bytes.now address }
@@ -102,8 +101,8 @@ pub fn origin(image: &[u8], bytes: &[u8; 256], address: u8) -> Origin
     if is_window(address) {
         let at = window_address(bytes, address);
         return match window_byte(image, bytes, address) {
-            RomByte::Byte(_) => Origin::Rom(at),
-            RomByte::Outside => Origin::NoRom,
+            Some(_) => Origin::Rom(at),
+            None => Origin::NoRom,
         };
     }
     if 0x80 <= address {
@@ -114,6 +113,7 @@ pub fn origin(image: &[u8], bytes: &[u8; 256], address: u8) -> Origin
 }
 
 // The one store of a data byte. In the ROM window it does nothing.
+#[tactic(auto, unfolding(crate::specs::Space::store_of))]
 pub fn store(bytes: &mut [u8; 256], address: u8, value: u8)
     ensures { bytes.new ≡ store_of bytes.old address value }
 {
@@ -124,18 +124,15 @@ pub fn store(bytes: &mut [u8; 256], address: u8, value: u8)
 }
 
 // The data address of an operand.
+#[tactic(auto, unfolding(crate::specs::Space::address_of))]
 pub fn address(bytes: &[u8; 256], operand: Operand) -> u8
     ensures { result ≡ address_of bytes.now operand }
 {
-    match operand {
-        Operand::Direct(a) => a,
-        Operand::Short(n) => 0x80 + n % 4,
-        Operand::ThroughX => bytes[X],
-        Operand::ThroughY => bytes[Y],
-    }
+    address_by(bytes[X], bytes[Y], operand)
 }
 
-// The same, for a caller that has read X and Y.
+// The same, for a caller that has read X and Y: a run reads them before it knows the instruction.
+#[tactic(auto, unfolding(crate::specs::Space::address_of))]
 pub fn address_by(x: u8, y: u8, operand: Operand) -> u8
     ensures { (bytes : List ℕ) → x ≡ get_or bytes 128 0 → y ≡ get_or bytes 129 0
         → result ≡ address_of bytes operand }
@@ -149,6 +146,7 @@ pub fn address_by(x: u8, y: u8, operand: Operand) -> u8
 }
 
 // The byte of an operand.
+#[tactic(auto, unfolding(crate::specs::Space::operand_of))]
 pub fn operand(image: &[u8], bytes: &[u8; 256], o: Operand) -> u8
     ensures { IsImage image.now
         → result ≡ operand_of (program_of image.now bytes.now) bytes.now o }
@@ -156,7 +154,8 @@ pub fn operand(image: &[u8], bytes: &[u8; 256], o: Operand) -> u8
     read(image, bytes, address(bytes, o))
 }
 
-// The same, for a caller that has read X and Y.
+// The same, for a caller that has read X and Y: a run reads them before it knows the instruction.
+#[tactic(auto, unfolding(crate::specs::Space::operand_of))]
 pub fn operand_by(image: &[u8], bytes: &[u8; 256], x: u8, y: u8, o: Operand) -> u8
     ensures { IsImage image.now → x ≡ get_or bytes.now 128 0
         → y ≡ get_or bytes.now 129 0

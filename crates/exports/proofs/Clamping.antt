@@ -12,8 +12,8 @@ use Rattle.isa.specs.Rom.{is_image}
 use Rattle.isa.specs.Sources.{names_only_sources}
 use Rattle.isa.specs.Decode.{decode_at, decode_in}
 use Rattle.data.specs.Space.{program_of}
-use Rattle.data.specs.declared.OriginRead.{OriginRead}
-use Rattle.data.specs.declared.OriginRead.TheVariants.{Nothing}
+use Rattle.data.specs.declared.Origin.{Origin}
+use Rattle.std.specs.Prelude.{Option, None}
 use Rattle.machine.specs.declared.Machine.{Machine}
 use Rattle.machine.specs.State.{is_well_formed}
 use Rattle.machine.specs.Actions.{refuses, action_of}
@@ -36,18 +36,18 @@ step_clamped image m n = step_by_lem image m n (ltb n 256) refl
 -- a step that is refused reads none, whatever the request
 module _ (image : List ℕ) (m : Machine) where
   by_refusal :
-      (read : OriginRead) (i w : Bool) →
+      (read : Option Origin) (i w : Bool) →
       read_if_done
       (acted_of (program_of image m.bytes) m
       (unless i (refuses (plain 1)) (unless w (refuses (plain 2)) (refuses (plain 11))))).answer
       read
-      ≡ Nothing
+      ≡ None
   unfolding acted_of
   by_refusal read true true = refl
   by_refusal read true false = refl
   by_refusal read false w = refl
 
-  none_read : (q : ℕ) → names_only_sources q ≡ false → step_read_of image m q ≡ Nothing
+  none_read : (q : ℕ) → names_only_sources q ≡ false → step_read_of image m q ≡ None
   unfolding step_read_of step_of action_of
   none_read q e = rw e (by_refusal _ (is_image (length image)) (is_well_formed m))
 
@@ -60,7 +60,7 @@ module _ (image : List ℕ) (m : Machine) where
 
   -- so a step's answer and buffer are those of the number itself
   pub step_lent_clamped :
-      (n : ℕ) (s : Step) (r : OriginRead) → s ≡ step_of image m (cond (ltb n 256) n 255) →
+      (n : ℕ) (s : Step) (r : Option Origin) → s ≡ step_of image m (cond (ltb n 256) n 255) →
       r ≡ step_read_of image m (cond (ltb n 256) n 255) →
       stepped_lent s r ≡ stepped_lent (step_of image m n) (step_read_of image m n)
   step_lent_clamped n s r e f = rw (e, f, step_clamped image m n, read_clamped n)

@@ -1,18 +1,12 @@
 -- Laws of a test at every index below a number.
-use Prim.Native.Nat.{ℕ, zero, suc, ◌+◌, ◌<◌}
+use Prim.Native.Nat.{ℕ, zero, suc, ◌<◌}
 use native.Mathlib.Omega.{arith}
-use native.Mathlib.Numerals.{add-one}
-use mathlib.Core.Path.{◌≡◌, refl, sym, ◌∙◌}
-use mathlib.Core.Bool.{Bool, true, false, and-eq-true_iff}
+use mathlib.Core.Path.{◌≡◌, refl}
+use mathlib.Core.Bool.{Bool, true, and-eq-true_iff}
 use borrow.Author.Count.{below_more}
 use Rattle.exports.specs.Every.{every}
 
 module _ (test : ℕ → Bool) where
-  -- one index more
-  pub every_more : (n : ℕ) → every test n ≡ true → test n ≡ true → every test (n + 1) ≡ true
-  unfolding every
-  every_more n all here = rw (add-one n, here) all
-
   pub every_when : (n : ℕ) → ((k : ℕ) → k < n → test k ≡ true) → every test n ≡ true
   unfolding every
   every_when zero holds = refl
@@ -24,11 +18,3 @@ module _ (test : ℕ → Bool) where
   every_holds (suc n) all k h =
       let p : (test n ≡ true) × (every test n ≡ true) = (and-eq-true_iff (test n) (every test n)).0 all in
       below_more (λ j. test j ≡ true) n (every_holds n p.1) p.0 k (omega arith)
-
-  -- a search that meets a misfit has its answer
-  pub every_fails : (n k : ℕ) → k < n → test k ≡ false → every test n ≡ false
-  every_fails n k h misfit = by_answer (every test n) refl
-    where
-      by_answer : (b : Bool) → every test n ≡ b → b ≡ false
-      by_answer false e = refl
-      by_answer true e = sym (every_holds n e k h) ∙ misfit

@@ -12,8 +12,8 @@ use Rattle.isa.specs.RoundTrip.{Bytes}
 use Rattle.control.specs.declared.Mode.{Mode}
 use Rattle.control.specs.declared.Mode.TheVariants.{Reset, Normal, Interrupt, NmiOverNormal, NmiOverInterrupt}
 use Rattle.data.specs.declared.Origin.TheVariants.{Ram, Register, Rom, NoRom}
-use Rattle.data.specs.declared.OriginRead.{OriginRead}
-use Rattle.data.specs.declared.OriginRead.TheVariants.{Nothing, From}
+use Rattle.data.specs.declared.Origin.{Origin}
+use Rattle.std.specs.Prelude.{Option, Some, None}
 use Rattle.machine.specs.declared.Machine.{Machine}
 use Rattle.exports.specs.Every.{every}
 use Rattle.control.specs.Modes.{mode_number}
@@ -243,22 +243,22 @@ pub size_reads : SizeReads
 size_reads = record { width = λ w s h. omega arith; steps = λ w s h. omega arith }
 
 -- by what was read
-origin_value : (v : ℕ) (r : OriginRead) → v < 0x100 → origin_word v r / 0x1000000 % 0x100 ≡ v
+origin_value : (v : ℕ) (r : Option Origin) → v < 0x100 → origin_word v r / 0x1000000 % 0x100 ≡ v
 origin_value v r h = omega arith
 
-origin_number_lem : (v : ℕ) (r : OriginRead) → v < 0x100 → origin_word v r / 0x100000000 % 0x100 ≡ origin_number r
-origin_number_lem v Nothing h = omega arith
-origin_number_lem v (From Ram) h = omega arith
-origin_number_lem v (From Register) h = omega arith
-origin_number_lem v (From (Rom address)) h = omega arith
-origin_number_lem v (From NoRom) h = omega arith
+origin_number_lem : (v : ℕ) (r : Option Origin) → v < 0x100 → origin_word v r / 0x100000000 % 0x100 ≡ origin_number r
+origin_number_lem v None h = omega arith
+origin_number_lem v (Some Ram) h = omega arith
+origin_number_lem v (Some Register) h = omega arith
+origin_number_lem v (Some (Rom address)) h = omega arith
+origin_number_lem v (Some NoRom) h = omega arith
 
-origin_address : (v : ℕ) (r : OriginRead) → v < 0x100 → origin_word v r / 0x10000000000 ≡ rom_address r
-origin_address v Nothing h = omega arith
-origin_address v (From Ram) h = omega arith
-origin_address v (From Register) h = omega arith
-origin_address v (From (Rom address)) h = omega arith
-origin_address v (From NoRom) h = omega arith
+origin_address : (v : ℕ) (r : Option Origin) → v < 0x100 → origin_word v r / 0x10000000000 ≡ rom_address r
+origin_address v None h = omega arith
+origin_address v (Some Ram) h = omega arith
+origin_address v (Some Register) h = omega arith
+origin_address v (Some (Rom address)) h = omega arith
+origin_address v (Some NoRom) h = omega arith
 
 pub origin_reads : OriginReads
 origin_reads = record { value = origin_value; origin = origin_number_lem; address = origin_address }

@@ -1,3 +1,4 @@
+pub mod StateBytes
 pub mod Every
 pub mod Pasting
 pub mod Rows

@@ -1,76 +1,27 @@
 -- Fields are read as the one instruction whose row they are.
-use Prim.Native.Nat.{ℕ, ◌<◌, ◌≤◌}
-use mathlib.Core.Path.{◌≡◌, refl, sym, ◌∙◌}
+use Prim.Native.Nat.{ℕ, ◌≤◌}
+use mathlib.Core.Path.{◌≡◌, refl}
 use mathlib.Core.Bool.{Bool, true, false, cond, ◌&&◌, and-eq-true_iff}
 use mathlib.Core.List.{List, ◌++◌}
 use native.Mathlib.Omega.{arith}
-use borrow.Author.Tests.{ltb-true, leb-true, eqb-true, eq-eqb, le-leb}
+use borrow.Author.Tests.{ltb-true, leb-true, eq-eqb, le-leb}
 use lib.Dec.{leb}
 use lib.IntN.{ℤ}
 use lib.Signed.{mag}
-use lib.ListN.{length, get_or, take, length-append, get_or-append}
-use lib.Seq.{length-take-le, get_or-take, ext_get_or}
+use lib.ListN.{length, length-append, get_or-append}
 use Rattle.isa.specs.Displacement.{modulo, long_displacement}
 use Rattle.isa.specs.Encode.{in_field}
-use Rattle.isa.specs.declared.Operand.{Operand}
 use Rattle.isa.specs.declared.Operand.TheVariants.{Direct, Short, ThroughX, ThroughY}
 use Rattle.isa.specs.declared.Instruction.{Instruction}
 use Rattle.isa.specs.declared.Instruction.TheVariants as I
 use Rattle.isa.proofs.Finite.{eq_z, at_signed, eq_z→eq}
-use Rattle.exports.specs.declared.fields.InstructionRead.TheVariants.{Is, Unreadable}
+use Rattle.std.specs.Prelude.{Some, None}
 use Rattle.exports.specs.Every.{every}
-use Rattle.exports.specs.Fields.{
-  operand_row,
-  packed_instruction,
-  operand_by,
-  instructions,
-  instruction_by,
-  instruction_at,
-  agree,
-  unpacked_instruction,
-}
+use Rattle.exports.specs.Fields.{packed_instruction, operand_by, instructions, instruction_by, instruction_at, agree, unpacked_instruction}
 use Rattle.exports.specs.Laws.{displacement_of, FieldsInvert}
-use Rattle.exports.proofs.Every.{every_when, every_holds}
+use Rattle.exports.proofs.Every.{every_when}
+use Rattle.exports.proofs.Rows.{seven, front_is}
 use Rattle.exports.proofs.Inverse.{number_back}
-
-operand_seven : (form : ℕ) (o : Operand) → length (operand_row form o) ≡ 7
-operand_seven form (Direct n) = refl
-operand_seven form (Short n) = refl
-operand_seven form ThroughX = refl
-operand_seven form ThroughY = refl
-
-seven : (i : Instruction) → length (packed_instruction i) ≡ 7
-unfolding packed_instruction
-seven (I.Jrnz d) = refl
-seven (I.Jrnc d) = refl
-seven (I.Jrz d) = refl
-seven (I.Jrc d) = refl
-seven (I.Call target) = refl
-seven (I.Jp target) = refl
-seven (I.Jrr bit a d) = refl
-seven (I.Jrs bit a d) = refl
-seven (I.Res bit a) = refl
-seven (I.Set bit a) = refl
-seven (I.LoadA o) = operand_seven 10 o
-seven (I.StoreA o) = operand_seven 11 o
-seven (I.LoadAImmediate n) = refl
-seven (I.LoadImmediate a n) = refl
-seven (I.Inc o) = operand_seven 14 o
-seven (I.Dec o) = operand_seven 15 o
-seven (I.Add o) = operand_seven 16 o
-seven (I.AddImmediate n) = refl
-seven (I.Sub o) = operand_seven 18 o
-seven (I.SubImmediate n) = refl
-seven (I.And o) = operand_seven 20 o
-seven (I.AndImmediate n) = refl
-seven (I.Cp o) = operand_seven 22 o
-seven (I.CpImmediate n) = refl
-seven I.Com = refl
-seven I.Rlc = refl
-seven I.Ret = refl
-seven I.Reti = refl
-seven I.Stop = refl
-seven I.Wait = refl
 
 displacement_back : (d : ℤ) → in_field 8 d ≡ true → long_displacement (modulo 256 d) ≡ d
 displacement_back d fits =
@@ -135,21 +86,11 @@ back I.Reti fits more = refl
 back I.Stop fits more = refl
 back I.Wait fits more = refl
 
--- lists that agree in their first n elements
-when_agree : (s t : List ℕ) (n : ℕ) → every (agree s t) n ≡ true → (k : ℕ) → k < n → get_or s k 0 ≡ get_or t k 0
-when_agree s t n e k h = eqb-true (get_or s k 0) (get_or t k 0) (every_holds (agree s t) n e k h)
-
+-- a row in front of more
 in_front : (t more : List ℕ) → length t ≡ 7 → every (agree (t ++ more) t) 7 ≡ true
 in_front t more e = every_when (agree (t ++ more) t) 7 (λ k h. eq-eqb _ _ (get_or-append t more 0 k (omega arith)))
 
-row_read : (s : List ℕ) (i : Instruction) → (7 ≤ length s) → every (agree s (packed_instruction i)) 7 ≡ true
-    → take 7 s ≡ packed_instruction i
-row_read s i long e =
-    let size : length (take 7 s) ≡ 7 = length-take-le 7 s long in
-    ext_get_or 0 (take 7 s) (packed_instruction i) (size ∙ sym (seven i))
-    (λ k h. let below : k < 7 = omega arith in get_or-take 7 s k 0 below ∙ when_agree s (packed_instruction i) 7 e k below)
-
-is_read_lem : (b : Bool) (i j : Instruction) → cond b (Is i) Unreadable ≡ Is j → (b ≡ true) × (i ≡ j)
+is_read_lem : (b : Bool) (i j : Instruction) → cond b (Some i) None ≡ Some j → (b ≡ true) × (i ≡ j)
 is_read_lem true i j e = (refl, cc)
 is_read_lem false i j e = let z : ◌≡◌ {A = ℕ} 0 1 = cc in absurd (omega arith)
 
@@ -168,5 +109,5 @@ fields_invert = record {
       × (instruction_at s ≡ i) = is_read_lem _ _ _ e in
       let q : (leb 7 (length s) ≡ true) × (every (agree s (packed_instruction (instruction_at s))) 7 ≡ true) =
       (and-eq-true_iff _ _).0 p.0 in
-      row_read s i (leb-true 7 (length s) q.0) (rw p.1 at q.1);
+      front_is s (packed_instruction i) (seven i) (leb-true 7 (length s) q.0) (rw p.1 at q.1);
 }

@@ -12,8 +12,8 @@ use Rattle.isa.specs.Decode.{decode_in}
 use Rattle.isa.specs.Decode as decode
 use Rattle.isa.specs.Write.{outcome, buffer_after}
 use Rattle.isa.specs.Encode.{encode_of}
-use Rattle.isa.specs.Encode as encode
 use Rattle.isa.specs.declared.Encoded.{Encoded}
+use Rattle.isa.specs.declared.Instruction.{Instruction}
 use Rattle.isa.proofs.WriteEffects.{write_effects}
 use Rattle.machine.specs.declared.Machine.{Machine}
 use Rattle.data.specs.Space.{in_window}
@@ -23,9 +23,8 @@ use Rattle.machine.specs.Operands.{step_read_of}
 use Rattle.maker.specs.Make.{Makes}
 use Rattle.jobs.specs.CheckJob.{job_of}
 use Rattle.jobs.specs.Line.{line_of}
-use Rattle.jobs.specs.Answer.{fits}
-use Rattle.exports.specs.declared.fields.InstructionRead.{InstructionRead}
-use Rattle.exports.specs.declared.fields.InstructionRead.TheVariants.{Is, Unreadable}
+use Rattle.text_line.specs.Line.{fits}
+use Rattle.std.specs.Prelude.{Option, Some, None}
 use Rattle.exports.specs.Answers.{word, refusal_word, answer_word, step_word}
 use Rattle.exports.specs.States.{Unpacked, valid, invalid, unpacked, packed}
 use Rattle.exports.specs.Fields.{unpacked_instruction}
@@ -56,14 +55,14 @@ module _ (out : List ℕ) where
   decoded (done (decode.instruction i bytes cycles)) k = with_room (leb 10 (length out)) bytes _ k
   decoded (refused r) k = refl
 
-  written : (e : Encoded) (o : Answer ℕ) → outcome e (length out) ≡ o
+  written : (e : Option Encoded) (o : Answer ℕ) → outcome e (length out) ≡ o
       → Leaves out (lent (answer_word o) (buffer_after e out))
   written e (done n) is k = absurd (k (done_number n))
   written e (refused r) is k = write_effects.untouched e out r is
 
-  read : (r : InstructionRead) → Leaves out (write_by out r)
-  read (Is i) k = written (encode_of i) (outcome (encode_of i) (length out)) refl k
-  read Unreadable k = refl
+  read : (r : Option Instruction) → Leaves out (write_by out r)
+  read (Some i) k = written (encode_of i) (outcome (encode_of i) (length out)) refl k
+  read None k = refl
 
 module _ (s : List ℕ) (bytes : Bytes s) where
   again : (m : Machine) → unpacked s ≡ valid m → packed m ≡ s

@@ -1,57 +1,20 @@
--- Rows of fields in lists: seven fields, written byte by byte with the three after them.
-use Prim.Native.Nat.{ℕ, ◌≤◌}
+-- Rows of fields in lists.
+use Prim.Native.Nat.{ℕ, ◌≤◌, ◌<◌}
 use native.Mathlib.Omega.{arith}
-use mathlib.Core.Path.{◌≡◌, refl, ap, ◌∙◌}
-use mathlib.Core.List.{List, [], ◌∷◌, ◌++◌}
-use lib.ListN.{length, get_or, set, drop}
+use mathlib.Core.Path.{◌≡◌, refl, sym, ap, ◌∙◌}
+use mathlib.Core.Bool.{Bool, true, false}
+use mathlib.Core.List.{List}
+use lib.ListN.{length, get_or, take}
+use lib.Seq.{length-take-le, get_or-take, ext_get_or}
+use borrow.Author.Tests.{eqb-true, eq-eqb}
+use Rattle.std.specs.Bool.{Decides}
 use Rattle.isa.specs.declared.Operand.{Operand}
 use Rattle.isa.specs.declared.Operand.TheVariants.{Direct, Short, ThroughX, ThroughY}
 use Rattle.isa.specs.declared.Instruction.{Instruction}
 use Rattle.isa.specs.declared.Instruction.TheVariants as I
 use Rattle.exports.specs.Every.{every}
 use Rattle.exports.specs.Fields.{operand_row, packed_instruction, agree}
-
--- ten bytes written at the front
-ten : (out : List ℕ) (a b c d e f g bytes cycles : ℕ) → 10 ≤ length out
-    → set (set (set (set (set (set (set (set (set (set out 0 a) 1 b) 2 c) 3 d) 4 e) 5 f) 6 g) 7 bytes) 8 cycles) 9 0
-    ≡ a ∷ b ∷ c ∷ d ∷ e ∷ f ∷ g ∷ bytes ∷ cycles ∷ 0 ∷ drop 10 out
-ten [] a b c d e f g bytes cycles h = absurd (omega arith)
-ten (o0 ∷ []) a b c d e f g bytes cycles h = absurd (omega arith)
-ten (o0 ∷ o1 ∷ []) a b c d e f g bytes cycles h = absurd (omega arith)
-ten (o0 ∷ o1 ∷ o2 ∷ []) a b c d e f g bytes cycles h = absurd (omega arith)
-ten (o0 ∷ o1 ∷ o2 ∷ o3 ∷ []) a b c d e f g bytes cycles h = absurd (omega arith)
-ten (o0 ∷ o1 ∷ o2 ∷ o3 ∷ o4 ∷ []) a b c d e f g bytes cycles h = absurd (omega arith)
-ten (o0 ∷ o1 ∷ o2 ∷ o3 ∷ o4 ∷ o5 ∷ []) a b c d e f g bytes cycles h = absurd (omega arith)
-ten (o0 ∷ o1 ∷ o2 ∷ o3 ∷ o4 ∷ o5 ∷ o6 ∷ []) a b c d e f g bytes cycles h = absurd (omega arith)
-ten (o0 ∷ o1 ∷ o2 ∷ o3 ∷ o4 ∷ o5 ∷ o6 ∷ o7 ∷ []) a b c d e f g bytes cycles h = absurd (omega arith)
-ten (o0 ∷ o1 ∷ o2 ∷ o3 ∷ o4 ∷ o5 ∷ o6 ∷ o7 ∷ o8 ∷ []) a b c d e f g bytes cycles h = absurd (omega arith)
-ten (o0 ∷ o1 ∷ o2 ∷ o3 ∷ o4 ∷ o5 ∷ o6 ∷ o7 ∷ o8 ∷ o9 ∷ out) a b c d e f g bytes cycles h = refl
-
--- a row of seven and the three bytes after it, written byte by byte
-pub written : (out row : List ℕ) (bytes cycles : ℕ) → 10 ≤ length out → length row ≡ 7
-    → set
-    (set
-    (set
-    (set
-    (set
-    (set
-    (set (set (set (set out 0 (get_or row 0 0)) 1 (get_or row 1 0)) 2 (get_or row 2 0)) 3 (get_or row 3 0))
-    4 (get_or row 4 0))
-    5 (get_or row 5 0))
-    6 (get_or row 6 0))
-    7 bytes)
-    8 cycles)
-    9 0
-    ≡ (row ++ (bytes ∷ cycles ∷ 0 ∷ [])) ++ drop 10 out
-written out [] bytes cycles h s = absurd (omega arith)
-written out (f0 ∷ []) bytes cycles h s = absurd (omega arith)
-written out (f0 ∷ f1 ∷ []) bytes cycles h s = absurd (omega arith)
-written out (f0 ∷ f1 ∷ f2 ∷ []) bytes cycles h s = absurd (omega arith)
-written out (f0 ∷ f1 ∷ f2 ∷ f3 ∷ []) bytes cycles h s = absurd (omega arith)
-written out (f0 ∷ f1 ∷ f2 ∷ f3 ∷ f4 ∷ []) bytes cycles h s = absurd (omega arith)
-written out (f0 ∷ f1 ∷ f2 ∷ f3 ∷ f4 ∷ f5 ∷ []) bytes cycles h s = absurd (omega arith)
-written out (f0 ∷ f1 ∷ f2 ∷ f3 ∷ f4 ∷ f5 ∷ f6 ∷ []) bytes cycles h s = ten out f0 f1 f2 f3 f4 f5 f6 bytes cycles h
-written out (f0 ∷ f1 ∷ f2 ∷ f3 ∷ f4 ∷ f5 ∷ f6 ∷ x ∷ row) bytes cycles h s = absurd (omega arith)
+use Rattle.exports.proofs.Every.{every_when, every_holds}
 
 -- every row has seven fields
 on_seven : (form : ℕ) (o : Operand) → length (operand_row form o) ≡ 7
@@ -93,20 +56,25 @@ seven I.Reti = refl
 seven I.Stop = refl
 seven I.Wait = refl
 
--- what stands after the first seven does not matter to a test of these
-begins : (s row more rest : List ℕ) → length row ≡ 7
-    → every (agree s ((row ++ more) ++ rest)) 7 ≡ every (agree s row) 7
-unfolding every
-begins s [] more rest h = absurd (omega arith)
-begins s (f0 ∷ []) more rest h = absurd (omega arith)
-begins s (f0 ∷ f1 ∷ []) more rest h = absurd (omega arith)
-begins s (f0 ∷ f1 ∷ f2 ∷ []) more rest h = absurd (omega arith)
-begins s (f0 ∷ f1 ∷ f2 ∷ f3 ∷ []) more rest h = absurd (omega arith)
-begins s (f0 ∷ f1 ∷ f2 ∷ f3 ∷ f4 ∷ []) more rest h = absurd (omega arith)
-begins s (f0 ∷ f1 ∷ f2 ∷ f3 ∷ f4 ∷ f5 ∷ []) more rest h = absurd (omega arith)
-begins s (f0 ∷ f1 ∷ f2 ∷ f3 ∷ f4 ∷ f5 ∷ f6 ∷ []) more rest h = refl
-begins s (f0 ∷ f1 ∷ f2 ∷ f3 ∷ f4 ∷ f5 ∷ f6 ∷ x ∷ row) more rest h = absurd (omega arith)
+-- lists that agree in their first n elements
+when_agree : (s t : List ℕ) (n : ℕ) → every (agree s t) n ≡ true → (k : ℕ) → k < n → get_or s k 0 ≡ get_or t k 0
+when_agree s t n e k h = eqb-true (get_or s k 0) (get_or t k 0) (every_holds (agree s t) n e k h)
 
-pub begins_with : (s own row more rest : List ℕ) → own ≡ (row ++ more) ++ rest → length row ≡ 7
-    → every (agree s own) 7 ≡ every (agree s row) 7
-begins_with s own row more rest e h = ap (λ l. every (agree s l) 7) e ∙ begins s row more rest h
+-- a list that agrees with a row begins with it
+pub front_is : (s row : List ℕ) → length row ≡ 7 → 7 ≤ length s → every (agree s row) 7 ≡ true → take 7 s ≡ row
+front_is s row seven long e =
+    let size : length (take 7 s) ≡ 7 = length-take-le 7 s long in
+    ext_get_or 0 (take 7 s) row (size ∙ sym seven)
+    (λ k h. let below : k < 7 = omega arith in get_or-take 7 s k 0 below ∙ when_agree s row 7 e k below)
+
+-- what `==` says of a list's front and a row
+pub same_front : (s row : List ℕ) → length row ≡ 7 → 7 ≤ length s → (b : Bool) → Decides b (take 7 s ≡ row)
+    → b ≡ every (agree s row) 7
+same_front s row seven long true d =
+    sym (every_when (agree s row) 7
+    (λ k h. eq-eqb _ _ (sym (get_or-take 7 s k 0 h) ∙ ap (λ l. get_or l k 0) (d.0 refl))))
+same_front s row seven long false d = by_test (every (agree s row) 7) refl
+  where
+    by_test : (t : Bool) → every (agree s row) 7 ≡ t → false ≡ t
+    by_test false e = refl
+    by_test true e = d.1 (front_is s row seven long e)

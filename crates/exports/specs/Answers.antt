@@ -1,12 +1,11 @@
 -- Answers as one number: bits 0 to 7 the refusal's or stop's number (0: none), bits 8 to 23 its address, bits 24 to 55
 -- a value.
-use Rattle.std.specs.Prelude.{ℕ, ◌+◌, ◌*◌, Bool, true, false, cond, List, leb, length}
+use Rattle.std.specs.Prelude.{ℕ, ◌+◌, ◌*◌, Bool, true, false, cond, List, leb, length, Option, Some, None}
 use Rattle.isa.specs.Refusals.{Numbered, plain, located, Answer, Ended, done, refused}
 use Rattle.isa.specs.Rom.{is_image}
+use Rattle.data.specs.declared.Origin.{Origin}
 use Rattle.data.specs.declared.Origin.TheVariants.{Ram, Register, Rom, NoRom}
-use Rattle.data.specs.declared.OriginRead.{OriginRead}
-use Rattle.data.specs.declared.OriginRead.TheVariants.{Nothing, From}
-use Rattle.machine.specs.Reading.{Reading}
+use Rattle.machine.specs.declared.reading.Reading.{Reading}
 use Rattle.gauge.specs.Sleep.{Size}
 use Rattle.gauge.specs.Width.{width_of}
 
@@ -28,33 +27,33 @@ answer_word (done value) = word 0 0 value
 answer_word (refused r) = refusal_word r
 
 -- W-203: an origin by number, 0 where nothing was read
-abbrev pub origin_number : OriginRead → ℕ
-origin_number Nothing = 0
-origin_number (From Ram) = 1
-origin_number (From Register) = 2
-origin_number (From (Rom address)) = 3
-origin_number (From NoRom) = 4
+abbrev pub origin_number : Option Origin → ℕ
+origin_number None = 0
+origin_number (Some Ram) = 1
+origin_number (Some Register) = 2
+origin_number (Some (Rom address)) = 3
+origin_number (Some NoRom) = 4
 
 -- "the ROM window with its ROM address": 0 for all others
-abbrev pub rom_address : OriginRead → ℕ
-rom_address Nothing = 0
-rom_address (From Ram) = 0
-rom_address (From Register) = 0
-rom_address (From (Rom address)) = address
-rom_address (From NoRom) = 0
+abbrev pub rom_address : Option Origin → ℕ
+rom_address None = 0
+rom_address (Some Ram) = 0
+rom_address (Some Register) = 0
+rom_address (Some (Rom address)) = address
+rom_address (Some NoRom) = 0
 
 -- a byte or a step's cycles in bits 24 to 31, the origin's number in bits 32 to 39, the ROM address in bits 40 to 55
-abbrev pub origin_word : (value : ℕ) → OriginRead → ℕ
+abbrev pub origin_word : (value : ℕ) → Option Origin → ℕ
 origin_word value read = word 0 0 (value + origin_number read * 0x100 + rom_address read * 0x10000)
 
 -- a step's cycles and what it read; a refused or stopped step has neither
-abbrev pub step_word : Answer ℕ → OriginRead → ℕ
+abbrev pub step_word : Answer ℕ → Option Origin → ℕ
 step_word (done cycles) read = origin_word cycles read
 step_word (refused r) read = refusal_word r
 
 -- a byte that was read, and its origin
 abbrev pub reading_word : Answer Reading → ℕ
-reading_word (done r) = origin_word r.byte (From r.origin)
+reading_word (done r) = origin_word r.byte (Some r.origin)
 reading_word (refused r) = refusal_word r
 
 -- W-201: the width in bits 24 to 39, the steps in bits 40 to 55

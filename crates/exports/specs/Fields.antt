@@ -1,6 +1,6 @@
 -- An instruction as a row of fields: form, operand kind, value low and high, second value, bit number, displacement;
 -- decoding adds length, cycles and a zero.
-use Rattle.std.specs.Prelude.{ℕ, ◌+◌, ◌*◌, Bool, cond, ◌&&◌, List, [], ◌∷◌, ◌++◌, length, get_or, eqb, leb, ℤ}
+use Rattle.std.specs.Prelude.{ℕ, ◌+◌, ◌*◌, Bool, cond, ◌&&◌, List, [], ◌∷◌, ◌++◌, length, get_or, eqb, leb, ℤ, Option, Some, None}
 use Rattle.isa.specs.Displacement.{modulo, long_displacement}
 use Rattle.isa.specs.declared.Operand.{Operand}
 use Rattle.isa.specs.declared.Operand.TheVariants.{Direct, Short, ThroughX, ThroughY}
@@ -8,8 +8,6 @@ use Rattle.isa.specs.declared.Instruction.{Instruction}
 use Rattle.isa.specs.declared.Instruction.TheVariants as I
 use Rattle.exports.specs.Every.{every}
 use Rattle.exports.specs.States.{low_byte, high_byte}
-use Rattle.exports.specs.declared.fields.InstructionRead.{InstructionRead}
-use Rattle.exports.specs.declared.fields.InstructionRead.TheVariants.{Is, Unreadable}
 
 abbrev pub row_of : (form kind low high second bit displacement : ℕ) → List ℕ
 row_of form kind low high second bit displacement = form ∷ kind ∷ low ∷ high ∷ second ∷ bit ∷ displacement ∷ []
@@ -106,6 +104,6 @@ agree s t k = eqb (get_or s k 0) (get_or t k 0)
 
 -- Fields are an instruction's where they are exactly its row: there are seven, the form and the kind exist, and a field
 -- that the form does not use is 0.
-unfoldable pub unpacked_instruction : List ℕ → InstructionRead
+unfoldable pub unpacked_instruction : List ℕ → Option Instruction
 unpacked_instruction s =
-    cond (leb 7 (length s) && every (agree s (packed_instruction (instruction_at s))) 7) (Is (instruction_at s)) Unreadable
+    cond (leb 7 (length s) && every (agree s (packed_instruction (instruction_at s))) 7) (Some (instruction_at s)) None

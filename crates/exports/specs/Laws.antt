@@ -1,6 +1,6 @@
 -- What callers may rely on: packing and unpacking undo each other, an answer's parts can be read back, and a refusal
 -- leaves what was lent.
-use Rattle.std.specs.Prelude.{ℕ, ◌<◌, ◌/◌, ◌%◌, ◌≡◌, ◌≢◌, true, not, ◌&&◌, List, ◌++◌, leb, ℤ, pos, length, get_or, take, drop}
+use Rattle.std.specs.Prelude.{ℕ, ◌<◌, ◌/◌, ◌%◌, ◌≡◌, ◌≢◌, true, not, ◌&&◌, List, ◌++◌, leb, ℤ, pos, length, get_or, take, drop, Option, Some}
 use Rattle.isa.specs.Refusals.{done}
 use Rattle.isa.specs.RoundTrip.{Bytes}
 use Rattle.isa.specs.Rom.{is_image}
@@ -12,13 +12,12 @@ use Rattle.machine.specs.State.{is_well_formed}
 use Rattle.machine.specs.Step.{step_of}
 use Rattle.machine.specs.Run.{steps_of, requests_fit, run_of}
 use Rattle.machine.specs.Laws.{StopNumber}
-use Rattle.data.specs.declared.OriginRead.{OriginRead}
+use Rattle.data.specs.declared.Origin.{Origin}
 use Rattle.gauge.specs.Sleep.{size_as}
 use Rattle.playback.specs.Play.{Playing, play_of}
 use Rattle.exports.specs.Answers.{word, answer_word, origin_number, rom_address, origin_word, size_word, is_refused_run}
 use Rattle.exports.specs.States.{valid, unpacked, packed}
 use Rattle.exports.specs.Fields.{packed_instruction, unpacked_instruction}
-use Rattle.exports.specs.declared.fields.InstructionRead.TheVariants.{Is}
 use Rattle.exports.specs.Lent.{
   Lent,
   LentRun,
@@ -83,8 +82,8 @@ displacement_of I.Wait = pos 0
 pub record FieldsInvert : Type 0 where
   pub read_row :
       (i : Instruction) → in_field 8 (displacement_of i) ≡ true → (more : List ℕ)
-      → unpacked_instruction (packed_instruction i ++ more) ≡ Is i
-  pub row_read : (s : List ℕ) (i : Instruction) → unpacked_instruction s ≡ Is i → take 7 s ≡ packed_instruction i
+      → unpacked_instruction (packed_instruction i ++ more) ≡ Some i
+  pub row_read : (s : List ℕ) (i : Instruction) → unpacked_instruction s ≡ Some i → take 7 s ≡ packed_instruction i
 
 -- bits 0 to 7, 8 to 23 and from 24
 -- proved by word_reads, proofs/Inverse
@@ -102,9 +101,9 @@ pub record SizeReads : Type 0 where
 -- bits 24 to 31 the byte or the cycles, bits 32 to 39 the origin's number, from bit 40 the ROM address
 -- proved by origin_reads, proofs/Inverse
 pub record OriginReads : Type 0 where
-  pub value : (v : ℕ) (r : OriginRead) → v < 0x100 → origin_word v r / 0x1000000 % 0x100 ≡ v
-  pub origin : (v : ℕ) (r : OriginRead) → v < 0x100 → origin_word v r / 0x100000000 % 0x100 ≡ origin_number r
-  pub address : (v : ℕ) (r : OriginRead) → v < 0x100 → origin_word v r / 0x10000000000 ≡ rom_address r
+  pub value : (v : ℕ) (r : Option Origin) → v < 0x100 → origin_word v r / 0x1000000 % 0x100 ≡ v
+  pub origin : (v : ℕ) (r : Option Origin) → v < 0x100 → origin_word v r / 0x100000000 % 0x100 ≡ origin_number r
+  pub address : (v : ℕ) (r : Option Origin) → v < 0x100 → origin_word v r / 0x10000000000 ≡ rom_address r
 
 -- a run is refused exactly where one of its own refusals applies: 1, 2, 12, 11
 -- proved by refused_runs, proofs/Runs

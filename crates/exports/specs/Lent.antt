@@ -1,11 +1,11 @@
 -- What each exported function answers, and what it leaves in the buffers that it is lent.
-use Rattle.std.specs.Prelude.{ℕ, ◌/◌, ◌%◌, ◌≡◌, cond, ◌&&◌, List, [], ◌∷◌, ◌++◌, length, drop, leb, eqb}
+use Rattle.std.specs.Prelude.{ℕ, ◌/◌, ◌%◌, ◌≡◌, cond, ◌&&◌, List, [], ◌∷◌, ◌++◌, length, drop, leb, eqb, Option, Some, None}
 use Rattle.isa.specs.Refusals.{plain, Answer, done, refused, unless}
 use Rattle.isa.specs.Decode.{decode_in}
 use Rattle.isa.specs.Decode as decode
 use Rattle.isa.specs.Write.{outcome, buffer_after}
 use Rattle.isa.specs.Encode.{encode_of}
-use Rattle.data.specs.declared.OriginRead.{OriginRead}
+use Rattle.data.specs.declared.Origin.{Origin}
 use Rattle.machine.specs.State.{HostStore, reset_of, host_store_of}
 use Rattle.machine.specs.Step.{Step, step_of}
 use Rattle.machine.specs.Run.{Run, run_of}
@@ -15,13 +15,12 @@ use Rattle.maker.specs.Make.{Makes}
 use Rattle.playback.specs.Play.{Playing, play_of}
 use Rattle.jobs.specs.CheckJob.{job_of}
 use Rattle.jobs.specs.Line.{line_of}
-use Rattle.jobs.specs.Answer.{fits}
+use Rattle.text_line.specs.Line.{fits}
 use Rattle.exports.specs.Answers.{word, refusal_word, invalid_word, answer_word, step_word, reading_word}
 use Rattle.exports.specs.Answers.{ended_word, is_refused_run}
 use Rattle.exports.specs.States.{Unpacked, valid, invalid, unpacked, packed}
 use Rattle.exports.specs.Fields.{decoded_row, unpacked_instruction}
-use Rattle.exports.specs.declared.fields.InstructionRead.{InstructionRead}
-use Rattle.exports.specs.declared.fields.InstructionRead.TheVariants.{Is, Unreadable}
+use Rattle.isa.specs.declared.Instruction.{Instruction}
 
 -- an answer, and the buffer after it
 pub record Lent : Type 0 where
@@ -51,7 +50,7 @@ unfoldable pub store_lent : List ℕ → (a value : ℕ) → Lent
 store_lent s a value =
     cond (leb a 255 && leb value 255) (store_by s a value (unpacked s)) (lent (refusal_word (plain 8)) s)
 
-abbrev pub stepped_lent : Step → OriginRead → Lent
+abbrev pub stepped_lent : Step → Option Origin → Lent
 stepped_lent r read = lent (step_word r.answer read) (packed r.machine)
 
 abbrev pub step_by : (image s : List ℕ) → (request : ℕ) → Unpacked → Lent
@@ -128,9 +127,9 @@ decode_lent image address bank out =
     cond (leb bank 255) (decoded_lent out (decode_in image bank address)) (lent (refusal_word (plain 8)) out)
 
 -- fields that are no instruction's are refused with 8
-abbrev pub write_by : List ℕ → InstructionRead → Lent
-write_by out (Is i) = lent (answer_word (outcome (encode_of i) (length out))) (buffer_after (encode_of i) out)
-write_by out Unreadable = lent (refusal_word (plain 8)) out
+abbrev pub write_by : List ℕ → Option Instruction → Lent
+write_by out (Some i) = lent (answer_word (outcome (encode_of i) (length out))) (buffer_after (encode_of i) out)
+write_by out None = lent (refusal_word (plain 8)) out
 
 unfoldable pub write_lent : (fields out : List ℕ) → Lent
 write_lent fields out = write_by out (unpacked_instruction fields)

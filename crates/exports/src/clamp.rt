@@ -6,12 +6,12 @@ ghost use Rattle.exports.specs.Clamp.{clamped_byte, clamped_address};
 pub fn clamp_byte(n: u32) -> u8
     ensures { result ≡ clamped_byte n }
 {
-    if n < 256 { n as u8 } else { 255 }
+    n.min(255) as u8
 }
 
 // A program address; a greater number becomes 1000h, which is refused as that number is.
 pub fn clamp_address(n: u32) -> u16
     ensures { result ≡ clamped_address n }
 {
-    if n < 4096 { n as u16 } else { 4096 }
+    n.min(4096) as u16
 }

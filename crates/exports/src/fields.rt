@@ -19,16 +19,8 @@ ghost use Rattle.exports.specs.Fields.{
   unpacked_instruction,
 };
 
-use crate::copying::number;
 use isa::displacement::{long_byte, long_displacement};
 use isa::{Instruction, Operand};
-
-// The instruction of a row, or that the row is no instruction's.
-#[derive(Drop)]
-pub enum InstructionRead {
-    Is(Instruction),
-    Unreadable,
-}
 
 fn bare(form: u8) -> [u8; 7]
     ensures { result ≡ bare_row form }
@@ -45,7 +37,8 @@ fn jump(form: u8, displacement: i8) -> [u8; 7]
 fn to(form: u8, target: u16) -> [u8; 7]
     ensures { result ≡ to_row form target }
 {
-    [form, 0, (target % 256) as u8, (target / 256) as u8, 0, 0, 0]
+    let [low, high] = target.to_le_bytes();
+    [form, 0, low, high, 0, 0, 0]
 }
 
 fn bit_jump(form: u8, bit: u8, address: u8, displacement: i8) -> [u8; 7]
@@ -197,44 +190,30 @@ fn candidate(fields: &[u8]) -> Instruction
         fields[0],
         operand_of(fields[1], value),
         value,
-        number(value, fields[3]),
+        u16::from_le_bytes([value, fields[3]]),
         fields[4],
         fields[5],
         long_displacement(fields[6]),
     )
 }
 
-// Whether the first seven bytes of a slice are those of a row.
-#[tactic(auto, using(crate::proofs::Every::every_more, crate::proofs::Every::every_fails), unfolding(crate::specs::Every::every))]
-fn begins_with(fields: &[u8], own: &[u8; 10]) -> bool
+// Whether a slice begins with a row.
+fn begins_with(fields: &[u8], row: &[u8; 7]) -> bool
     requires { 7 ≤ length fields.now }
-    ensures { result ≡ every (agree fields.now own.now) 7 }
+    ensures { result ≡ every (agree fields.now row.now) 7 }
 {
-    let mut i: usize = 0;
-    while i < 7 {
-        if fields[i] != own[i] {
-            return false;
-        }
-        i += 1;
-    }
-    true
+    &fields[..7] == row.as_slice()
 }
 
 // Reads an instruction. A row that is not exactly that of its instruction, as one with a byte in a field that the form
 // does not use, is no instruction's.
-#[tactic(auto, using(crate::proofs::Rows::seven, crate::proofs::Rows::begins_with), unfolding(crate::specs::Fields::unpacked_instruction))]
-pub fn read(fields: &[u8]) -> InstructionRead
+#[tactic(auto, unfolding(crate::specs::Fields::unpacked_instruction))]
+pub fn read(fields: &[u8]) -> Option<Instruction>
     ensures { result ≡ unpacked_instruction fields.now }
 {
     if fields.len() < 7 {
-        return InstructionRead::Unreadable;
+        return None;
     }
     let i = candidate(fields);
-    let mut own = [0u8; 10];
-    put_row(&mut own, i, 0, 0);
-    if begins_with(fields, &own) {
-        InstructionRead::Is(i)
-    } else {
-        InstructionRead::Unreadable
-    }
+    begins_with(fields, &fields_of(i)).then_some(i)
 }

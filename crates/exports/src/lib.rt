@@ -18,25 +18,24 @@ ghost use Rattle.exports.specs.Lent.{decoded_lent};
 ghost use Rattle.exports.specs.Lent.{read_word, run_lent, play_lent, job_lent, MakeLent};
 
 use answers::{
-    check_word, done, ending_word, invalid_state, is_refused, made_word, reading_word, refused,
-    sizing_word, step_word, write_word,
+    answer_word, done, ending_word, invalid_state, is_refused, reading_word, refused, size_word,
+    step_word,
 };
 use certificate::check::check;
 use clamp::{clamp_address, clamp_byte};
 use copying::put;
-use fields::{InstructionRead, put_row, read};
+use fields::{put_row, read};
 use gauge::width::width;
 use isa::decode::decode;
 use isa::write::write;
 use isa::{Decoded, Refusal};
-use jobs::Answered;
 use jobs::answer::answer;
 use machine::run::run_lent;
 use machine::state::{host_store, reset};
 use machine::step::step_lent;
 use maker::make::make;
 use packing::{pack, pack_parts, report_bytes};
-use playback::PlayAnswer;
+use playback::Played;
 use playback::play::play;
 use states::{control_of, data_of, is_valid, pairs_of, stack_of, unpack};
 
@@ -47,12 +46,14 @@ fn decode_with(image: &[u8], address: u32, bank: u8, out: &mut [u8]) -> u64
         ≡ decoded_lent out.old (decode_in image.now bank address) }
 {
     match decode(image, bank, clamp_address(address)) {
-        Decoded::Refused(refusal) => refused(refusal),
-        Decoded::Valid {
-            instruction,
-            length,
-            cycles,
-        } => {
+        Err(refusal) => refused(refusal),
+        Ok(
+            Decoded {
+                instruction,
+                length,
+                cycles,
+            },
+        ) => {
             if out.len() < 10 {
                 return refused(Refusal::BufferLength);
             }
@@ -81,8 +82,8 @@ pub extern "C" fn st62_write(fields: &[u8], out: &mut [u8]) -> u64
     ensures { lent result out.new ≡ write_lent fields.now out.old }
 {
     match read(fields) {
-        InstructionRead::Is(instruction) => write_word(write(instruction, out)),
-        InstructionRead::Unreadable => refused(Refusal::OperandRange),
+        Some(instruction) => answer_word(write(instruction, out)),
+        None => refused(Refusal::OperandRange),
     }
 }
 
@@ -115,10 +116,8 @@ pub extern "C" fn st62_store(state: &mut [u8], address: u32, value: u32) -> u64
         return refused(Refusal::IllFormedMachine);
     }
     let stored = host_store(unpack(state), address as u8, value as u8);
-    let m = stored.machine;
-    let ending = stored.ending;
-    pack(state, m);
-    ending_word(ending)
+    pack(state, stored.machine);
+    ending_word(stored.ending)
 }
 
 #[unsafe(no_mangle)]
@@ -206,22 +205,24 @@ pub extern "C" fn st62_play(
     ensures { lent_run result state.new report.new
         ≡ play_lent image.now recording.now state.old report.old }
 {
-    let played = play(image, recording);
-    let m = played.machine;
-    let answer = played.answer;
-    match answer {
-        PlayAnswer::Refused(refusal) => refused(refusal),
-        PlayAnswer::Ended(reported) => {
+    match play(image, recording) {
+        Err(refusal) => refused(refusal),
+        Ok(
+            Played {
+                machine,
+                entries,
+                cycles,
+                ending,
+            },
+        ) => {
             if state.len() != 280 {
                 return refused(Refusal::IllFormedMachine);
             }
             if report.len() < 8 {
                 return refused(Refusal::BufferLength);
             }
-            let ending = reported.ending;
-            let bytes = report_bytes(reported.entries, reported.cycles);
-            pack(state, m);
-            put(report, 0, &bytes);
+            pack(state, machine);
+            put(report, 0, &report_bytes(entries, cycles));
             ending_word(ending)
         }
     }
@@ -232,7 +233,7 @@ pub extern "C" fn st62_play(
 pub extern "C" fn st62_check(image: &[u8], certificate: &[u8], wired: u32) -> u64
     ensures { result ≡ answer_word (check_of image.now certificate.now wired) }
 {
-    check_word(check(image, certificate, clamp_byte(wired)))
+    answer_word(check(image, certificate, clamp_byte(wired)))
 }
 
 // Makes the least certificate of an image and its wired sources into `out`.
@@ -240,7 +241,7 @@ pub extern "C" fn st62_check(image: &[u8], certificate: &[u8], wired: u32) -> u6
 pub extern "C" fn st62_make(image: &[u8], wired: u32, out: &mut [u8]) -> u64
     ensures { MakeLent image.now wired out.old (lent result out.new) }
 {
-    made_word(make(image, clamp_byte(wired), out))
+    answer_word(make(image, clamp_byte(wired), out))
 }
 
 // The width that the gauge would show for a count.
@@ -251,7 +252,7 @@ pub extern "C" fn st62_width(image: &[u8], certificate: &[u8], count: u32) -> u6
     if 255 < count {
         return refused(Refusal::OperandRange);
     }
-    sizing_word(width(image, certificate, count as u8))
+    size_word(width(image, certificate, count as u8))
 }
 
 // Answers a job with its line, written into `line`.
@@ -261,7 +262,7 @@ pub extern "C" fn st62_job(job: &[u8], line: &mut [u8]) -> u64
     ensures { lent result line.new ≡ job_lent job.now line.old }
 {
     match answer(job, line) {
-        Answered::Line(count) => done(count as u32),
-        Answered::Refused(refusal) => refused(refusal),
+        Ok(count) => done(count as u32),
+        Err(refusal) => refused(refusal),
     }
 }

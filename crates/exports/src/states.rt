@@ -1,29 +1,28 @@
 // From a state's 280 bytes to the machine: 0-255 data; 256, 257 PC; 258 levels; 259 mode; 260 asleep; 261-266 Z and C
-// of normal, interrupt and NMI; 267 zero; 268-279 the return addresses. Numbers of two bytes stand low byte first.
-ghost use Rattle.std.specs.Prelude.{◌≡◌, ◌+◌, ◌<◌, length, take};
+// of normal, interrupt and NMI; 267 zero; 268-279 the return addresses. Numbers of two bytes stand low byte first. C lends
+// a state as a slice: its length is tested once, and is a premise from there on.
+ghost use Rattle.std.specs.Prelude.{◌≡◌, ◌+◌, ◌<◌, ◌↔◌, IsTrue, EachIndex, slice_index, length, take};
 ghost use Rattle.exports.specs.Every.{every};
 ghost use Rattle.exports.specs.States.{is_flag, is_valid, word_at, pair_at, mode_of, control_at, stack_at, pairs_at};
 ghost use Rattle.exports.specs.States.{machine_at};
 
-use crate::copying::number;
 use alu::Flags;
 use control::{Control, Mode};
 use machine::{FlagPairs, Machine};
 
+// Whether each byte is 0 or 1.
+fn are_flags(bytes: &[u8]) -> bool
+    ensures { IsTrue result ↔ EachIndex bytes.now (λ k. slice_index bytes.now k < 2) }
+{
+    bytes.iter().all(|byte| *byte < 2)
+}
+
 // Whether the seven bytes from 260 on are 0 or 1.
-#[tactic(auto, using(crate::proofs::Every::every_more, crate::proofs::Every::every_fails), unfolding(crate::specs::Every::every))]
 fn flags_valid(state: &[u8]) -> bool
     requires { length state.now ≡ 280 }
     ensures { result ≡ every (is_flag state.now) 7 }
 {
-    let mut i: usize = 0;
-    while i < 7 {
-        if 2 <= state[260 + i] {
-            return false;
-        }
-        i += 1;
-    }
-    true
+    are_flags(&state[260..267])
 }
 
 // Whether a slice is a valid state.
@@ -31,16 +30,7 @@ fn flags_valid(state: &[u8]) -> bool
 pub fn is_valid(state: &[u8]) -> bool
     ensures { result ≡ is_valid state.now }
 {
-    if state.len() != 280 {
-        return false;
-    }
-    if 4 < state[259] {
-        return false;
-    }
-    if state[267] != 0 {
-        return false;
-    }
-    flags_valid(state)
+    state.len() == 280 && state[259] <= 4 && state[267] == 0 && flags_valid(state)
 }
 
 // The number of two bytes.
@@ -48,21 +38,15 @@ fn word_at(state: &[u8], at: usize) -> u16
     requires { at + 1 < length state.now }
     ensures { result ≡ word_at state.now at }
 {
-    number(state[at], state[at + 1])
+    u16::from_le_bytes([state[at], state[at + 1]])
 }
 
 // The mode of a number from 0 to 4.
-#[tactic(auto, unfolding(crate::specs::States::mode_of))]
+#[tactic(auto, using(crate::proofs::StateBytes::mode_of_lem))]
 fn mode_of(number: u8) -> Mode
     ensures { result ≡ mode_of number }
 {
-    match number {
-        0 => Mode::Reset,
-        1 => Mode::Normal,
-        2 => Mode::Interrupt,
-        3 => Mode::NmiOverNormal,
-        _ => Mode::NmiOverInterrupt,
-    }
+    Mode::try_from(number).unwrap_or(Mode::NmiOverInterrupt)
 }
 
 pub fn data_of(state: &[u8]) -> [u8; 256]
@@ -70,11 +54,7 @@ pub fn data_of(state: &[u8]) -> [u8; 256]
     ensures { result ≡ take 256 state.now }
 {
     let mut bytes = [0u8; 256];
-    let mut i: usize = 0;
-    while i < 256 {
-        bytes[i] = state[i];
-        i += 1;
-    }
+    bytes.copy_from_slice(&state[..256]);
     bytes
 }
 

@@ -9,7 +9,6 @@ use Rattle.isa.specs.Rom
 use Rattle.isa.specs.Decode
 use Rattle.isa.specs.ControlFlow
 use Rattle.isa.specs.Refusals.{located}
-use Rattle.control.specs.Stack
 use Rattle.control.specs.Transfers
 use Rattle.control.specs.Requests
 use Rattle.control.specs.WellFormed

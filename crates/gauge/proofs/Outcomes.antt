@@ -113,7 +113,7 @@ module _ (image certificate : List ℕ) (count : ℕ) where
   apart a b h e = let y : a ≡ b = cc in absurd (omega arith)
 
   not_done : {P : Type 0} (s : Size) (n : Numbered) → ◌≡◌ {A = Answer Size} (refused n) (done s) → P
-  not_done s n e = let y : ◌≡◌ {A = ℕ} 0 1 = cc in absurd (omega arith)
+  not_done s n e = cc
 
   measured_only : (width steps : ℕ) → width_of image certificate count ≡ done (size_as width steps)
       → Measured image certificate count width steps

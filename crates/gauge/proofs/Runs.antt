@@ -39,9 +39,9 @@ module _ (image : List ℕ) (m : Machine) (ready : Ready image m) where
         ∙ run_further image m 65535 ready.all_done n 1285 (omega arith) (omega arith)
 
     -- whether it sleeps then, as the program finds it
-    pub asleep_then : (r : Run) → r ≡ run_of image held [] 1285 → (b : Bool) → b ≡ r.machine.control.asleep
-        → asleep_after image m (n + 1285) ≡ b
-    asleep_then r e b a = found_after image m r.machine (n + 1285) b (run_on r e) a
+    pub asleep_then : (r : Run) → r ≡ run_of image held [] 1285
+        → asleep_after image m (n + 1285) ≡ r.machine.control.asleep
+    asleep_then r e = found_after image m r.machine (n + 1285) (run_on r e)
 
     -- .. and after some of its steps
     on : (k : ℕ) → k ≤ 1285 → machine_after image held k ≡ machine_after image m (n + k)

@@ -2,20 +2,18 @@
 use Prim.Native.Nat.{ℕ, zero, suc, ◌+◌, ◌-◌, ◌<◌, ◌≤◌}
 use mathlib.Core.Path.{◌≡◌, refl, sym, ap, ◌∙◌}
 use mathlib.Core.Logic.{inr}
-use mathlib.Core.Bool.{Bool, true, false, false≢true}
+use mathlib.Core.Bool.{Bool, true, false}
 use mathlib.Core.List.{List, []}
 use native.Mathlib.Omega.{arith}
 use native.Mathlib.Nat.{add-zero}
 use native.Mathlib.Numerals.{add-one}
-use borrow.Author.Tests.{ltb-true, ltb-false}
-use lib.Dec.{ltb}
 use lib.ListN.{drop}
 use Rattle.isa.specs.Refusals.{Answer, Ended, done, refused}
 use Rattle.machine.specs.declared.Machine.{Machine}
 use Rattle.machine.specs.Step.{Step, step_of}
 use Rattle.machine.specs.Run.{Run, joined_by, continued_by, continued_of, steps_of, run_of}
 use Rattle.machine.proofs.Laws.{run_is_steps, sleeper_stays}
-use Rattle.gauge.specs.Sleep.{machine_after, asleep_after, AsleepAfter, AwakeAfter, AllDone, SleepsWithin}
+use Rattle.gauge.specs.Sleep.{machine_after, asleep_after, AsleepAfter, AwakeAfter, AllDone}
 use Rattle.gauge.proofs.Steps.{Fits, fits, run_as_steps}
 
 no_requests : (n : ℕ) → drop {A = ℕ} n [] ≡ []
@@ -91,39 +89,14 @@ module _ (image : List ℕ) (m : Machine) (most : ℕ) (all : AllDone image m mo
 
 -- what the program finds of the machine that it holds is so after n steps
 pub found_after :
-    (image : List ℕ) (m held : Machine) (n : ℕ) (asleep : Bool) → held ≡ machine_after image m n
-    → asleep ≡ held.control.asleep → asleep_after image m n ≡ asleep
-found_after image m held n asleep e a = sym (a ∙ ap (λ (x : Machine). x.control.asleep) e)
+    (image : List ℕ) (m held : Machine) (n : ℕ) → held ≡ machine_after image m n →
+    asleep_after image m n ≡ held.control.asleep
+found_after image m held n is = sym (ap (λ (x : Machine). x.control.asleep) is)
 
--- a machine that is still awake has not taken all the steps within which it sleeps
-pub not_yet :
-    (image : List ℕ) (m : Machine) (most : ℕ) → SleepsWithin image m most → (n : ℕ) → n ≤ most → AwakeAfter image m n
-    → n < most
-not_yet image m most sleeps n h e = go (ltb n most) refl
-  where
-    go : (b : Bool) → ltb n most ≡ b → n < most
-    go true t = ltb-true n most t
-    go false t =
-        let same : n ≡ most = omega (arith, ltb-false n most t) in
-        absurd (false≢true (sym e ∙ ap (asleep_after image m) same ∙ sleeps.asleep))
-
--- the step after n, where the test finds the machine awake
-pub record StillAwake (image : List ℕ) (m : Machine) (most n : ℕ) (after : Machine) : Type 0 where
-  pub awake : AwakeAfter image m n
-  pub left : n < most
-  pub next : after ≡ machine_after image m (n + 1)
-
-pub still_awake :
-    (image : List ℕ) (m : Machine) (most : ℕ) → SleepsWithin image m most → (held : Machine) (n : ℕ) (asleep : Bool)
-    → n ≤ most → held ≡ machine_after image m n → asleep ≡ held.control.asleep → asleep ≡ false
-    → (s : Step) → s ≡ step_of image held 0 → StillAwake image m most n s.machine
-still_awake image m most sleeps held n asleep h is a t s e =
-    let awake : AwakeAfter image m n = found_after image m held n asleep is a ∙ t in
-    let left : n < most = not_yet image m most sleeps n h awake in
-    record {
-      awake = awake;
-      left = left;
-      next =
-          ap (λ (x : Step). x.machine) e ∙ ap (λ (x : Machine). (step_of image x 0).machine) is
-          ∙ one_further image m most sleeps.all_done n left ∙ ap (machine_after image m) (sym (add-one n));
-    }
+-- .. and a step of it is the next
+pub stepped_on :
+    (image : List ℕ) (m : Machine) (most : ℕ) → AllDone image m most → (held : Machine) (n : ℕ) → n < most →
+    held ≡ machine_after image m n → (s : Step) → s ≡ step_of image held 0 → s.machine ≡ machine_after image m (n + 1)
+stepped_on image m most all held n left is s e =
+    ap (λ (x : Step). x.machine) e ∙ ap (λ (x : Machine). (step_of image x 0).machine) is
+    ∙ one_further image m most all n left ∙ ap (machine_after image m) (sym (add-one n))

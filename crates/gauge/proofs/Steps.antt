@@ -34,8 +34,7 @@ neither image m n h why (inl r) =
 neither image m n h why (inr d) =
     let x : ◌≡◌ {A = Answer ℕ} (refused (plain n)) (done d.cycles) =
     sym (ap (λ (s : Step). s.answer) (step_refusals.given image m 0 (plain n) why)) ∙ d.answer in
-    let y : ◌≡◌ {A = ℕ} 0 1 = cc in
-    omega arith
+    cc
 
 -- so image and machine are such that a step is not refused with 1 or 2
 pub record Fits (image : List ℕ) (m : Machine) : Type 0 where
@@ -64,8 +63,7 @@ is_done image m (inl r) =
         let s : IsStop m n =
         stops_numbered (program_of image m.bytes) m 0 (is_space_lem image (get_or m.bytes 0xCA 0) i) w n stop in
         let x : plain 11 ≡ located s.number m.control.pc = sym e ∙ s.is in
-        let y : ◌≡◌ {A = ℕ} 0 1 = cc in
-        omega arith
+        cc
 
 -- a run without requests on such a machine is not refused
 pub run_as_steps :

@@ -1,12 +1,11 @@
 -- A machine that runs without requests until it sleeps, and the width that it then shows (document 02, W-201).
 use Rattle.std.specs.Prelude.{ℕ, zero, suc, ◌+◌, ◌*◌, ◌<◌, ◌≤◌, ◌≡◌, Bool, true, false, cond, List, [], get_or}
-use Rattle.isa.specs.Refusals.{plain, numbered, Answer, done, refused}
+use Rattle.isa.specs.Refusals.{plain, Answer, done, refused}
 use Rattle.machine.specs.declared.Machine.{Machine}
 use Rattle.machine.specs.Step.{step_of}
 use Rattle.machine.specs.Run.{steps_of}
 use Rattle.bench.specs.Session.{StepDone}
-use Rattle.gauge.specs.declared.Sizing.{Sizing}
-use Rattle.gauge.specs.declared.Sizing.TheVariants.{Measured, Refused}
+use Rattle.gauge.specs.declared.Measured.{Measured}
 
 -- "runs without requests": the machine after n steps
 abbrev pub machine_after : (image : List ℕ) → Machine → (n : ℕ) → Machine
@@ -31,18 +30,12 @@ abbrev pub width_shown : Machine → ℕ
 width_shown m = 256 * get_or m.bytes 0x84 0 + get_or m.bytes 0x85 0
 
 -- "It answers width and steps."
-pub record Size : Type 0 where
-  pub width : ℕ
-  pub steps : ℕ
+abbrev pub Size : Type 0
+Size = Measured
 
 -- a width and steps as the answer
 abbrev pub size_as : (width steps : ℕ) → Size
 size_as width steps = record { width = width; steps = steps }
-
--- the program's answer by the papers' numbers
-abbrev pub sizing_of : Sizing → Answer Size
-sizing_of (Measured width steps) = done (size_as width steps)
-sizing_of (Refused r) = refused (numbered r)
 
 -- of the steps from step n on, as many as are left, the first after which the machine sleeps; 24 where there is none
 unfoldable pub size_from : (image : List ℕ) → Machine → (n left : ℕ) → Answer Size

@@ -5,11 +5,9 @@
 mod sleep;
 pub mod width;
 
-use isa::Refusal;
-
-// The gauge's answer: the width in tenths of a millimetre and the steps until the machine slept, or why there is none.
-#[derive(Drop)]
-pub enum Sizing {
-    Measured { width: u16, steps: u16 },
-    Refused(Refusal),
+// What the gauge shows: the width in tenths of a millimetre, and the steps until the machine slept.
+#[derive(Clone, Copy, Debug, PartialEq, Eq)]
+pub struct Measured {
+    pub width: u16,
+    pub steps: u16,
 }

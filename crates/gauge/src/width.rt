@@ -1,11 +1,10 @@
 // The width for a slide count.
 ghost use Rattle.std.specs.Prelude.{◌≡◌};
-ghost use Rattle.gauge.specs.Sleep.{sizing_of};
+ghost use Rattle.isa.specs.Refusals.{answered};
 ghost use Rattle.gauge.specs.Width.{start_of, width_of};
 
-use crate::Sizing;
+use crate::Measured;
 use crate::sleep::measure;
-use certificate::Checked;
 use certificate::check::check;
 use isa::Refusal;
 use isa::rom::PROGRAM_SPACE;
@@ -19,21 +18,19 @@ const COUNT: u8 = 0xC0;
 fn start(count: u8) -> Machine
     ensures { result ≡ start_of count }
 {
-    let stored = host_store(fresh(), COUNT, count);
-    stored.machine
+    host_store(fresh(), COUNT, count).machine
 }
 
 // The width that the gauge would show for a count, and the steps until then. Refuses with 23 an image and certificate
 // that the check with nothing wired refuses, and paged images, then with 24 a program that does not sleep.
-pub fn width(image: &[u8], certificate: &[u8], count: u8) -> Sizing
-    ensures { sizing_of result ≡ width_of image.now certificate.now count }
+pub fn width(image: &[u8], certificate: &[u8], count: u8) -> Result<Measured, Refusal>
+    ensures { answered result ≡ width_of image.now certificate.now count }
 {
     if PROGRAM_SPACE < image.len() {
-        return Sizing::Refused(Refusal::CheckRefused);
+        return Err(Refusal::CheckRefused);
     }
-    let checked = check(image, certificate, 0);
-    let Checked::Accepted(_) = checked else {
-        return Sizing::Refused(Refusal::CheckRefused);
+    let Ok(_) = check(image, certificate, 0) else {
+        return Err(Refusal::CheckRefused);
     };
     measure(image, start(count))
 }

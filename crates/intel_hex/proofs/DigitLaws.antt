@@ -8,30 +8,55 @@ use mathlib.Core.List.{List, [], ◌∷◌}
 use lib.Dec.{ltb}
 use lib.ListN.{length, drop, get_or}
 use lib.Seq.{drop-cons}
-use borrow.Author.Tests.{ltb-true, eq-eqb, ne_eqb}
-use Rattle.intel_hex.specs.Digits.{are_digits, byte_at, bytes_of, digit_of, total}
+use borrow.Author.Tests.{ltb-true}
+use Rattle.std.specs.Prelude.{Option, None, Some, is_some, unwrap_or, IfSome}
+use Rattle.std.proofs.lemmas.List.Folds.{list_all_at}
+use Rattle.intel_hex.specs.Digits.{are_digits, byte_at, bytes_of, digit_of, value_of, total}
 
 -- both choices of a test within a bound
-pick : (t : Bool) (x y n : ℕ) → (t ≡ true → x ≤ n) → (t ≡ false → y ≤ n) → cond t x y ≤ n
+pick : (t : Bool) (x y : Option ℕ) (n : ℕ) → (t ≡ true → IfSome x (λ d. d < n)) → (t ≡ false → IfSome y (λ d. d < n))
+    → IfSome (cond t x y) (λ d. d < n)
 pick true x y n f g = f refl
 pick false x y n f g = g refl
 
--- a digit is at most 16
-pub digit_at_most : (c : ℕ) → digit_of c ≤ 16
+-- a digit is below 16
+digit_small : (c : ℕ) → IfSome (digit_of c) (λ d. d < 16)
 unfolding digit_of
-digit_at_most c =
-    pick (ltb c 48) _ _ 16 (λ e. omega arith)
+digit_small c =
+    pick (ltb c 48) _ _ 16 (λ e. tt)
     (λ e. pick (ltb c 58) _ _ 16 (λ f. omega (arith, ltb-true c 58 f))
-    (λ e. pick (ltb c 65) _ _ 16 (λ f. omega arith)
+    (λ e. pick (ltb c 65) _ _ 16 (λ f. tt)
     (λ e. pick (ltb c 71) _ _ 16 (λ f. omega (arith, ltb-true c 71 f))
-    (λ e. pick (ltb c 97) _ _ 16 (λ f. omega arith)
+    (λ e. pick (ltb c 97) _ _ 16 (λ f. tt)
     (λ e. pick (ltb c 103) _ _ 16 (λ f. omega (arith, ltb-true c 103 f))
-    (λ e. omega arith))))))
+    (λ e. tt))))))
+
+pub digit_below : (c d : ℕ) → digit_of c ≡ Some d → d < 16
+digit_below c d e = let small : IfSome (digit_of c) (λ d. d < 16) = digit_small c in rw e at small
+
+value_most : (o : Option ℕ) → IfSome o (λ d. d < 16) → unwrap_or o 16 ≤ 16
+value_most None h = omega arith
+value_most (Some d) h = omega arith
+
+value_at_most : (c : ℕ) → value_of c ≤ 16
+value_at_most c = value_most (digit_of c) (digit_small c)
+
+-- where all are digits, each is
+pub is_digit_at :
+    (digits : List ℕ) (i : ℕ) → are_digits digits ≡ true → i < length digits
+    → is_some (digit_of (get_or digits i 0)) ≡ true
+is_digit_at digits i h k =
+    by (is_some (digit_of (get_or digits i 0)))
+    (λ e. list_all_at (λ c. is_some (digit_of c)) digits i 0 k e)
+  where
+    by : (b : Bool) → (b ≡ false → are_digits digits ≡ false) → b ≡ true
+    by true f = refl
+    by false f = let no : are_digits digits ≡ false = f refl in cc
 
 -- the byte of a pair, by its digits
 pub pair_at_lem :
     (digits : List ℕ) (k : ℕ) → k * 2 + 1 < length digits
-    → byte_at digits k ≡ digit_of (get_or digits (k * 2) 0) * 16 + digit_of (get_or digits (k * 2 + 1) 0)
+    → byte_at digits k ≡ value_of (get_or digits (k * 2) 0) * 16 + value_of (get_or digits (k * 2 + 1) 0)
 unfolding bytes_of
 pair_at_lem [] k h = absurd (omega arith)
 pair_at_lem (a ∷ []) k h = absurd (omega arith)
@@ -54,14 +79,14 @@ pub byte_at_most : (digits : List ℕ) (k : ℕ) → byte_at digits k ≤ 272
 unfolding bytes_of
 byte_at_most [] k = omega arith
 byte_at_most (a ∷ []) k = omega arith
-byte_at_most (a ∷ b ∷ rest) zero = omega (arith, digit_at_most a, digit_at_most b)
+byte_at_most (a ∷ b ∷ rest) zero = omega (arith, value_at_most a, value_at_most b)
 byte_at_most (a ∷ b ∷ rest) (suc k) = byte_at_most rest k
 
 pub total_at_most : (digits : List ℕ) → total (bytes_of digits) ≤ length (bytes_of digits) * 272
 unfolding bytes_of total
 total_at_most [] = omega arith
 total_at_most (a ∷ []) = omega arith
-total_at_most (a ∷ b ∷ rest) = omega (arith, digit_at_most a, digit_at_most b, total_at_most rest)
+total_at_most (a ∷ b ∷ rest) = omega (arith, value_at_most a, value_at_most b, total_at_most rest)
 
 -- the sum from a pair on: its byte, and the sum after it
 pub total_step :
@@ -73,20 +98,3 @@ total_step digits k h = rw (drop-cons (bytes_of digits) k 0 h, add-one k)
 pub total_none : total [] ≡ 0
 unfolding total
 total_none = refl
-
--- the digits from a character on: it is none, or those after it decide
-pub no_digit :
-    (digits : List ℕ) (i : ℕ) → i < length digits → digit_of (get_or digits i 0) ≡ 16
-    → are_digits (drop i digits) ≡ false
-unfolding are_digits
-no_digit digits i h e = rw (drop-cons digits i 0 h, eq-eqb _ _ e)
-
-pub one_digit :
-    (digits : List ℕ) (i : ℕ) → i < length digits → (digit_of (get_or digits i 0) ≡ 16 → ⊥)
-    → are_digits (drop (i + 1) digits) ≡ are_digits (drop i digits)
-unfolding are_digits
-one_digit digits i h e = rw (drop-cons digits i 0 h, ne_eqb _ _ e, add-one i)
-
-pub no_more : are_digits [] ≡ true
-unfolding are_digits
-no_more = refl

@@ -3,7 +3,6 @@ pub mod LineLaws
 pub mod PlaceLaws
 pub mod ImageLaws
 pub mod StepLaws
-pub mod CrcLaws
 pub mod ReadLaws
 pub mod WrittenLine
 pub mod WrittenRows

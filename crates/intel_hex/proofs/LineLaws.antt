@@ -1,31 +1,55 @@
 -- Laws of lines.
 use Prim.Native.Nat.{ℕ, suc, ◌+◌, ◌-◌, ◌≤◌, ◌<◌}
 use native.Mathlib.Omega.{arith}
-use native.Mathlib.Numerals.{add-one}
-use mathlib.Core.Path.{◌≡◌, refl, sym, ap}
+use mathlib.Core.Path.{◌≡◌, refl, sym, ap, ◌∙◌}
 use mathlib.Core.Bool.{Bool, true, false, cond}
-use mathlib.Core.List.{List, [], ◌∷◌}
-use lib.Dec.{eqb}
-use lib.ListN.{length, take, drop, get_or, length-drop}
-use lib.Seq.{drop-cons, take_all}
-use borrow.Author.Tests.{eq-eqb, ne_eqb}
+use mathlib.Core.List.{List, [], ◌∷◌, ◌++◌}
+use lib.Dec.{eqb, ltb}
+use lib.ListN.{length, take, drop, get_or, length-append}
+use lib.Seq.{take_at, get_or_at}
+use borrow.Author.Tests.{eq-eqb, ne_eqb, ltb-true, ltb-false}
+use Rattle.std.specs.Prelude.{None, Some, position, not}
+use Rattle.std.specs.List.{position_or_len}
+use Rattle.std.specs.Option.{option_map_or}
 use Rattle.intel_hex.specs.Lines.{before, lines_of, line_size, without_last}
 
--- the first line's size from a character on: it ends the line, or one more than from the next
-pub size_ends :
-    (text : List ℕ) (i : ℕ) → i < length text → get_or text i 0 ≡ 10 → line_size (drop i text) ≡ 1
-unfolding line_size
-size_ends text i h e = rw (drop-cons text i 0 h, eq-eqb _ _ e)
+-- the first line's size: one more than what stands before its end, or all where there is none
+found_more :
+    (b : Bool) (size at most : ℕ) → (at < most → size ≡ at + 1) → cond (not b) (1 + at) 0 < suc most
+    → cond b 1 (suc size) ≡ cond (not b) (1 + at) 0 + 1
+found_more true size at most f h = refl
+found_more false size at most f h = let one : size ≡ at + 1 = f (omega arith) in omega arith
 
-pub size_more :
-    (text : List ℕ) (i : ℕ) → i < length text → (get_or text i 0 ≡ 10 → ⊥)
-    → line_size (drop i text) ≡ suc (line_size (drop (i + 1) text))
-unfolding line_size
-size_more text i h e = rw (drop-cons text i 0 h, ne_eqb _ _ e, add-one i)
+all_more :
+    (b : Bool) (size at most : ℕ) → (most ≤ at → size ≡ most) → suc most ≤ cond (not b) (1 + at) 0
+    → cond b 1 (suc size) ≡ suc most
+all_more true size at most f h = absurd (omega arith)
+all_more false size at most f h = let one : size ≡ most = f (omega arith) in omega arith
 
-pub size_none : line_size [] ≡ 0
+-- a character that ends a line
+abbrev pub is_end : ℕ → Bool
+is_end c = eqb c 10
+
+size_found :
+    (text : List ℕ) → position_or_len is_end text < length text → line_size text ≡ position_or_len is_end text + 1
 unfolding line_size
-size_none = refl
+size_found [] h = absurd (omega arith)
+size_found (c ∷ rest) h =
+    found_more (eqb c 10) (line_size rest) (position_or_len is_end rest) (length rest) (size_found rest) h
+
+size_all : (text : List ℕ) → length text ≤ position_or_len is_end text → line_size text ≡ length text
+unfolding line_size
+size_all [] h = refl
+size_all (c ∷ rest) h =
+    all_more (eqb c 10) (line_size rest) (position_or_len is_end rest) (length rest) (size_all rest) h
+
+pub size_by_end : (text : List ℕ) → option_map_or (λ at. at + 1) (position is_end text) (length text) ≡ line_size text
+size_by_end text = by (ltb (position_or_len is_end text) (length text)) refl
+  where
+    by : (b : Bool) → ltb (position_or_len is_end text) (length text) ≡ b
+        → option_map_or (λ at. at + 1) (cond b (Some (position_or_len is_end text)) None) (length text) ≡ line_size text
+    by true e = sym (size_found text (ltb-true _ _ e))
+    by false e = sym (size_all text (ltb-false _ _ e))
 
 -- a text that is not empty is its first line, and the lines after it
 one_more :
@@ -80,28 +104,26 @@ unfolding without_last
 none_off last [] h = sym (kept (eqb 0 last))
 none_off last (b ∷ bytes) h = absurd (omega arith)
 
-pub last_off :
-    (last : ℕ) (bytes : List ℕ) → get_or bytes (length bytes - 1) 0 ≡ last
-    → take (length bytes - 1) bytes ≡ without_last last bytes
+pub last_off : (last : ℕ) (less : List ℕ) → less ≡ without_last last (less ++ (last ∷ []))
 unfolding without_last
-last_off last bytes e = rw (eq-eqb _ _ e)
+last_off last less =
+    let size : length (less ++ (last ∷ [])) - 1 ≡ length less = omega (arith, length-append less (last ∷ [])) in
+    rw (
+      get_or_at less last [] 0 (length (less ++ (last ∷ [])) - 1) (sym size),
+      eq-eqb last last refl,
+      take_at less (last ∷ []) (length (less ++ (last ∷ [])) - 1) (sym size),
+    )
 
-pub last_stays :
+pub stays :
     (last : ℕ) (bytes : List ℕ) → (get_or bytes (length bytes - 1) 0 ≡ last → ⊥) → bytes ≡ without_last last bytes
 unfolding without_last
-last_stays last bytes e = rw (ne_eqb _ _ e)
+stays last bytes e = rw (ne_eqb _ _ e)
 
--- a part to the end of a slice
-pub to_end :
-    (bytes : List ℕ) (size : ℕ) → size ≤ length bytes → take (length bytes - size) (drop size bytes) ≡ drop size bytes
-to_end bytes size h =
-    let same = length-drop size bytes in
-    take_all (length bytes - size) (drop size bytes) (omega (arith, same))
-
--- what is left after the first line is shorter
-pub rest_less :
-    (rest : List ℕ) (size : ℕ) → 0 < length rest → size ≡ line_size rest
-    → length (take (length rest - size) (drop size rest)) < length rest
-rest_less rest size more is =
-    let within : size ≤ length rest = rw is (size_within rest) in
-    rw (to_end rest size within, length-drop size rest) (omega (arith, is, size_some rest more, within))
+pub last_stays :
+    (last end : ℕ) (less bytes : List ℕ) → bytes ≡ less ++ (end ∷ []) → (end ≡ last → ⊥)
+    → bytes ≡ without_last last bytes
+last_stays last end less bytes is ne =
+    let size : length bytes - 1 ≡ length less = omega (arith, ap length is, length-append less (end ∷ [])) in
+    let found : get_or bytes (length bytes - 1) 0 ≡ end =
+    ap (λ (l : List ℕ). get_or l (length bytes - 1) 0) is ∙ get_or_at less end [] 0 (length bytes - 1) (sym size) in
+    stays last bytes (λ e. ne (sym found ∙ e))

@@ -3,35 +3,46 @@ use Prim.Native.Nat.{ℕ, zero, suc, ◌+◌, ◌-◌, ◌*◌, ◌/◌, ◌%◌
 use native.Mathlib.Omega.{arith}
 use native.Mathlib.Nat.{div-add-mod'}
 use mathlib.Core.Path.{◌≡◌, refl, sym, ap, ◌∙◌}
-use mathlib.Core.Bool.{true, false}
+use mathlib.Core.Bool.{Bool, true, false}
 use mathlib.Core.List.{List, [], ◌∷◌, ◌++◌, append_assoc}
-use lib.Dec.{eqb, eqb→eq}
+use lib.Dec.{T, eqb, eqb→eq}
 use lib.ListN.{length, get_or, length-append}
-use lib.Seq.{take_at, get_or_at, take-append_seam}
+use lib.Seq.{take-append_seam}
 use borrow.Author.Tests.{eq-eqb, ne_eqb}
+use Rattle.std.specs.Prelude.{Option, None, Some}
+use Rattle.std.proofs.lemmas.Option.{none-some}
 use Rattle.isa.specs.RoundTrip.{Bytes}
 use Rattle.isa.proofs.Finite.{at}
 use Rattle.intel_hex.specs.Digits.{are_digits, bytes_of, digit_of, total}
 use Rattle.intel_hex.specs.Lines.{lines_of, content_of, without_last}
-use Rattle.intel_hex.specs.Place.{goes, placed}
+use Rattle.intel_hex.specs.Place.{Memory, goes, placed}
 use Rattle.intel_hex.specs.Take.{after_digits, after_line, after_record}
 use Rattle.intel_hex.specs.Write.{checksum_of, data_for, digits_for, glyph, line_for}
-use Rattle.intel_hex.proofs.LineLaws.{last_off, last_stays}
+use Rattle.intel_hex.proofs.LineLaws.{last_off, stays}
 use Rattle.intel_hex.proofs.StepLaws.{colon}
 
 -- a digit is read as itself
-pub digit_back : (d : ℕ) → d < 16 → digit_of (glyph d) ≡ d
-unfolding digit_of glyph
-digit_back d h = eqb→eq (digit_of (glyph d)) d (at (λ k. eqb (digit_of (glyph k)) k) 16 tt d h)
+is_value : Option ℕ → (d : ℕ) → Bool
+is_value None d = false
+is_value (Some v) d = eqb v d
+
+value_is : (o : Option ℕ) (d : ℕ) → T (is_value o d) → o ≡ Some d
+unfolding is_value
+value_is None d h = absurd h
+value_is (Some v) d h = ap Some (eqb→eq v d h)
+
+pub digit_back : (d : ℕ) → d < 16 → digit_of (glyph d) ≡ Some d
+unfolding digit_of glyph is_value
+digit_back d h = value_is (digit_of (glyph d)) d (at (λ k. is_value (digit_of (glyph k)) k) 16 tt d h)
 
 -- no digit ends a line, nor is it a 0Dh
 pub no_end : (d : ℕ) → d < 16 → glyph d ≡ 10 → ⊥
 unfolding digit_of
-no_end d h e = omega (arith, h, sym (digit_back d h) ∙ ap digit_of e)
+no_end d h e = none-some d (sym (sym (digit_back d h) ∙ ap digit_of e))
 
 pub no_return : (d : ℕ) → d < 16 → glyph d ≡ 13 → ⊥
 unfolding digit_of
-no_return d h e = omega (arith, h, sym (digit_back d h) ∙ ap digit_of e)
+no_return d h e = none-some d (sym (sym (digit_back d h) ∙ ap digit_of e))
 
 module _ (b : ℕ) (byte : b < 256) where
   high : b / 16 < 16
@@ -53,18 +64,10 @@ bytes_back (b ∷ bytes) h =
     )
 
 pub digits_are : (bytes : List ℕ) → Bytes bytes → are_digits (digits_for bytes) ≡ true
-unfolding are_digits digits_for
+unfolding digits_for
 digits_are [] h = refl
 digits_are (b ∷ bytes) h =
-    let first : b / 16 < 16 = high b (h 0) in
-    let second : b % 16 < 16 = low b (h 0) in
-    rw (
-      digit_back (b / 16) first,
-      ne_eqb (b / 16) 16 (λ e. omega arith),
-      digit_back (b % 16) second,
-      ne_eqb (b % 16) 16 (λ e. omega arith),
-    )
-    (digits_are bytes (λ j. h (suc j)))
+    rw (digit_back (b / 16) (high b (h 0)), digit_back (b % 16) (low b (h 0))) (digits_are bytes (λ j. h (suc j)))
 
 pub digits_length : (bytes : List ℕ) → length (digits_for bytes) ≡ length bytes * 2
 unfolding digits_for
@@ -104,17 +107,12 @@ no_return_after_colon bytes h (suc j) e = no_returns bytes h j e
 
 -- what is left without the 0Ah
 cut : (line : List ℕ) → without_last 10 (line ++ (10 ∷ [])) ≡ line
-cut line =
-    let size : length (line ++ (10 ∷ [])) - 1 ≡ length line = omega (arith, length-append line (10 ∷ [])) in
-    let ends : get_or (line ++ (10 ∷ [])) (length (line ++ (10 ∷ [])) - 1) 0 ≡ 10 =
-    get_or_at line 10 [] 0 (length (line ++ (10 ∷ [])) - 1) (sym size) in
-    sym (last_off 10 (line ++ (10 ∷ [])) ends)
-    ∙ take_at line (10 ∷ []) (length (line ++ (10 ∷ [])) - 1) (sym size)
+cut line = sym (last_off 10 line)
 
 pub content : (bytes : List ℕ) → Bytes bytes → content_of (58 ∷ (digits_for bytes ++ (10 ∷ []))) ≡ 58 ∷ digits_for bytes
 content bytes h =
     ap (without_last 13) (cut (58 ∷ digits_for bytes))
-    ∙ sym (last_stays 13 (58 ∷ digits_for bytes) (no_return_after_colon bytes h (length (58 ∷ digits_for bytes) - 1)))
+    ∙ sym (stays 13 (58 ∷ digits_for bytes) (no_return_after_colon bytes h (length (58 ∷ digits_for bytes) - 1)))
 
 -- the sum with the checksum
 total_append : (bytes : List ℕ) (last : ℕ) → total (bytes ++ (last ∷ [])) ≡ total bytes + last
@@ -136,7 +134,7 @@ with_checksum bytes h = by bytes (checksum_of bytes) h (omega arith)
 
 -- a record that is written passes the tests
 pub record_back :
-    (first : ℕ) (memory bytes : List ℕ) → Bytes bytes → length bytes ≡ 5 + get_or bytes 0 0 → total bytes % 256 ≡ 0
+    (first : ℕ) (memory : Memory) (bytes : List ℕ) → Bytes bytes → length bytes ≡ 5 + get_or bytes 0 0 → total bytes % 256 ≡ 0
     → after_line first false memory (58 ∷ digits_for bytes) ≡ after_record first memory bytes
 unfolding after_digits
 record_back first memory bytes h n e =
@@ -163,7 +161,7 @@ data_bytes address bytes h n a =
 
 -- a data record, and the end record
 pub data_back :
-    (first : ℕ) (memory : List ℕ) (address : ℕ) (bytes : List ℕ) → Bytes bytes → length bytes < 256 → address < 65536
+    (first : ℕ) (memory : Memory) (address : ℕ) (bytes : List ℕ) → Bytes bytes → length bytes < 256 → address < 65536
     → after_line first false memory (58 ∷ digits_for (data_for address bytes ++ (checksum_of (data_for address bytes) ∷ [])))
     ≡ placed first address memory bytes
 unfolding after_record
@@ -174,10 +172,10 @@ data_back first memory address bytes h n a =
     ∙ rw (div-add-mod' address 256, take-append_seam bytes (checksum_of (data_for address bytes) ∷ []))
 
 pub end_back :
-    (first : ℕ) (memory : List ℕ)
+    (first : ℕ) (memory : Memory)
     → after_line first false memory (58 ∷ digits_for ((0 ∷ 0 ∷ 0 ∷ 1 ∷ []) ++ (checksum_of (0 ∷ 0 ∷ 0 ∷ 1 ∷ []) ∷ [])))
     ≡ goes true memory
-unfolding after_line after_digits after_record are_digits bytes_of digit_of digits_for glyph total
+unfolding after_line after_digits after_record bytes_of digit_of digits_for glyph total
 end_back first memory = refl
 
 -- the line of a record, with what follows it

@@ -8,9 +8,11 @@ use lib.ListN.{length, take, drop, replicate, length-append, length-drop}
 use lib.ListN.{take-append-drop, replicate-append-replicate}
 use lib.Seq.{get_or-append_seam, set-append_seam, length-take-le, get_or-drop}
 use borrow.Author.Tests.{le-leb, lt-ltb}
+use Rattle.std.specs.Prelude.{Option, None, Some, map}
+use Rattle.std.proofs.lemmas.List.{map-append, length-map}
 use Rattle.isa.specs.RoundTrip.{Bytes}
 use Rattle.intel_hex.specs.Lines.{lines_of}
-use Rattle.intel_hex.specs.Place.{goes, placed}
+use Rattle.intel_hex.specs.Place.{Memory, goes, placed}
 use Rattle.intel_hex.specs.Take.{after_line}
 use Rattle.intel_hex.specs.Read.{whole, after_lines}
 use Rattle.intel_hex.specs.Write.{checksum_of, data_for, digits_for, line_for, rows_for}
@@ -18,29 +20,34 @@ use Rattle.intel_hex.proofs.ReadLaws.{line_read, text_ends}
 use Rattle.intel_hex.proofs.WrittenLine.{content, with_checksum, data_bytes, data_back, end_back, line_back}
 
 -- so many cells that are not named
-abbrev pub unnamed : ℕ → List ℕ
-unnamed n = replicate n 256
+abbrev pub unnamed : ℕ → Memory
+unnamed n = replicate n None
+
+-- .. and cells that are named with bytes
+abbrev pub named : List ℕ → Memory
+named bytes = map Some bytes
 
 -- bytes placed where nothing is named
 pub placed_fresh :
-    (first : ℕ) (front bytes back : List ℕ) → first ≤ length front → length front + length bytes ≤ 4096
+    (first : ℕ) (front : Memory) (bytes : List ℕ) (back : Memory) → first ≤ length front
+    → length front + length bytes ≤ 4096
     → placed first (length front) (front ++ (unnamed (length bytes) ++ back)) bytes
-    ≡ goes false (front ++ (bytes ++ back))
+    ≡ goes false (front ++ (named bytes ++ back))
 unfolding placed
 placed_fresh first front [] back h k = refl
 placed_fresh first front (b ∷ bytes) back h k =
-    let next : length (front ++ (b ∷ [])) ≡ suc (length front) = omega (arith, length-append front (b ∷ [])) in
-    let again = placed_fresh first (front ++ (b ∷ [])) bytes back (omega arith) (omega arith) in
+    let next : length (front ++ (Some b ∷ [])) ≡ suc (length front) = omega (arith, length-append front (Some b ∷ [])) in
+    let again = placed_fresh first (front ++ (Some b ∷ [])) bytes back (omega arith) (omega arith) in
     rw (
       le-leb first (length front) h,
       lt-ltb (length front) 4096 (omega arith),
-      get_or-append_seam front 256 (unnamed (length bytes) ++ back) 0,
-      set-append_seam front 256 (unnamed (length bytes) ++ back) b,
+      get_or-append_seam front None (unnamed (length bytes) ++ back) None,
+      set-append_seam front None (unnamed (length bytes) ++ back) (Some b),
     )
     (rw (
       next,
-      append_assoc front (b ∷ []) (unnamed (length bytes) ++ back),
-      append_assoc front (b ∷ []) (bytes ++ back),
+      append_assoc front (Some b ∷ []) (unnamed (length bytes) ++ back),
+      append_assoc front (Some b ∷ []) (named bytes ++ back),
     ) at again)
 
 -- parts of bytes are bytes
@@ -65,7 +72,7 @@ end_bytes_lem (suc (suc (suc zero))) = omega arith
 end_bytes_lem (suc (suc (suc (suc j)))) = omega arith
 
 end_read :
-    (first number : ℕ) (memory : List ℕ)
+    (first number : ℕ) (memory : Memory)
     → after_lines first false number memory (lines_of (line_for end_bytes)) ≡ whole memory
 end_read first number memory =
     let full = end_bytes ++ (checksum_of end_bytes ∷ []) in
@@ -79,11 +86,11 @@ end_read first number memory =
 
 -- one row, before lines that follow it
 row_read :
-    (first number : ℕ) (front row back rest : List ℕ) → Bytes row → length row < 256 → first ≤ length front
+    (first number : ℕ) (front : Memory) (row : List ℕ) (back : Memory) (rest : List ℕ) → Bytes row → length row < 256 → first ≤ length front
     → length front + length row ≤ 4096
     → after_lines first false number (front ++ (unnamed (length row) ++ back))
     (lines_of (line_for (data_for (length front) row) ++ rest))
-    ≡ after_lines first false (suc number) (front ++ (row ++ back)) (lines_of rest)
+    ≡ after_lines first false (suc number) (front ++ (named row ++ back)) (lines_of rest)
 row_read first number front row back rest h n f s =
     let address = length front in
     let small : address < 65536 = omega arith in
@@ -92,18 +99,18 @@ row_read first number front row back rest h n f s =
     let line : List ℕ = 58 ∷ (digits_for full ++ (10 ∷ [])) in
     let memory = front ++ (unnamed (length row) ++ back) in
     ap (λ (l : List (List ℕ)). after_lines first false number memory l) (line_back (data_for address row) rest header)
-    ∙ line_read first false number memory line (lines_of rest) false (front ++ (row ++ back))
+    ∙ line_read first false number memory line (lines_of rest) false (front ++ (named row ++ back))
     (ap (λ (l : List ℕ). after_line first false memory l) (content full (with_checksum (data_for address row) header))
     ∙ data_back first memory address row h n small
     ∙ placed_fresh first front row back f s)
 
 -- all rows, then the end record
 pub rows_read :
-    (rows first number : ℕ) (front bytes : List ℕ) → Bytes bytes → length bytes ≡ rows * 16 → first ≤ length front
+    (rows first number : ℕ) (front : Memory) (bytes : List ℕ) → Bytes bytes → length bytes ≡ rows * 16 → first ≤ length front
     → length front + length bytes ≤ 4096
     → after_lines first false number (front ++ unnamed (length bytes))
     (lines_of (rows_for rows (length front) bytes ++ line_for end_bytes))
-    ≡ whole (front ++ bytes)
+    ≡ whole (front ++ named bytes)
 unfolding rows_for
 rows_read zero first number front [] h n f s = end_read first number (front ++ [])
 rows_read zero first number front (b ∷ bytes) h n f s = absurd (omega arith)
@@ -114,13 +121,16 @@ rows_read (suc rows) first number front bytes h n f s =
     let left : length more ≡ rows * 16 = omega (arith, length-drop 16 bytes) in
     let size : length row + length more ≡ length bytes = omega arith in
     let cells : unnamed (length bytes) ≡ unnamed (length row) ++ unnamed (length more) =
-    sym (replicate-append-replicate {A = ℕ} (length row) (length more) 256 ∙ ap unnamed size) in
-    let next : length (front ++ row) ≡ length front + 16 = omega (arith, length-append front row) in
+    sym (replicate-append-replicate {A = Option ℕ} (length row) (length more) None ∙ ap unnamed size) in
+    let next : length (front ++ named row) ≡ length front + 16 =
+    omega (arith, length-append front (named row), length-map {B = Option ℕ} row) in
+    let both : named bytes ≡ named row ++ named more =
+    sym (sym (map-append (λ b. Some b) row more) ∙ ap named (take-append-drop 16 bytes)) in
     let again =
-    rows_read rows first (suc number) (front ++ row) more (bytes_drop 16 bytes h) left (omega arith) (omega arith) in
+    rows_read rows first (suc number) (front ++ named row) more (bytes_drop 16 bytes h) left (omega arith) (omega arith) in
     let rest = rows_for rows (length front + 16) more in
     let cells-more = unnamed (length more) in
     rw (cells, append_assoc (line_for (data_for (length front) row)) rest (line_for end_bytes))
     (row_read first number front row cells-more (rest ++ line_for end_bytes) (bytes_take 16 bytes h) (omega arith) f
     (omega arith)
-    ∙ (rw (next, append_assoc front row cells-more, append_assoc front row more, take-append-drop 16 bytes) at again))
+    ∙ (rw (next, append_assoc front (named row) cells-more, append_assoc front (named row) (named more), ← both) at again))

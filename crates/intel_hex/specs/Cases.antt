@@ -1,5 +1,5 @@
 -- Cases from outside: the check value that the CRC-32 is known by, and a line that is a common example of the format.
-use Rattle.std.specs.Prelude.{ℕ, ◌≡◌, false, List, [], ◌∷◌, ◌++◌, replicate}
+use Rattle.std.specs.Prelude.{ℕ, ◌≡◌, false, List, [], ◌∷◌, ◌++◌, replicate, map, None, Some}
 use Rattle.intel_hex.specs.Crc.{crc_of}
 use Rattle.intel_hex.specs.Place.{goes}
 use Rattle.intel_hex.specs.Take.{after_line}
@@ -19,7 +19,7 @@ example_line =
 -- proved by example_is_placed, proofs/Cases
 abbrev pub ExampleIsPlaced : Type 0
 ExampleIsPlaced =
-    after_line 0 false (replicate 32 256) example_line
+    after_line 0 false (replicate 32 None) example_line
     ≡ goes false
-    (replicate 16 256
-    ++ (97 ∷ 100 ∷ 100 ∷ 114 ∷ 101 ∷ 115 ∷ 115 ∷ 32 ∷ 103 ∷ 97 ∷ 112 ∷ 256 ∷ 256 ∷ 256 ∷ 256 ∷ 256 ∷ []))
+    (replicate 16 None
+    ++ (map Some (97 ∷ 100 ∷ 100 ∷ 114 ∷ 101 ∷ 115 ∷ 115 ∷ 32 ∷ 103 ∷ 97 ∷ 112 ∷ []) ++ replicate 5 None))

@@ -1,6 +1,6 @@
 -- The CRC-32 of bytes: the polynomial EDB88320h with the lowest bit first; the register starts as FFFFFFFFh, and is
 -- inverted at the end.
-use Rattle.std.specs.Prelude.{ℕ, zero, suc, ◌/◌, ◌%◌, cond, List, [], ◌∷◌, eqb}
+use Rattle.std.specs.Prelude.{ℕ, zero, suc, ◌/◌, ◌%◌, cond, List, eqb, fold}
 use Rattle.std.specs.Int.Bits.{bit_xor}
 
 -- one bit: the register is halved, and takes the polynomial where a 1 falls out
@@ -15,9 +15,8 @@ after_bits (suc n) r = after_bits n (after_bit r)
 abbrev pub after_byte : (register byte : ℕ) → ℕ
 after_byte r byte = after_bits 8 (bit_xor r byte)
 
-unfoldable pub after_bytes : (register : ℕ) → (bytes : List ℕ) → ℕ
-after_bytes r [] = r
-after_bytes r (byte ∷ bytes) = after_bytes (after_byte r byte) bytes
+abbrev pub after_bytes : (register : ℕ) → (bytes : List ℕ) → ℕ
+after_bytes = fold after_byte
 
 -- the CRC-32
 unfoldable pub crc_of : (bytes : List ℕ) → ℕ

@@ -1,22 +1,17 @@
 -- The image made of what was named.
-use Rattle.std.specs.Prelude.{ℕ, zero, suc, cond, List, [], ◌∷◌, ltb, get_or}
+use Rattle.std.specs.Prelude.{ℕ, zero, suc, List, [], ◌∷◌, get_or, Option, None, is_some, unwrap_or, position}
+use Rattle.intel_hex.specs.Place.{Memory}
 
 -- the byte of a cell: every one that the file does not name is `fill`
-unfoldable pub value_of : (fill cell : ℕ) → ℕ
-value_of fill cell = cond (ltb cell 256) cell fill
+abbrev pub value_of : (fill : ℕ) → (cell : Option ℕ) → ℕ
+value_of fill cell = unwrap_or cell fill
 
 -- the bytes of so many addresses, from an address on
-unfoldable pub filled : (fill : ℕ) → (memory : List ℕ) → (address size : ℕ) → List ℕ
+unfoldable pub filled : (fill : ℕ) → (memory : Memory) → (address size : ℕ) → List ℕ
 filled fill memory address zero = []
 filled fill memory address (suc size) =
-    value_of fill (get_or memory address 0) ∷ filled fill memory (suc address) size
-
--- the first address that is named, of so many from an address on; the address after them if none is
-unfoldable pub lowest_from : (memory : List ℕ) → (address size : ℕ) → ℕ
-lowest_from memory address zero = address
-lowest_from memory address (suc size) =
-    cond (ltb (get_or memory address 0) 256) address (lowest_from memory (suc address) size)
+    value_of fill (get_or memory address None) ∷ filled fill memory (suc address) size
 
 -- the lowest address that is named, 4096 if none is
-abbrev pub lowest_in : (memory : List ℕ) → ℕ
-lowest_in memory = lowest_from memory 0 4096
+abbrev pub lowest_in : (memory : Memory) → ℕ
+lowest_in memory = unwrap_or (position is_some memory) 4096

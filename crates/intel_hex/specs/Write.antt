@@ -1,8 +1,7 @@
 -- An image written as HEX, and the claim that it is read again.
-use Rattle.std.specs.Prelude.{ℕ, zero, suc, ◌+◌, ◌-◌, ◌/◌, ◌%◌, ◌≡◌, true, cond, List, [], ◌∷◌, ◌++◌, ltb, length, take, drop}
+use Rattle.std.specs.Prelude.{ℕ, zero, suc, ◌+◌, ◌-◌, ◌/◌, ◌%◌, ◌≡◌, true, cond, List, [], ◌∷◌, ◌++◌, ltb, length, take, drop, Ok}
 use Rattle.isa.specs.Rom.{is_space}
 use Rattle.isa.specs.RoundTrip.{Bytes}
-use Rattle.intel_hex.specs.declared.HexAnswer.TheVariants.{Read}
 use Rattle.intel_hex.specs.Digits.{total}
 use Rattle.intel_hex.specs.Read.{first_of, outcome_of, answer_of, image_after}
 
@@ -44,7 +43,7 @@ hex_of image =
 pub record WrittenIsRead : Type 0 where
   pub answer :
       (image : List ℕ) → Bytes image → is_space (length image) ≡ true
-      → answer_of (outcome_of (hex_of image) (length image)) ≡ Read (first_of (length image))
+      → answer_of (outcome_of (hex_of image) (length image)) ≡ Ok (first_of (length image))
   pub image :
       (image lent : List ℕ) (fill : ℕ) → Bytes image → is_space (length image) ≡ true → length lent ≡ length image
       → image_after fill lent (outcome_of (hex_of image) (length lent)) ≡ image

@@ -1,88 +1,81 @@
 // A line taken: tried as the format says, and what it names put to its place.
-ghost use Rattle.std.specs.Prelude.{ℕ, ◌+◌, ◌*◌, ◌≡◌, List, length};
-ghost use Rattle.intel_hex.specs.Digits.{byte_at, bytes_of};
+ghost use Rattle.std.specs.Prelude.{ℕ, ◌≡◌, List, Option};
+ghost use Rattle.intel_hex.specs.Digits.{bytes_of};
 ghost use Rattle.intel_hex.specs.Take.{after_base, after_digits, after_line, after_record, step_of};
 
 use crate::Fault;
-use crate::digits::{byte_in, is_digits, sum_of};
-use crate::place::{Taken, place_data};
+use crate::digits::is_digits;
+use crate::place::place_data;
+use crate::record::{Record, byte_in};
 
 // A base of 0 changes nothing; any other is refused.
-fn take_base(digits: &[u8], count: usize) -> Taken
-    requires { (length digits.now ≡ 10 + count * 2) × (count ≡ byte_at digits.now 0) }
-    ensures { (memory : List ℕ) → step_of result memory ≡ after_base memory (bytes_of digits.now) }
+#[tactic(auto, unfolding(crate::specs::Take::after_base))]
+fn take_base(record: Record) -> Result<bool, Fault>
+    ensures { (memory : List (Option ℕ)) → step_of result memory ≡ after_base memory (bytes_of record.entry.digits.now) }
 {
-    if count != 2 {
-        return Taken::Faulty(Fault::WrongLength);
+    if record.count() != 2 {
+        return Err(Fault::WrongLength);
     }
-    if byte_in(digits, 4) != 0 {
-        return Taken::Faulty(Fault::NonZeroBase);
+    if record.byte(4) != 0 || record.byte(5) != 0 {
+        return Err(Fault::NonZeroBase);
     }
-    if byte_in(digits, 5) != 0 {
-        return Taken::Faulty(Fault::NonZeroBase);
-    }
-    Taken::On(false)
+    Ok(false)
 }
 
 // A record by its type.
-fn take_record(digits: &[u8], count: usize, first: usize, memory: &mut [u16; 4096]) -> Taken
-    requires { (length digits.now ≡ 10 + count * 2) × (count ≡ byte_at digits.now 0) }
+#[tactic(auto, unfolding(crate::specs::Take::after_record))]
+fn take_record(record: Record, first: usize, memory: &mut [Option<u8>; 4096]) -> Result<bool, Fault>
     ensures { step_of result memory.new
-        ≡ after_record first memory.old (bytes_of digits.now) }
+        ≡ after_record first memory.old (bytes_of record.entry.digits.now) }
 {
-    let kind = byte_in(digits, 3);
-    if kind == 0 {
-        return place_data(digits, count, first, memory);
+    match record.byte(3) {
+        0 => place_data(record, first, memory),
+        1 if record.count() != 0 => Err(Fault::WrongLength),
+        1 => Ok(true),
+        2 | 4 => take_base(record),
+        _ => Err(Fault::UnknownType),
     }
-    if kind == 1 {
-        if count != 0 {
-            return Taken::Faulty(Fault::WrongLength);
-        }
-        return Taken::On(true);
-    }
-    if kind == 2 {
-        return take_base(digits, count);
-    }
-    if kind == 4 {
-        return take_base(digits, count);
-    }
-    Taken::Faulty(Fault::UnknownType)
 }
 
 // What stands after the colon: digits, of the length that the count says, with a sum of 0.
-fn take_digits(digits: &[u8], first: usize, memory: &mut [u16; 4096]) -> Taken
+#[tactic(auto, unfolding(crate::specs::Take::after_digits))]
+fn take_digits(digits: &[u8], first: usize, memory: &mut [Option<u8>; 4096]) -> Result<bool, Fault>
     ensures { step_of result memory.new
         ≡ after_digits first memory.old digits.now }
 {
     if !is_digits(digits) {
-        return Taken::Faulty(Fault::BadDigit);
+        return Err(Fault::BadDigit);
     }
-    if digits.len() < 10 {
-        return Taken::Faulty(Fault::WrongLength);
+    if digits.len() < 10 || digits.len() != 10 + usize::from(byte_in(digits, 0)) * 2 {
+        return Err(Fault::WrongLength);
     }
-    let count = byte_in(digits, 0);
-    if digits.len() != 10 + count * 2 {
-        return Taken::Faulty(Fault::WrongLength);
+    let record = Record { digits };
+    if record.sum() % 256 != 0 {
+        return Err(Fault::BadChecksum);
     }
-    if sum_of(digits, count + 5) % 256 != 0 {
-        return Taken::Faulty(Fault::BadChecksum);
-    }
-    take_record(digits, count, first, memory)
+    take_record(record, first, memory)
 }
 
-// A line without its ending. An empty one is passed over, also after the end record.
-pub fn take_line(line: &[u8], ended: bool, first: usize, memory: &mut [u16; 4096]) -> Taken
+// A line without its ending. An empty one is passed over, also after the end record. Answers whether the end record was
+// read.
+#[tactic(auto, unfolding(crate::specs::Take::after_line))]
+pub fn take_line(
+    line: &[u8],
+    ended: bool,
+    first: usize,
+    memory: &mut [Option<u8>; 4096],
+) -> Result<bool, Fault>
     ensures { step_of result memory.new
         ≡ after_line first ended memory.old line.now }
 {
-    if line.len() == 0 {
-        return Taken::On(ended);
-    }
+    let Some((colon, digits)) = line.split_first() else {
+        return Ok(ended);
+    };
     if ended {
-        return Taken::Faulty(Fault::AfterEnd);
+        return Err(Fault::AfterEnd);
     }
-    if line[0] != b':' {
-        return Taken::Faulty(Fault::NoColon);
+    if *colon != b':' {
+        return Err(Fault::NoColon);
     }
-    take_digits(&line[1..], first, memory)
+    take_digits(digits, first, memory)
 }

@@ -14,10 +14,7 @@ use Rattle.isa.specs.Table.{bytes_of}
 use Rattle.isa.specs.Map.{entry_of, form_of}
 use Rattle.isa.specs.Refusals.{Numbered, plain, located, Answer, done, refused}
 use Rattle.isa.specs.declared.Instruction.{Instruction}
-use Rattle.isa.specs.declared.Form.{Form}
-use Rattle.isa.specs.declared.Form.TheVariants.{Is, Undefined}
-use Rattle.isa.specs.declared.rom.RomByte.{RomByte}
-use Rattle.isa.specs.declared.rom.RomByte.TheVariants.{Byte, Outside}
+use Rattle.std.specs.Prelude.{Option, Some, None}
 
 -- 4 or 5 with the address, where decoding refuses
 abbrev pub AtAddress : ℕ → Answer Decoding → Type 0
@@ -28,21 +25,21 @@ AtAddress a (refused r) = (r ≡ located 4 a) ⊎ (r ≡ located 5 a)
 pub defined : {i : Instruction} {n c : ℕ} {r : Numbered} → done (decode.instruction i n c) ≡ refused r → ⊥
 defined e = let z : ◌≡◌ {A = ℕ} 0 1 = cc in omega arith
 
-at_form : (a opcode : ℕ) (f : Form) → AtAddress a (with_form a opcode f)
-at_form a opcode (Is i) = tt
-at_form a opcode Undefined = inr refl
+at_form : (a opcode : ℕ) (f : Option Instruction) → AtAddress a (with_form a opcode f)
+at_form a opcode (Some i) = tt
+at_form a opcode None = inr refl
 
-at_second : (a opcode first : ℕ) (b : RomByte) → AtAddress a (with_second a opcode first b)
-at_second a opcode first (Byte second) = at_form a opcode (form_of opcode first second)
-at_second a opcode first Outside = inl refl
+at_second : (a opcode first : ℕ) (b : Option ℕ) → AtAddress a (with_second a opcode first b)
+at_second a opcode first (Some second) = at_form a opcode (form_of opcode first second)
+at_second a opcode first None = inl refl
 
-at_first : (image : List ℕ) (a opcode : ℕ) (b : RomByte) → AtAddress a (with_first image a opcode b)
-at_first image a opcode (Byte first) = at_second a opcode first (operand_at image a 2 (bytes_of (entry_of opcode)))
-at_first image a opcode Outside = inl refl
+at_first : (image : List ℕ) (a opcode : ℕ) (b : Option ℕ) → AtAddress a (with_first image a opcode b)
+at_first image a opcode (Some first) = at_second a opcode first (operand_at image a 2 (bytes_of (entry_of opcode)))
+at_first image a opcode None = inl refl
 
-at_opcode : (image : List ℕ) (a : ℕ) (b : RomByte) → AtAddress a (with_opcode image a b)
-at_opcode image a (Byte opcode) = at_first image a opcode (operand_at image a 1 (bytes_of (entry_of opcode)))
-at_opcode image a Outside = inl refl
+at_opcode : (image : List ℕ) (a : ℕ) (b : Option ℕ) → AtAddress a (with_opcode image a b)
+at_opcode image a (Some opcode) = at_first image a opcode (operand_at image a 1 (bytes_of (entry_of opcode)))
+at_opcode image a None = inl refl
 
 pub at_address : (image : List ℕ) (a : ℕ) → is_space (length image) ≡ true → a < 4096 → AtAddress a (decode_at image a)
 unfolding decode_at

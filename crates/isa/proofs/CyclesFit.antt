@@ -5,11 +5,8 @@ use mathlib.Core.Bool.{true}
 use mathlib.Core.List.{List}
 use lib.Dec.{ltb}
 use borrow.Author.Tests.{ltb-true}
-use Rattle.isa.specs.declared.Form.{Form}
-use Rattle.isa.specs.declared.Form.TheVariants.{Is, Undefined}
+use Rattle.std.specs.Prelude.{Option, Some, None}
 use Rattle.isa.specs.declared.Instruction.{Instruction}
-use Rattle.isa.specs.declared.rom.RomByte.{RomByte}
-use Rattle.isa.specs.declared.rom.RomByte.TheVariants.{Byte, Outside}
 use Rattle.isa.specs.Refusals.{Answer, done, refused}
 use Rattle.isa.specs.Table.{bytes_of, cycles_of}
 use Rattle.isa.specs.Map.{Entry, JRNZ, JRNC, JRZ, JRC, CALL, JP, JRR, JRS, RES}
@@ -57,21 +54,21 @@ abbrev Fit : Answer Decoding → Type 0
 Fit (done (instruction i n cycles)) = cycles < 16
 Fit (refused r) = Unit {0}
 
-with_form_lem : (a k : ℕ) (x : Form) → Fit (with_form a k x)
-with_form_lem a k (Is i) = ltb-true (cycles_of (entry_of k)) 16 (by_entry (entry_of k))
-with_form_lem a k Undefined = tt
+with_form_lem : (a k : ℕ) (x : Option Instruction) → Fit (with_form a k x)
+with_form_lem a k (Some i) = ltb-true (cycles_of (entry_of k)) 16 (by_entry (entry_of k))
+with_form_lem a k None = tt
 
-with_second_lem : (a k f : ℕ) (r : RomByte) → Fit (with_second a k f r)
-with_second_lem a k f (Byte s) = with_form_lem a k (form_of k f s)
-with_second_lem a k f Outside = tt
+with_second_lem : (a k f : ℕ) (r : Option ℕ) → Fit (with_second a k f r)
+with_second_lem a k f (Some s) = with_form_lem a k (form_of k f s)
+with_second_lem a k f None = tt
 
-with_first_lem : (image : List ℕ) (a k : ℕ) (r : RomByte) → Fit (with_first image a k r)
-with_first_lem image a k (Byte f) = with_second_lem a k f (operand_at image a 2 (bytes_of (entry_of k)))
-with_first_lem image a k Outside = tt
+with_first_lem : (image : List ℕ) (a k : ℕ) (r : Option ℕ) → Fit (with_first image a k r)
+with_first_lem image a k (Some f) = with_second_lem a k f (operand_at image a 2 (bytes_of (entry_of k)))
+with_first_lem image a k None = tt
 
-with_opcode_lem : (image : List ℕ) (a : ℕ) (r : RomByte) → Fit (with_opcode image a r)
-with_opcode_lem image a (Byte k) = with_first_lem image a k (operand_at image a 1 (bytes_of (entry_of k)))
-with_opcode_lem image a Outside = tt
+with_opcode_lem : (image : List ℕ) (a : ℕ) (r : Option ℕ) → Fit (with_opcode image a r)
+with_opcode_lem image a (Some k) = with_first_lem image a k (operand_at image a 1 (bytes_of (entry_of k)))
+with_opcode_lem image a None = tt
 
 pub cycles_fit :
     (image : List ℕ) (a : ℕ) (i : Instruction) (n cycles : ℕ) →

@@ -2,8 +2,8 @@
 use Prim.Native.Nat.{ℕ}
 use mathlib.Core.Path.{◌≡◌, refl, sym, ◌∙◌}
 use mathlib.Core.List.{List}
-use Rattle.isa.specs.declared.Form.{Form}
-use Rattle.isa.specs.declared.Form.TheVariants.{Is, Undefined}
+use Rattle.std.specs.Prelude.{Option, Some, None}
+use Rattle.isa.specs.declared.Instruction.{Instruction}
 use Rattle.isa.specs.Table.{bytes_of}
 use Rattle.isa.specs.Map.{Addressing, rr, short, [X], [Y], Entry, JRNZ, JRNC, JRZ, JRC, CALL, JP, JRR, JRS, RES}
 use Rattle.isa.specs.Map.{SET, LD-A, LD-to, INC, DEC, ADD, SUB, AND, CP, LDI-A, LDI-rr, ADDI, SUBI, ANDI, CPI}
@@ -14,9 +14,9 @@ use Rattle.isa.proofs.AtAddress.{from_space}
 use Rattle.isa.proofs.Reading.{Read, reading}
 
 -- a form that is an instruction has the given length
-abbrev Long : ℕ → Form → Type 0
-Long n (Is i) = n ≡ length_of i
-Long n Undefined = Unit {0}
+abbrev Long : ℕ → Option Instruction → Type 0
+Long n (Some i) = n ≡ length_of i
+Long n None = Unit {0}
 
 -- on a data operand the length goes by the operand, whatever the instruction
 by_source : (source : Addressing) (k f s : ℕ) → Long (bytes_of (LD-A source)) (form_as (LD-A source) k f s)

@@ -3,7 +3,7 @@
 use Prim.Native.Nat.{ℕ}
 use mathlib.Core.Path.{◌≡◌, refl}
 use native.Mathlib.Omega.{arith}
-use Rattle.isa.specs.declared.Form.TheVariants.{Undefined}
+use Rattle.std.specs.Prelude.{None}
 use Rattle.isa.specs.Displacement.{forward_of}
 use Rattle.isa.specs.Table.{bytes_of}
 use Rattle.isa.specs.Map.{Addressing, rr, short, [X], [Y], Entry, JRNZ, JRNC, JRZ, JRC, CALL, JP, JRR, JRS, RES}
@@ -30,7 +30,7 @@ by_source (short r) h = one h
 by_source [X] h = one h
 by_source [Y] h = one h
 
-no_bytes : (e : Entry) (k f s : ℕ) → bytes_of e ≡ 0 → form_as e k f s ≡ Undefined
+no_bytes : (e : Entry) (k f s : ℕ) → bytes_of e ≡ 0 → form_as e k f s ≡ None
 unfolding bytes_of form_as
 no_bytes JRNZ k f s h = absurd (one h)
 no_bytes JRNC k f s h = absurd (one h)
@@ -101,7 +101,7 @@ some_bytes WAIT a k f s h = refl
 some_bytes # a k f s h = absurd (h refl)
 
 -- an opcode of no bytes is undefined
-pub undefined : (k f s : ℕ) → bytes_of (entry_of k) ≡ 0 → form_of k f s ≡ Undefined
+pub undefined : (k f s : ℕ) → bytes_of (entry_of k) ≡ 0 → form_of k f s ≡ None
 unfolding form_of
 undefined k f s h = no_bytes (entry_of k) k f s h
 

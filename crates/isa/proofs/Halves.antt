@@ -1,5 +1,5 @@
 -- Program space by its halves: where a byte of it stands, and what an image's page and fixed half are.
-use mathlib.Core.Path.{◌≡◌, refl, ◌∙◌, ap, subst}
+use mathlib.Core.Path.{◌≡◌, refl, sym, ◌∙◌, ap, subst}
 use mathlib.Core.Bool.{Bool, true, false, cond, ◌||◌, and-eq-true_iff}
 use mathlib.Core.List.{List, [], ◌∷◌, ◌++◌}
 use mathlib.Core.Logic.{◌⊎◌, inl, inr, ⊎_elim}
@@ -10,7 +10,8 @@ use lib.Dec.{ltb, leb, eqb}
 use lib.ListN.{length, get_or, take, drop, length-append, length-drop, get_or-append, take-append-drop}
 use lib.Seq.{get_or-append-add, length-take-le, take_all, take-take, take-add, drop_at, get_or-drop}
 use native.Mathlib.Nat.{mod-lt, mod-one, mod-mod}
-use Rattle.isa.specs.declared.rom.RomByte.TheVariants.{Byte, Outside}
+use Rattle.std.specs.Prelude.{Some, None, slice_get}
+use Rattle.std.proofs.lemmas.Option.{slice_get-get_or, slice_get_past}
 use Rattle.isa.specs.Displacement.{forward_of}
 use Rattle.isa.specs.RoundTrip.{Bytes}
 use Rattle.isa.specs.Rom.{is_space, is_image, IsImage, spaces_in, page_of, fixed_of, space_of, Halves, half_of, rom_at}
@@ -48,13 +49,13 @@ sized n e =
 
 module _ (page fixed : List ℕ) (h : Halves page fixed) where
   -- below 800h without a page, with one, and above
-  low_out : (a : ℕ) → a < 2048 → length page ≡ 0 → rom_at (page ++ fixed) a ≡ Outside
+  low_out : (a : ℕ) → a < 2048 → length page ≡ 0 → rom_at (page ++ fixed) a ≡ None
   unfolding rom_at
   low_out a b none =
       let size : length (page ++ fixed) ≡ 2048 = length-append page fixed ∙ omega (arith, h.1) in
       rw (lt-ltb a 4096 (omega arith), size, lt-leb 4096 (a + 2048) (omega arith))
 
-  low_in : (a : ℕ) → a < 2048 → length page ≡ 2048 → rom_at (page ++ fixed) a ≡ Byte (get_or page a 0)
+  low_in : (a : ℕ) → a < 2048 → length page ≡ 2048 → rom_at (page ++ fixed) a ≡ Some (get_or page a 0)
   unfolding rom_at
   low_in a b full =
       let size : length (page ++ fixed) ≡ 4096 = length-append page fixed ∙ omega (arith, h.1) in
@@ -67,7 +68,7 @@ module _ (page fixed : List ℕ) (h : Halves page fixed) where
         get_or-append page fixed 0 a (omega arith),
       )
 
-  high_in : (a : ℕ) → 2048 ≤ a → a < 4096 → rom_at (page ++ fixed) a ≡ Byte (get_or fixed (a - 2048) 0)
+  high_in : (a : ℕ) → 2048 ≤ a → a < 4096 → rom_at (page ++ fixed) a ≡ Some (get_or fixed (a - 2048) 0)
   unfolding rom_at
   high_in a b top =
       let size : length (page ++ fixed) ≡ length page + 2048 = length-append page fixed ∙ omega (arith, h.1) in
@@ -82,12 +83,12 @@ module _ (page fixed : List ℕ) (h : Halves page fixed) where
 
   -- a byte of the half in which its address lies
   pub rom_in_lem : (a : ℕ) → a < 4096 → a % 2048 < length (half_of page fixed a)
-      → rom_at (page ++ fixed) a ≡ Byte (get_or (half_of page fixed a) (a % 2048) 0)
+      → rom_at (page ++ fixed) a ≡ Some (get_or (half_of page fixed a) (a % 2048) 0)
   unfolding half_of
   rom_in_lem a top = by_half (ltb a 2048) refl
     where
       by_half : (b : Bool) → ltb a 2048 ≡ b → a % 2048 < length (cond b page fixed)
-          → rom_at (page ++ fixed) a ≡ Byte (get_or (cond b page fixed) (a % 2048) 0)
+          → rom_at (page ++ fixed) a ≡ Some (get_or (cond b page fixed) (a % 2048) 0)
       by_half true e inside =
           let low : a < 2048 = ltb-true a 2048 e in
           let at : a % 2048 ≡ a = omega arith in
@@ -98,25 +99,38 @@ module _ (page fixed : List ℕ) (h : Halves page fixed) where
           let at : a % 2048 ≡ a - 2048 = omega arith in
           rw at (high_in a high top)
 
-  pub rom_out : (a : ℕ) → a < 4096 → length (half_of page fixed a) ≤ a % 2048 → rom_at (page ++ fixed) a ≡ Outside
+  pub rom_out : (a : ℕ) → a < 4096 → length (half_of page fixed a) ≤ a % 2048 → rom_at (page ++ fixed) a ≡ None
   unfolding half_of
   rom_out a top = by_half (ltb a 2048) refl
     where
       by_half : (b : Bool) → ltb a 2048 ≡ b → length (cond b page fixed) ≤ a % 2048
-          → rom_at (page ++ fixed) a ≡ Outside
+          → rom_at (page ++ fixed) a ≡ None
       by_half true e outside =
           let low : a < 2048 = ltb-true a 2048 e in
           low_out a low (⊎_elim (λ none. none) (λ (full : length page ≡ 2048). absurd (omega arith)) h.0)
       by_half false e outside = absurd (omega (arith, h.1))
 
+  -- the byte that reading the half gives, if there is one
+  pub rom_get : (a : ℕ) → a < 4096 → slice_get (half_of page fixed a) (a % 2048) ≡ rom_at (page ++ fixed) a
+  rom_get a top = by_end (ltb (a % 2048) (length (half_of page fixed a))) refl
+    where
+      by_end : (b : Bool) → ltb (a % 2048) (length (half_of page fixed a)) ≡ b
+          → slice_get (half_of page fixed a) (a % 2048) ≡ rom_at (page ++ fixed) a
+      by_end true e =
+          let inside : a % 2048 < length (half_of page fixed a) = ltb-true _ _ e in
+          slice_get-get_or _ _ 0 inside ∙ sym (rom_in_lem a top inside)
+      by_end false e =
+          let outside : length (half_of page fixed a) ≤ a % 2048 = ltb-false _ _ e in
+          slice_get_past _ _ outside ∙ sym (rom_out a top outside)
+
   -- the bytes that follow in the same half
   pub rom_on : (a j : ℕ) → a < 4096 → j < 3 → a % 2048 + j < length (half_of page fixed a)
-      → rom_at (page ++ fixed) (forward_of a j) ≡ Byte (get_or (half_of page fixed a) (a % 2048 + j) 0)
+      → rom_at (page ++ fixed) (forward_of a j) ≡ Some (get_or (half_of page fixed a) (a % 2048 + j) 0)
   unfolding half_of
   rom_on a j top few = by_half (ltb a 2048) refl
     where
       by_half : (b : Bool) → ltb a 2048 ≡ b → a % 2048 + j < length (cond b page fixed)
-          → rom_at (page ++ fixed) (forward_of a j) ≡ Byte (get_or (cond b page fixed) (a % 2048 + j) 0)
+          → rom_at (page ++ fixed) (forward_of a j) ≡ Some (get_or (cond b page fixed) (a % 2048 + j) 0)
       by_half true e inside =
           let low : a < 2048 = ltb-true a 2048 e in
           let full : length page ≡ 2048 =

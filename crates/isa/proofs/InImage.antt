@@ -9,8 +9,8 @@ use lib.Dec.{ltb}
 use lib.ListN.{length, get_or, take, length-take, get_or-eq_default}
 use lib.Seq.{get_or-take}
 use Rattle.isa.specs.declared.Encoded.{Encoded}
-use Rattle.isa.specs.declared.Encoded.TheVariants.{One, Two, Three, Unencodable}
-use Rattle.isa.specs.declared.rom.RomByte.TheVariants.{Byte}
+use Rattle.std.specs.Prelude.{Option, Some, None}
+use Rattle.isa.specs.declared.Encoded.TheVariants.{One, Two, Three}
 use Rattle.isa.specs.Displacement.{forward_of}
 use Rattle.isa.specs.Table.{bytes_of}
 use Rattle.isa.specs.Map.{entry_of}
@@ -25,19 +25,19 @@ use Rattle.isa.proofs.Finite.{bounded}
 use Rattle.isa.proofs.Reading.{Read, reading, rom_byte, operand_byte}
 use Rattle.isa.proofs.RoundTrip.{decodes_back, writes_back}
 
-some : (e : Encoded) → (e ≡ Unencodable → ⊥) → 0 < length (bytes e)
-some (One a) n = omega arith
-some (Two a b) n = omega arith
-some (Three a b c) n = omega arith
-some Unencodable n = absurd (n refl)
+some : (e : Option Encoded) → (e ≡ None → ⊥) → 0 < length (bytes e)
+some (Some (One a)) n = omega arith
+some (Some (Two a b)) n = omega arith
+some (Some (Three a b c)) n = omega arith
+some None n = absurd (n refl)
 
 -- an operand byte of an instruction that stands in the image: 0 past its end
 operand_held :
     (image : List ℕ) (a : ℕ) (bs : List ℕ) → Holds image a bs → (j : ℕ) (b : Bool) → ltb j (length bs) ≡ b →
-    operand_at image a j (length bs) ≡ Byte (get_or bs j 0)
+    operand_at image a j (length bs) ≡ Some (get_or bs j 0)
 unfolding operand_at
 operand_held image a bs held j true e = rw e (held j (ltb-true j (length bs) e))
-operand_held image a bs held j false e = rw e (ap Byte (sym (get_or-eq_default bs 0 (ltb-false j (length bs) e))))
+operand_held image a bs held j false e = rw e (ap Some (sym (get_or-eq_default bs 0 (ltb-false j (length bs) e))))
 
 pub written_decodes : WrittenDecodes
 unfolding decode_at
@@ -46,23 +46,23 @@ written_decodes i n whole is bank a h held =
     let size : is_space (length image) ≡ true = is_space_lem whole bank is in
     let bs : List ℕ = bytes (encode_of i) in
     let here : (a + 0) % 4096 ≡ a = omega arith in
-    let opcode : rom_at image a ≡ Byte (get_or bs 0 0) = rw here at (held 0 (some (encode_of i) n)) in
+    let opcode : rom_at image a ≡ Some (get_or bs 0 0) = rw here at (held 0 (some (encode_of i) n)) in
     let count : bytes_of (entry_of (get_or bs 0 0)) ≡ length bs = (decodes_back i n).1 in
-    let first : operand_at image a 1 (length bs) ≡ Byte (get_or bs 1 0) =
+    let first : operand_at image a 1 (length bs) ≡ Some (get_or bs 1 0) =
     operand_held image a bs held 1 (ltb 1 (length bs)) refl in
-    let second : operand_at image a 2 (length bs) ≡ Byte (get_or bs 2 0) =
+    let second : operand_at image a 2 (length bs) ≡ Some (get_or bs 2 0) =
     operand_held image a bs held 2 (ltb 2 (length bs)) refl in
     in_space whole bank a is
     ∙ rw (size, lt-ltb a 4096 h, opcode, count, first, count, second, (decodes_back i n).0, count)
 
 -- three bytes that were read stand in the image, as far as the instruction goes
 held_by :
-    (image : List ℕ) (a k f s n : ℕ) → a < 4096 → rom_at image a ≡ Byte k → operand_at image a 1 n ≡ Byte f →
-    operand_at image a 2 n ≡ Byte s → (j : ℕ) → j < 3 → j < n → rom_at image (forward_of a j) ≡ Byte
+    (image : List ℕ) (a k f s n : ℕ) → a < 4096 → rom_at image a ≡ Some k → operand_at image a 1 n ≡ Some f →
+    operand_at image a 2 n ≡ Some s → (j : ℕ) → j < 3 → j < n → rom_at image (forward_of a j) ≡ Some
     (get_or (k ∷ f ∷ s ∷ []) j 0)
 unfolding operand_at
 held_by image a k f s n h e0 e1 e2 =
-    pick (λ j. j < n → rom_at image (forward_of a j) ≡ Byte (get_or (k ∷ f ∷ s ∷ []) j 0)) 3 (
+    pick (λ j. j < n → rom_at image (forward_of a j) ≡ Some (get_or (k ∷ f ∷ s ∷ []) j 0)) 3 (
       λ m. (let here : (a + 0) % 4096 ≡ a = omega arith in rw here e0),
       (
         λ m. rw (lt-ltb 1 n m) at e1,
@@ -71,8 +71,8 @@ held_by image a k f s n h e0 e1 e2 =
     )
 
 holds_taken :
-    (image : List ℕ) (a k f s n : ℕ) → a < 4096 → rom_at image a ≡ Byte k → operand_at image a 1 n ≡ Byte f →
-    operand_at image a 2 n ≡ Byte s → Holds image a (take n (k ∷ f ∷ s ∷ []))
+    (image : List ℕ) (a k f s n : ℕ) → a < 4096 → rom_at image a ≡ Some k → operand_at image a 1 n ≡ Some f →
+    operand_at image a 2 n ≡ Some s → Holds image a (take n (k ∷ f ∷ s ∷ []))
 holds_taken image a k f s n h e0 e1 e2 j m =
     let both : j < min n 3 = rw (length-take n (k ∷ f ∷ s ∷ [])) at m in
     let within : j < n = omega arith in

@@ -1,12 +1,12 @@
 pub mod Finite
+pub mod Timings
+pub mod Reversed
 pub mod Halves
 pub mod ThreeBytes
 pub mod ShortDisplacement
 pub mod Column
 pub mod PlainColumns
-pub mod Prefix
 pub mod FromParts
-pub mod GoesOn
 pub mod EntryFlow
 pub mod Words
 pub mod Reading

@@ -8,10 +8,7 @@ use borrow.Author.Tests.{ltb-true}
 use lib.Dec.{ltb, leb}
 use lib.ListN.{length, get_or}
 use Rattle.isa.specs.declared.Instruction.{Instruction}
-use Rattle.isa.specs.declared.Form.{Form}
-use Rattle.isa.specs.declared.Form.TheVariants.{Is, Undefined}
-use Rattle.isa.specs.declared.rom.RomByte.{RomByte}
-use Rattle.isa.specs.declared.rom.RomByte.TheVariants.{Byte, Outside}
+use Rattle.std.specs.Prelude.{Option, Some, None}
 use Rattle.isa.specs.Refusals.{Numbered, plain, Answer, done, refused}
 use Rattle.isa.specs.Displacement.{forward_of}
 use Rattle.isa.specs.Table.{bytes_of}
@@ -26,10 +23,10 @@ pub record Read (image : List ℕ) (a : ℕ) (i : Instruction) (n : ℕ) : Type 
   pub f : ℕ
   pub s : ℕ
   pub below : a < 4096
-  pub opcode : rom_at image a ≡ Byte k
-  pub first : operand_at image a 1 (bytes_of (entry_of k)) ≡ Byte f
-  pub second : operand_at image a 2 (bytes_of (entry_of k)) ≡ Byte s
-  pub form : form_of k f s ≡ Is i
+  pub opcode : rom_at image a ≡ Some k
+  pub first : operand_at image a 1 (bytes_of (entry_of k)) ≡ Some f
+  pub second : operand_at image a 2 (bytes_of (entry_of k)) ≡ Some s
+  pub form : form_of k f s ≡ Some i
   pub count : bytes_of (entry_of k) ≡ n
 
 -- a test before a refusal has passed where the answer is an instruction
@@ -42,12 +39,12 @@ passed false x r i n c q = let z : ◌≡◌ {A = ℕ} 0 1 = cc in absurd (omega
 
 module _ (image : List ℕ) (a : ℕ) (below : a < 4096) (i : Instruction) (n c : ℕ) where
   from_form :
-      (k f s : ℕ) → rom_at image a ≡ Byte k → operand_at image a 1 (bytes_of (entry_of k)) ≡ Byte f →
-      operand_at image a 2 (bytes_of (entry_of k)) ≡ Byte s → (x : Form) → form_of k f s ≡ x → with_form a k x ≡ done
+      (k f s : ℕ) → rom_at image a ≡ Some k → operand_at image a 1 (bytes_of (entry_of k)) ≡ Some f →
+      operand_at image a 2 (bytes_of (entry_of k)) ≡ Some s → (x : Option Instruction) → form_of k f s ≡ x → with_form a k x ≡ done
       (instruction i n c) →
       Read image a i n
-  from_form k f s e0 e1 e2 Undefined e q = let z : ◌≡◌ {A = ℕ} 0 1 = cc in absurd (omega arith)
-  from_form k f s e0 e1 e2 (Is j) e q =
+  from_form k f s e0 e1 e2 None e q = let z : ◌≡◌ {A = ℕ} 0 1 = cc in absurd (omega arith)
+  from_form k f s e0 e1 e2 (Some j) e q =
       record {
         k = k;
         f = f;
@@ -61,20 +58,20 @@ module _ (image : List ℕ) (a : ℕ) (below : a < 4096) (i : Instruction) (n c 
       }
 
   from_second :
-      (k f : ℕ) → rom_at image a ≡ Byte k → operand_at image a 1 (bytes_of (entry_of k)) ≡ Byte f → (r : RomByte) →
+      (k f : ℕ) → rom_at image a ≡ Some k → operand_at image a 1 (bytes_of (entry_of k)) ≡ Some f → (r : Option ℕ) →
       operand_at image a 2 (bytes_of (entry_of k)) ≡ r → with_second a k f r ≡ done (instruction i n c) → Read image a i n
-  from_second k f e0 e1 (Byte s) e2 q = from_form k f s e0 e1 e2 (form_of k f s) refl q
-  from_second k f e0 e1 Outside e2 q = let z : ◌≡◌ {A = ℕ} 0 1 = cc in absurd (omega arith)
+  from_second k f e0 e1 (Some s) e2 q = from_form k f s e0 e1 e2 (form_of k f s) refl q
+  from_second k f e0 e1 None e2 q = let z : ◌≡◌ {A = ℕ} 0 1 = cc in absurd (omega arith)
 
   from_first :
-      (k : ℕ) → rom_at image a ≡ Byte k → (r : RomByte) → operand_at image a 1 (bytes_of (entry_of k)) ≡ r →
+      (k : ℕ) → rom_at image a ≡ Some k → (r : Option ℕ) → operand_at image a 1 (bytes_of (entry_of k)) ≡ r →
       with_first image a k r ≡ done (instruction i n c) → Read image a i n
-  from_first k e0 (Byte f) e1 q = from_second k f e0 e1 (operand_at image a 2 (bytes_of (entry_of k))) refl q
-  from_first k e0 Outside e1 q = let z : ◌≡◌ {A = ℕ} 0 1 = cc in absurd (omega arith)
+  from_first k e0 (Some f) e1 q = from_second k f e0 e1 (operand_at image a 2 (bytes_of (entry_of k))) refl q
+  from_first k e0 None e1 q = let z : ◌≡◌ {A = ℕ} 0 1 = cc in absurd (omega arith)
 
-  from_opcode : (r : RomByte) → rom_at image a ≡ r → with_opcode image a r ≡ done (instruction i n c) → Read image a i n
-  from_opcode (Byte k) e0 q = from_first k e0 (operand_at image a 1 (bytes_of (entry_of k))) refl q
-  from_opcode Outside e0 q = let z : ◌≡◌ {A = ℕ} 0 1 = cc in absurd (omega arith)
+  from_opcode : (r : Option ℕ) → rom_at image a ≡ r → with_opcode image a r ≡ done (instruction i n c) → Read image a i n
+  from_opcode (Some k) e0 q = from_first k e0 (operand_at image a 1 (bytes_of (entry_of k))) refl q
+  from_opcode None e0 q = let z : ◌≡◌ {A = ℕ} 0 1 = cc in absurd (omega arith)
 
 pub reading : (image : List ℕ) (a : ℕ) (i : Instruction) (n c : ℕ) → decode_at image a ≡ done (instruction i n c)
     → Read image a i n
@@ -88,29 +85,29 @@ reading image a i n c q =
     from_opcode image a (ltb-true a 4096 ranged.0) i n c (rom_at image a) refl ranged.1
 
 -- what a ROM byte or an operand byte of an image of bytes holds is a byte
-same_byte : (x k : ℕ) → x < 256 → Byte x ≡ Byte k → k < 256
+same_byte : (x k : ℕ) → x < 256 → Some x ≡ Some k → k < 256
 same_byte x k h e = let q : x ≡ k = cc in omega arith
 
 chosen_byte :
-    (b : Bool) (r t : RomByte) → ((k : ℕ) → r ≡ Byte k → k < 256) → ((k : ℕ) → t ≡ Byte k → k < 256) → (k : ℕ) →
-    cond b r t ≡ Byte k → k < 256
+    (b : Bool) (r t : Option ℕ) → ((k : ℕ) → r ≡ Some k → k < 256) → ((k : ℕ) → t ≡ Some k → k < 256) → (k : ℕ) →
+    cond b r t ≡ Some k → k < 256
 chosen_byte true r t h g k e = h k e
 chosen_byte false r t h g k e = g k e
 
-no_byte : (k : ℕ) → Outside ≡ Byte k → k < 256
+no_byte : (k : ℕ) → None ≡ Some k → k < 256
 no_byte k e = let z : ◌≡◌ {A = ℕ} 0 1 = cc in omega arith
 
-pub rom_byte : (image : List ℕ) → Bytes image → (a k : ℕ) → rom_at image a ≡ Byte k → k < 256
+pub rom_byte : (image : List ℕ) → Bytes image → (a k : ℕ) → rom_at image a ≡ Some k → k < 256
 unfolding rom_at
 rom_byte image all a =
     let at : ℕ = a + length image - 4096 in
-    chosen_byte (ltb a 4096) _ Outside
-    (chosen_byte (leb 4096 (a + length image)) (Byte (get_or image at 0)) Outside
+    chosen_byte (ltb a 4096) _ None
+    (chosen_byte (leb 4096 (a + length image)) (Some (get_or image at 0)) None
     (λ k. same_byte (get_or image at 0) k (all at)) no_byte)
     no_byte
 
-pub operand_byte : (image : List ℕ) → Bytes image → (a j n k : ℕ) → operand_at image a j n ≡ Byte k → k < 256
+pub operand_byte : (image : List ℕ) → Bytes image → (a j n k : ℕ) → operand_at image a j n ≡ Some k → k < 256
 unfolding operand_at
 operand_byte image all a j n =
-    chosen_byte (ltb j n) (rom_at image (forward_of a j)) (Byte 0) (rom_byte image all (forward_of a j))
+    chosen_byte (ltb j n) (rom_at image (forward_of a j)) (Some 0) (rom_byte image all (forward_of a j))
     (λ k. same_byte 0 k (omega arith))

@@ -14,8 +14,8 @@ use Rattle.isa.specs.declared.Operand.TheVariants.{Direct, Short, ThroughX, Thro
 use Rattle.isa.specs.declared.Instruction.{Instruction}
 use Rattle.isa.specs.declared.Instruction.TheVariants as I
 use Rattle.isa.specs.declared.Encoded.{Encoded}
-use Rattle.isa.specs.declared.Encoded.TheVariants.{One, Two, Three, Unencodable}
-use Rattle.isa.specs.declared.rom.RomByte.TheVariants.{Byte}
+use Rattle.std.specs.Prelude.{Option, Some, None}
+use Rattle.isa.specs.declared.Encoded.TheVariants.{One, Two, Three}
 use Rattle.isa.specs.Refusals.{plain, done, refused}
 use Rattle.isa.specs.Displacement.{modulo, forward_of}
 use Rattle.isa.specs.Table.{bytes_of}
@@ -39,7 +39,7 @@ unfolding bytes_of entry_of form_of form_as
 no_bytes k f s h e = rw e at (at (λ k. cond (eqb (bytes_of (entry_of k)) 0) (is_undefined (form_of k f s)) true) 256 tt k h)
 
 -- what is refused was not decoded
-beyond_undecoded : (i : Instruction) → encode_of i ≡ Unencodable → Undecoded i
+beyond_undecoded : (i : Instruction) → encode_of i ≡ None → Undecoded i
 beyond_undecoded i e image all bank a n c q =
     let space : List ℕ = space_of image bank in
     let r : Read space a i n = reading space a i n c (from_space image bank a i n c q) in
@@ -58,7 +58,7 @@ cons_bytes a bs h hs (suc j) = hs j
 one_byte : (a : ℕ) → a < 256 → Bytes (a ∷ [])
 one_byte a h = cons_bytes a [] h nil_bytes
 
-chosen_bytes : (b : Bool) (e : Encoded) → (b ≡ true → Bytes (bytes e)) → Bytes (bytes (cond b e Unencodable))
+chosen_bytes : (b : Bool) (e : Option Encoded) → (b ≡ true → Bytes (bytes e)) → Bytes (bytes (cond b e None))
 chosen_bytes true e h = h refl
 chosen_bytes false e h = nil_bytes
 
@@ -67,23 +67,23 @@ modulo_32 (pos n) = omega arith
 modulo_32 (negsuc n) = omega arith
 
 with_byte_lem : (k f : ℕ) → k < 256 → Bytes (bytes (with_byte k f))
-with_byte_lem k f h = chosen_bytes (ltb f 256) (Two k f) (λ t. cons_bytes k (f ∷ []) h (one_byte f (ltb-true f 256 t)))
+with_byte_lem k f h = chosen_bytes (ltb f 256) (Some (Two k f)) (λ t. cons_bytes k (f ∷ []) h (one_byte f (ltb-true f 256 t)))
 
 with_bytes_lem : (k f s : ℕ) → k < 256 → Bytes (bytes (with_bytes k f s))
 with_bytes_lem k f s h =
-    chosen_bytes (ltb f 256 && ltb s 256) (Three k f s)
+    chosen_bytes (ltb f 256 && ltb s 256) (Some (Three k f s))
     (λ t. let tests = (and-eq-true_iff (ltb f 256) (ltb s 256)).0 t in
     cons_bytes k (f ∷ s ∷ []) h
     (cons_bytes f (s ∷ []) (ltb-true f 256 tests.0) (one_byte s (ltb-true s 256 tests.1))))
 
 short_jump_lem : (base : ℕ) (d : ℤ) → base < 8 → Bytes (bytes (short_jump base d))
 short_jump_lem base d h =
-    chosen_bytes (in_field 5 d) (One (modulo 32 d * 8 + base))
+    chosen_bytes (in_field 5 d) (Some (One (modulo 32 d * 8 + base)))
     (λ t. let field : modulo 32 d < 32 = modulo_32 d in one_byte (modulo 32 d * 8 + base) (omega arith))
 
 extended_jump_lem : (base target : ℕ) → base < 16 → Bytes (bytes (extended_jump base target))
 extended_jump_lem base target h =
-    chosen_bytes (ltb target 4096) (Two (target % 16 * 16 + base) (target / 16))
+    chosen_bytes (ltb target 4096) (Some (Two (target % 16 * 16 + base) (target / 16)))
     (λ t. let below : target < 4096 = ltb-true target 4096 t in
     cons_bytes (target % 16 * 16 + base) (target / 16 ∷ []) (omega arith) (one_byte (target / 16) (omega arith)))
 
@@ -105,7 +105,7 @@ on_short_lem : (short x y rr : ℕ) → short < 64 → x < 256 → y < 256 → r
     → Bytes (bytes (on_short short x y rr o))
 on_short_lem short x y rr hs hx hy hr (Direct a) = with_byte_lem rr a hr
 on_short_lem short x y rr hs hx hy hr (Short r) =
-    chosen_bytes (ltb r 4) (One (r * 64 + short)) (λ t. let below : r < 4 =
+    chosen_bytes (ltb r 4) (Some (One (r * 64 + short))) (λ t. let below : r < 4 =
     ltb-true r 4 t in one_byte (r * 64 + short) (omega arith))
 on_short_lem short x y rr hs hx hy hr ThroughX = one_byte x hx
 on_short_lem short x y rr hs hx hy hr ThroughY = one_byte y hy
@@ -158,16 +158,16 @@ padded_bytes : (bs : List ℕ) (n : ℕ) → Bytes bs → Bytes (bs ++ replicate
 padded_bytes [] n h = zero_bytes n
 padded_bytes (b ∷ bs) n h = cons_bytes b (bs ++ replicate n 0) (h 0) (padded_bytes bs n (λ j. h (suc j)))
 
-few_bytes : (e : Encoded) → length (bytes e) ≤ 3
-few_bytes (One a) = omega arith
-few_bytes (Two a b) = omega arith
-few_bytes (Three a b c) = omega arith
-few_bytes Unencodable = omega arith
+few_bytes : (e : Option Encoded) → length (bytes e) ≤ 3
+few_bytes (Some (One a)) = omega arith
+few_bytes (Some (Two a b)) = omega arith
+few_bytes (Some (Three a b c)) = omega arith
+few_bytes None = omega arith
 
 placed_length : (bs : List ℕ) → length bs ≤ 3 → length (placed 0 bs) ≡ 4096
 placed_length bs h = simp (length-append, length-replicate) (omega arith)
 
-rom_of_4K : (image : List ℕ) → length image ≡ 4096 → (a : ℕ) → a < 4096 → rom_at image a ≡ Byte (get_or image a 0)
+rom_of_4K : (image : List ℕ) → length image ≡ 4096 → (a : ℕ) → a < 4096 → rom_at image a ≡ Some (get_or image a 0)
 unfolding rom_at
 rom_of_4K image size a h =
     let index : a + 4096 - 4096 ≡ a = omega arith in
@@ -178,16 +178,14 @@ placed_holds bs h j m =
     let here : forward_of 0 j ≡ j = omega arith in
     rw here
     (rom_of_4K (placed 0 bs) (placed_length bs h) j (omega arith)
-    ∙ ap Byte (get_or-append bs (replicate (4096 - 0 - length bs) 0) 0 j m))
+    ∙ ap Some (get_or-append bs (replicate (4096 - 0 - length bs) 0) 0 j m))
 
 -- an instruction that is not refused stands in that image
-beyond_or_not : (e : Encoded) → (e ≡ Unencodable) ⊎ (e ≡ Unencodable → ⊥)
-beyond_or_not (One a) = inr (λ e. let z : ◌≡◌ {A = ℕ} 0 1 = cc in omega arith)
-beyond_or_not (Two a b) = inr (λ e. let z : ◌≡◌ {A = ℕ} 0 1 = cc in omega arith)
-beyond_or_not (Three a b c) = inr (λ e. let z : ◌≡◌ {A = ℕ} 0 1 = cc in omega arith)
-beyond_or_not Unencodable = inl refl
+beyond_or_not : (e : Option Encoded) → (e ≡ None) ⊎ (e ≡ None → ⊥)
+beyond_or_not (Some e) = inr (λ e. let z : ◌≡◌ {A = ℕ} 0 1 = cc in omega arith)
+beyond_or_not None = inl refl
 
-undecoded_beyond : (i : Instruction) → Undecoded i → encode_of i ≡ Unencodable
+undecoded_beyond : (i : Instruction) → Undecoded i → encode_of i ≡ None
 undecoded_beyond i never =
     let bs : List ℕ = bytes (encode_of i) in
     let few : length bs ≤ 3 = few_bytes (encode_of i) in
@@ -203,12 +201,10 @@ fitted_not_8 : (b : Bool) (n : ℕ) → cond b (done n) (refused (plain 9)) ≡ 
 fitted_not_8 true n e = let z : ◌≡◌ {A = ℕ} 0 1 = cc in omega arith
 fitted_not_8 false n e = let z : ◌≡◌ {A = ℕ} 9 8 = cc in omega arith
 
-refused_beyond : (e : Encoded) (size : ℕ) → outcome e size ≡ refused (plain 8) → e ≡ Unencodable
+refused_beyond : (e : Option Encoded) (size : ℕ) → outcome e size ≡ refused (plain 8) → e ≡ None
 unfolding outcome
-refused_beyond (One a) size q = absurd (fitted_not_8 (leb 1 size) 1 q)
-refused_beyond (Two a b) size q = absurd (fitted_not_8 (leb 2 size) 2 q)
-refused_beyond (Three a b c) size q = absurd (fitted_not_8 (leb 3 size) 3 q)
-refused_beyond Unencodable size q = refl
+refused_beyond (Some e) size q = absurd (fitted_not_8 (leb (length (bytes (Some e))) size) (length (bytes (Some e))) q)
+refused_beyond None size q = refl
 
 pub refused_exactly : RefusedExactly
 unfolding outcome

@@ -14,10 +14,9 @@ use Rattle.isa.specs.declared.Operand.{Operand}
 use Rattle.isa.specs.declared.Operand.TheVariants.{Direct, Short, ThroughX, ThroughY}
 use Rattle.isa.specs.declared.Instruction.{Instruction}
 use Rattle.isa.specs.declared.Instruction.TheVariants as I
-use Rattle.isa.specs.declared.Form.{Form}
-use Rattle.isa.specs.declared.Form.TheVariants.{Is, Undefined}
+use Rattle.std.specs.Prelude.{Option, Some, None}
 use Rattle.isa.specs.declared.Encoded.{Encoded}
-use Rattle.isa.specs.declared.Encoded.TheVariants.{One, Two, Three, Unencodable}
+use Rattle.isa.specs.declared.Encoded.TheVariants.{One, Two, Three}
 use Rattle.isa.specs.Displacement.{modulo, short_displacement, long_displacement, signed}
 use Rattle.isa.specs.Table.{bytes_of}
 use Rattle.isa.specs.Map.{form_of, form_as, entry_of, extended}
@@ -29,18 +28,18 @@ use Rattle.isa.proofs.ShortDisplacement.{short_magnitude}
 
 -- an opcode with the two bytes that follow makes the instruction, and takes n bytes
 abbrev Makes : ℕ → ℕ → ℕ → Instruction → ℕ → Type 0
-Makes k f s i n = (form_of k f s ≡ Is i) × (bytes_of (entry_of k) ≡ n)
+Makes k f s i n = (form_of k f s ≡ Some i) × (bytes_of (entry_of k) ≡ n)
 
 -- what the bytes of an encoding say
-abbrev Says : Encoded → Instruction → Type 0
+abbrev Says : Option Encoded → Instruction → Type 0
 Says e i = Makes (get_or (bytes e) 0 0) (get_or (bytes e) 1 0) (get_or (bytes e) 2 0) i (length (bytes e))
 
 -- an encoding says its instruction unless it is refused
-abbrev Back : Encoded → Instruction → Type 0
-Back e i = (e ≡ Unencodable → ⊥) → Says e i
+abbrev Back : Option Encoded → Instruction → Type 0
+Back e i = (e ≡ None → ⊥) → Says e i
 
 -- a choice by a test: the first where it holds, else a refusal
-chosen : (b : Bool) (e : Encoded) (i : Instruction) → (b ≡ true → Back e i) → Back (cond b e Unencodable) i
+chosen : (b : Bool) (e : Option Encoded) (i : Instruction) → (b ≡ true → Back e i) → Back (cond b e None) i
 chosen true e i h n = h refl n
 chosen false e i h n = absurd (n refl)
 
@@ -75,10 +74,10 @@ short_jump_lem :
     ((k : ℕ) → (k % 16 ≡ base) ⊎ (k % 16 ≡ base + 8) → Makes k 0 0 (mk (short_displacement k)) 1) → (d : ℤ) →
     Back (short_jump base d) (mk d)
 short_jump_lem mk base b column d =
-    chosen (in_field 5 d) (One (modulo 32 d * 8 + base)) (mk d)
+    chosen (in_field 5 d) (Some (One (modulo 32 d * 8 + base))) (mk d)
     (λ h _. let made : Makes (modulo 32 d * 8 + base) 0 0 (mk (short_displacement (modulo 32 d * 8 + base))) 1 =
     column (modulo 32 d * 8 + base) (low_digit base (modulo 32 d) b) in
-    (made.0 ∙ ap (λ z. Is (mk z)) (field_back base d b h), made.1))
+    (made.0 ∙ ap (λ z. Some (mk z)) (field_back base d b h), made.1))
 
 -- CALL or JP
 extended_jump_lem :
@@ -86,19 +85,19 @@ extended_jump_lem :
     → (t : ℕ) →
     Back (extended_jump base t) (mk t)
 extended_jump_lem mk base b column t =
-    chosen (ltb t 4096) (Two (t % 16 * 16 + base) (t / 16)) (mk t)
+    chosen (ltb t 4096) (Some (Two (t % 16 * 16 + base) (t / 16))) (mk t)
     (λ h _. let below : t < 4096 = ltb-true t 4096 h in
     let target : t / 16 * 16 + (t % 16 * 16 + base) / 16 ≡ t = omega arith in
     let made : Makes (t % 16 * 16 + base) (t / 16) 0 (mk (extended (t % 16 * 16 + base) (t / 16))) 2 =
     column (t % 16 * 16 + base) (t / 16) (omega arith) in
-    (made.0 ∙ ap (λ z. Is (mk z)) target, made.1))
+    (made.0 ∙ ap (λ z. Some (mk z)) target, made.1))
 
 -- one operand byte, and two
 byte : (mk : ℕ → Instruction) (k : ℕ) → ((f : ℕ) → Makes k f 0 (mk f) 2) → (f : ℕ) → Back (with_byte k f) (mk f)
-byte mk k made f = chosen (ltb f 256) (Two k f) (mk f) (λ _ _. made f)
+byte mk k made f = chosen (ltb f 256) (Some (Two k f)) (mk f) (λ _ _. made f)
 
 two_bytes : (k f s : ℕ) (i : Instruction) → Makes k f s i 3 → Back (with_bytes k f s) i
-two_bytes k f s i made = chosen (ltb f 256 && ltb s 256) (Three k f s) i (λ _ _. made)
+two_bytes k f s i made = chosen (ltb f 256 && ltb s 256) (Some (Three k f s)) i (λ _ _. made)
 
 -- JRR or JRS, by what the map has at each of the eight opcodes
 bit_jump_lem :
@@ -112,7 +111,7 @@ bit_jump_lem mk base column bit address d =
     let made : Makes (with_bit base bit) address (modulo 256 d) (mk bit address (long_displacement (modulo 256 d))) 3 =
     column bit below address (modulo 256 d) in
     two_bytes (with_bit base bit) address (modulo 256 d) (mk bit address d)
-    (made.0 ∙ ap (λ z. Is (mk bit address z)) (long_back d tests.1), made.1))
+    (made.0 ∙ ap (λ z. Some (mk bit address z)) (long_back d tests.1), made.1))
 
 -- RES or SET
 bit_direct_lem :
@@ -131,7 +130,7 @@ with_short :
     (o : Operand) → Back (on_short short x y rr o) (mk o)
 with_short mk short x y rr d s bx by (Direct a) n = byte (λ a. mk (Direct a)) rr d a n
 with_short mk short x y rr d s bx by (Short r) n =
-    chosen (ltb r 4) (One (r * 64 + short)) (mk (Short r))
+    chosen (ltb r 4) (Some (One (r * 64 + short))) (mk (Short r))
     (λ h _. pick (λ r. Makes (r * 64 + short) 0 0 (mk (Short r)) 1) 4 s r (ltb-true r 4 h)) n
 with_short mk short x y rr d s bx by ThroughX n = bx
 with_short mk short x y rr d s bx by ThroughY n = by
@@ -208,9 +207,9 @@ decodes_back I.Stop = λ _. (refl, refl)
 decodes_back I.Wait = λ _. (refl, refl)
 
 -- the bytes of a form
-abbrev pub form_bytes : Form → List ℕ
-form_bytes (Is i) = bytes (encode_of i)
-form_bytes Undefined = []
+abbrev pub form_bytes : Option Instruction → List ℕ
+form_bytes (Some i) = bytes (encode_of i)
+form_bytes None = []
 
 -- the form of an opcode and the two bytes that follow is written as those that belong to it
 abbrev Again : ℕ → ℕ → ℕ → Type 0
@@ -248,7 +247,7 @@ module _ (f s : ℕ) (hf : f < 256) (hs : s < 256) where
 
   bit_again :
       (k : ℕ) →
-      bytes (cond (in_field 8 (long_displacement s)) (with_bytes k f (modulo 256 (long_displacement s))) Unencodable) ≡ k
+      bytes (cond (in_field 8 (long_displacement s)) (with_bytes k f (modulo 256 (long_displacement s))) None) ≡ k
       ∷ f ∷ s ∷ []
   bit_again k = rw (long_fits s hs, long_again s hs, one_fits, lt-ltb s 256 hs)
 

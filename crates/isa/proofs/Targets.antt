@@ -4,8 +4,7 @@ use native.Mathlib.Omega.{arith}
 use mathlib.Core.Path.{◌≡◌}
 use mathlib.Core.List.{List}
 use lib.IntN.{ℤ, pos, negsuc, ◌+ℤ◌}
-use Rattle.isa.specs.declared.Form.{Form}
-use Rattle.isa.specs.declared.Form.TheVariants.{Is, Undefined}
+use Rattle.std.specs.Prelude.{Option, Some, None}
 use Rattle.isa.specs.Displacement.{modulo, forward_of, short_displacement, long_displacement, target_of}
 use Rattle.isa.specs.Table.{bytes_of}
 use Rattle.isa.specs.Map.{Entry, JRNZ, JRNC, JRZ, JRC, CALL, JP, JRR, JRS, RES, SET, LD-A, LD-to, INC, DEC, ADD}
@@ -23,9 +22,9 @@ use Rattle.isa.proofs.Halves.{space_bytes}
 use Rattle.isa.proofs.Reading.{Read, reading, rom_byte, operand_byte}
 
 -- a form that is an instruction stays in range
-abbrev Reaches : ℕ → Form → Type 0
-Reaches a (Is i) = InRange (flow_of i a)
-Reaches a Undefined = Unit {0}
+abbrev Reaches : ℕ → Option Instruction → Type 0
+Reaches a (Some i) = InRange (flow_of i a)
+Reaches a None = Unit {0}
 
 remainder : (z : ℤ) → modulo 4096 z < 4096
 remainder (pos n) = omega arith

@@ -4,7 +4,7 @@ use mathlib.Core.Path.{◌≡◌, refl}
 use mathlib.Core.Bool.{Bool, true, false, cond}
 use mathlib.Core.List.{List}
 use lib.Dec.{ltb}
-use Rattle.isa.specs.declared.rom.RomByte.TheVariants.{Byte}
+use Rattle.std.specs.Prelude.{Some}
 use Rattle.isa.specs.Displacement.{forward_of}
 use Rattle.isa.specs.Table.{bytes_of}
 use Rattle.isa.specs.Map.{rr, short, [X], [Y], Entry, JRNZ, JRNC, JRZ, JRC, CALL, JP, JRR, JRS, RES}
@@ -76,12 +76,12 @@ same WAIT k f s = refl
 same # k f s = refl
 
 -- the three bytes from an address on are enough, whatever the length
-chosen : (b : Bool) (byte : ℕ) → cond b (Byte byte) (Byte 0) ≡ Byte (cond b byte 0)
+chosen : (b : Bool) (byte : ℕ) → cond b (Some byte) (Some 0) ≡ Some (cond b byte 0)
 chosen true byte = refl
 chosen false byte = refl
 
-pub read_three : (image : List ℕ) (a k f s : ℕ) → rom_at image a ≡ Byte k → rom_at image (forward_of a 1) ≡ Byte f →
-    rom_at image (forward_of a 2) ≡ Byte s → with_form a k (form_of k f s) ≡ decode_of image a
+pub read_three : (image : List ℕ) (a k f s : ℕ) → rom_at image a ≡ Some k → rom_at image (forward_of a 1) ≡ Some f →
+    rom_at image (forward_of a 2) ≡ Some s → with_form a k (form_of k f s) ≡ decode_of image a
 unfolding operand_at form_of
 read_three image a k f s here first second =
     rw (

@@ -1,5 +1,5 @@
 -- Predecoded instructions: the bytes of a number, and a displacement and a target back from their bytes.
-use Prim.Native.Nat.{ℕ, zero, suc, ◌+◌, ◌-◌, ◌*◌, ◌/◌, ◌%◌, ◌<◌, ◌≤◌}
+use Prim.Native.Nat.{ℕ, zero, suc, ◌+◌, ◌-◌, ◌<◌, ◌≤◌}
 use mathlib.Core.Path.{◌≡◌, refl, sym, ap, ◌∙◌, subst}
 use mathlib.Core.Bool.{Bool, true, false}
 use mathlib.Core.List.{List, [], ◌∷◌}
@@ -7,109 +7,16 @@ use native.Mathlib.Omega.{arith}
 use lib.Dec.{ltb}
 use borrow.Author.Tests.{ltb-true, ltb-false}
 use lib.ListN.{get_or-eq_default}
-use lib.IntN.{ℤ}
-use mir.Syntax.{w8}
-use mir.Val.{SFits}
 use types.Run.{OneOf, miss}
 use denote.Enum.Declared.{tag_of}
-use Rattle.isa.specs.Displacement.{modulo, long_displacement}
-use Rattle.isa.specs.declared.Operand.{Operand}
-use Rattle.isa.specs.declared.Operand.TheVariants.{Direct, Short, ThroughX, ThroughY}
 use Rattle.isa.specs.declared.Instruction.{Instruction}
 use Rattle.isa.specs.declared.Instruction.TheVariants as I
 use Rattle.isa.specs.declared.Flow.{Flow}
 use Rattle.isa.specs.declared.Flow.TheVariants as flow
 use Rattle.isa.specs.ControlFlow.{flow_of}
-use Rattle.isa.specs.Predecoded.{by_code, instruction_by_code, on_operand_by_code, tag_for, Predecoded, IsWord}
+use Rattle.isa.specs.Predecoded.{by_code, instruction_by_code}
 use Rattle.isa.specs.contracts.Instruction.{the_type}
 use Rattle.isa.proofs.Column.{pick}
-use Rattle.isa.proofs.Finite.{at_signed, eq_z, eq_z→eq}
-
--- a signed byte is what its byte says
-pub displacement_back : (d : ℤ) → SFits w8 d → long_displacement (modulo 256 d) ≡ d
-displacement_back d fits =
-    eq_z→eq (long_displacement (modulo 256 d)) d (at_signed (λ z. eq_z (long_displacement (modulo 256 z)) z) tt d fits)
-
--- a target is what its two bytes say
-pub target_back : (t : ℕ) → t % 256 + t / 256 * 256 ≡ t
-target_back t = omega arith
-
--- the same number for an equal instruction
-pub equal : {w : ℕ} {i j : Instruction} {n : ℕ} → IsWord w i n → i ≡ j → IsWord w j n
-equal r e = record { instruction = r.instruction ∙ e; timed = r.timed; untagged = r.untagged }
-
--- a code with the kind of its operand is the instruction on that operand
-pub on_operand_lem :
-    (code : ℕ) (form : Operand → Instruction) → ((a : ℕ) → instruction_by_code code a 0 0 ≡ form (Direct a)) →
-    ((n : ℕ) → instruction_by_code (code + 1) n 0 0 ≡ form (Short n)) →
-    instruction_by_code (code + 2) 0 0 0 ≡ form ThroughX → instruction_by_code (code + 3) 0 0 0 ≡ form ThroughY →
-    (o : Operand) → on_operand_by_code code o ≡ form o
-on_operand_lem code form direct short x y (Direct a) = direct a
-on_operand_lem code form direct short x y (Short n) = short n
-on_operand_lem code form direct short x y ThroughX = x
-on_operand_lem code form direct short x y ThroughY = y
-
--- the bytes of a number
-module _ (code cycles a b c : ℕ) where
-  abbrev number : ℕ
-  number = c * 4294967296 + b * 16777216 + a * 65536 + cycles * 256 + code
-
-  byte_0 : code < 256 → number % 256 ≡ code
-  byte_0 h = omega arith
-
-  byte_1 : code < 256 → cycles < 256 → number / 256 % 16 ≡ cycles % 16
-  byte_1 h i = omega arith
-
-  byte_2 : code < 256 → cycles < 256 → a < 256 → number / 65536 % 256 ≡ a
-  byte_2 h i j = omega arith
-
-  byte_3 : code < 256 → cycles < 256 → a < 256 → b < 256 → number / 16777216 % 256 ≡ b
-  byte_3 h i j k = omega arith
-
-  byte_4 : code < 256 → cycles < 256 → a < 256 → b < 256 → c < 256 → number / 4294967296 % 256 ≡ c
-  byte_4 h i j k l = omega arith
-
-  pub is_word :
-      code < 256 → cycles < 256 → a < 256 → b < 256 → c < 256 → IsWord number (instruction_by_code code a b c) cycles
-  is_word h i j k l = record {
-    instruction = rw (byte_0 h, byte_2 h i j, byte_3 h i j k, byte_4 h i j k l);
-    timed = byte_1 h i;
-    untagged = omega arith;
-  }
-
--- a tag above a number leaves its bytes
-module _ (tag w : ℕ) where
-  abbrev whole : ℕ
-  whole = tag * 1099511627776 + w
-
-  top_0 : whole % 256 ≡ w % 256
-  top_0 = omega arith
-
-  top_1 : whole / 256 % 16 ≡ w / 256 % 16
-  top_1 = omega arith
-
-  top_2 : whole / 65536 % 256 ≡ w / 65536 % 256
-  top_2 = omega arith
-
-  top_3 : whole / 16777216 % 256 ≡ w / 16777216 % 256
-  top_3 = omega arith
-
-  top_4 : whole / 4294967296 % 256 ≡ w / 4294967296 % 256
-  top_4 = omega arith
-
-  top_5 : w < 1099511627776 → whole / 1099511627776 ≡ tag
-  top_5 h = omega arith
-
-pub predecoded_at :
-    (bank a w : ℕ) (i : Instruction) (cycles : ℕ) → IsWord w i cycles →
-    Predecoded (tag_for bank a * 1099511627776 + w) i cycles bank a
-predecoded_at bank a w i cycles is =
-    let tag : ℕ = tag_for bank a in
-    record {
-      instruction = rw (top_0 tag w, top_2 tag w, top_3 tag w, top_4 tag w) is.instruction;
-      timed = top_1 tag w ∙ is.timed;
-      tagged = top_5 tag w is.untagged;
-    }
 
 -- a number that is none of the n from some number on, or below it
 abbrev Others : (k from n : ℕ) → Type 0

@@ -13,7 +13,7 @@ use Rattle.isa.specs.Write.{outcome, buffer_after}
 use Rattle.isa.specs.Encode.{bytes}
 use Rattle.isa.specs.WriteEffects.{WriteEffects}
 use Rattle.isa.specs.declared.Encoded.{Encoded}
-use Rattle.isa.specs.declared.Encoded.TheVariants.{One, Two, Three, Unencodable}
+use Rattle.std.specs.Prelude.{Option, Some, None}
 
 -- bytes that fit or not, by the test
 module _ (bs buffer : List ℕ) where
@@ -35,45 +35,35 @@ module _ (bs buffer : List ℕ) where
   rest true n q = let e : length bs ≡ n = cc in drop_at bs (drop (length bs) buffer) n e ∙ rw e
   rest false n q = cc
 
-too_short : (e : Encoded) (size : ℕ) → size < length (bytes e) → outcome e size ≡ refused (plain 9)
+too_short : (e : Option Encoded) (size : ℕ) → size < length (bytes e) → outcome e size ≡ refused (plain 9)
 unfolding outcome
-too_short (One a) size h = rw (lt-leb 1 size h)
-too_short (Two a b) size h = rw (lt-leb 2 size h)
-too_short (Three a b c) size h = rw (lt-leb 3 size h)
-too_short Unencodable size h = absurd (omega arith)
+too_short (Some e) size h = rw (lt-leb (length (bytes (Some e))) size h)
+too_short None size h = absurd (omega arith)
 
-fits : (e : Encoded) (size : ℕ) → (e ≡ Unencodable → ⊥) → length (bytes e) ≤ size
+fits : (e : Option Encoded) (size : ℕ) → (e ≡ None → ⊥) → length (bytes e) ≤ size
     → outcome e size ≡ done (length (bytes e))
 unfolding outcome
-fits (One a) size n h = rw (le-leb 1 size h)
-fits (Two a b) size n h = rw (le-leb 2 size h)
-fits (Three a b c) size n h = rw (le-leb 3 size h)
-fits Unencodable size n h = absurd (n refl)
+fits (Some e) size n h = rw (le-leb (length (bytes (Some e))) size h)
+fits None size n h = absurd (n refl)
 
-untouched : (e : Encoded) (buffer : List ℕ) (r : Numbered) → outcome e (length buffer) ≡ refused r
+untouched : (e : Option Encoded) (buffer : List ℕ) (r : Numbered) → outcome e (length buffer) ≡ refused r
     → buffer_after e buffer ≡ buffer
 unfolding outcome buffer_after
-untouched (One a) buffer r q = kept (bytes (One a)) buffer (leb 1 (length buffer)) r q
-untouched (Two a b) buffer r q = kept (bytes (Two a b)) buffer (leb 2 (length buffer)) r q
-untouched (Three a b c) buffer r q = kept (bytes (Three a b c)) buffer (leb 3 (length buffer)) r q
-untouched Unencodable buffer r q = rw (le-leb 0 (length buffer) (omega arith))
+untouched (Some e) buffer r q = kept (bytes (Some e)) buffer (leb (length (bytes (Some e))) (length buffer)) r q
+untouched None buffer r q = rw (le-leb 0 (length buffer) (omega arith))
 
-from_first : (e : Encoded) (buffer : List ℕ) (n : ℕ) → outcome e (length buffer) ≡ done n
+from_first : (e : Option Encoded) (buffer : List ℕ) (n : ℕ) → outcome e (length buffer) ≡ done n
     → take n (buffer_after e buffer) ≡ bytes e
 unfolding outcome buffer_after
-from_first (One a) buffer n q = first (bytes (One a)) buffer (leb 1 (length buffer)) n q
-from_first (Two a b) buffer n q = first (bytes (Two a b)) buffer (leb 2 (length buffer)) n q
-from_first (Three a b c) buffer n q = first (bytes (Three a b c)) buffer (leb 3 (length buffer)) n q
-from_first Unencodable buffer n q = cc
+from_first (Some e) buffer n q = first (bytes (Some e)) buffer (leb (length (bytes (Some e))) (length buffer)) n q
+from_first None buffer n q = cc
 
 others_stay :
-    (e : Encoded) (buffer : List ℕ) (n : ℕ) → outcome e (length buffer) ≡ done n
+    (e : Option Encoded) (buffer : List ℕ) (n : ℕ) → outcome e (length buffer) ≡ done n
     → drop n (buffer_after e buffer) ≡ drop n buffer
 unfolding outcome buffer_after
-others_stay (One a) buffer n q = rest (bytes (One a)) buffer (leb 1 (length buffer)) n q
-others_stay (Two a b) buffer n q = rest (bytes (Two a b)) buffer (leb 2 (length buffer)) n q
-others_stay (Three a b c) buffer n q = rest (bytes (Three a b c)) buffer (leb 3 (length buffer)) n q
-others_stay Unencodable buffer n q = cc
+others_stay (Some e) buffer n q = rest (bytes (Some e)) buffer (leb (length (bytes (Some e))) (length buffer)) n q
+others_stay None buffer n q = cc
 
 pub write_effects : WriteEffects
 unfolding outcome

@@ -1,5 +1,5 @@
 -- The ends of long displacements, and the places where the manual misleads (document 01, "The opcode map").
-use Rattle.std.specs.Prelude.{ℕ, ◌-◌, ◌≡◌, true, false, List, [], ◌∷◌, ◌++◌, pos, negsuc, length, replicate}
+use Rattle.std.specs.Prelude.{ℕ, ◌-◌, ◌≡◌, true, false, List, [], ◌∷◌, ◌++◌, pos, negsuc, length, replicate, Some}
 use Rattle.isa.specs.Refusals.{done}
 use Rattle.isa.specs.Displacement.{long_displacement}
 use Rattle.isa.specs.Map.{form_of}
@@ -8,7 +8,6 @@ use Rattle.isa.specs.ControlFlow.{flow_of}
 use Rattle.isa.specs.declared.Operand.TheVariants.{Direct}
 use Rattle.isa.specs.declared.Instruction.{Instruction}
 use Rattle.isa.specs.declared.Instruction.TheVariants as I
-use Rattle.isa.specs.declared.Form.TheVariants.{Is}
 use Rattle.isa.specs.declared.Condition.TheVariants.{Zero, Bit}
 use Rattle.isa.specs.declared.Flow.{Flow}
 use Rattle.isa.specs.declared.Flow.TheVariants as flow
@@ -40,7 +39,7 @@ pub record ReturnOpcodes : Type 0 where
 -- "A bit number is the opcode's top three bits reversed: 23h tests bit 4."
 -- proved by decoding_cases, proofs/Cases
 abbrev pub TestedBit : Type 0
-TestedBit = (first second : ℕ) → form_of 0x23 first second ≡ Is (I.Jrr 4 first (long_displacement second))
+TestedBit = (first second : ℕ) → form_of 0x23 first second ≡ Some (I.Jrr 4 first (long_displacement second))
 
 -- "NOP is 04h, a JRZ to the next address. CLR A is DF FF, SLA A is 5F FF, and CLR of a data address is an LDI of 0.
 -- None of these four, NOP included, is a form of its own."

@@ -1,18 +1,17 @@
 -- The opcode map's counts, and the opcodes that it leaves undefined (document 01, "The opcode map").
-use Rattle.std.specs.Prelude.{ℕ, zero, suc, ◌+◌, ◌<◌, ◌≡◌, Bool, true, false, cond, not, ◌||◌, List, [], ◌∷◌, eqb}
+use Rattle.std.specs.Prelude.{ℕ, zero, suc, ◌+◌, ◌<◌, ◌≡◌, Bool, true, false, cond, not, ◌||◌, List, [], ◌∷◌, eqb, Option, Some, None}
 use Rattle.isa.specs.Table.{bytes_of, cycles_of}
 use Rattle.isa.specs.Map.{entry_of, form_of}
-use Rattle.isa.specs.declared.Form.{Form}
-use Rattle.isa.specs.declared.Form.TheVariants.{Is, Undefined}
+use Rattle.isa.specs.declared.Instruction.{Instruction}
 
 -- how many numbers below n pass the test
 abbrev pub count : (ℕ → Bool) → ℕ → ℕ
 count f zero = 0
 count f (suc n) = cond (f zero) 1 0 + count (λ k. f (suc k)) n
 
-abbrev pub is_undefined : Form → Bool
-is_undefined (Is i) = false
-is_undefined Undefined = true
+abbrev pub is_undefined : Option Instruction → Bool
+is_undefined (Some i) = false
+is_undefined None = true
 
 -- how many opcodes are defined, take n bytes, last n cycles
 abbrev pub defined : ℕ

@@ -1,49 +1,42 @@
 -- Decoding at a program address of an image (document 01, "Program space and data space" and "Decode at an address").
-use Rattle.std.specs.Prelude.{ℕ, cond, List, ltb, length}
+use Rattle.std.specs.Prelude.{ℕ, cond, List, ltb, length, Option, Some, None, Result, Ok, Err}
 use Rattle.isa.specs.Refusals.{plain, located, numbered, Answer, done, refused}
 use Rattle.isa.specs.Rom.{is_space, is_image, space_of, rom_at, operand_at}
 use Rattle.isa.specs.Table.{bytes_of, cycles_of}
 use Rattle.isa.specs.Map.{entry_of, form_of}
 use Rattle.isa.specs.declared.Instruction.{Instruction}
-use Rattle.isa.specs.declared.Form.{Form}
-use Rattle.isa.specs.declared.Form.TheVariants.{Is, Undefined}
 use Rattle.isa.specs.declared.Decoded.{Decoded}
-use Rattle.isa.specs.declared.Decoded.TheVariants.{Valid, Refused}
-use Rattle.isa.specs.declared.code.Code.{Code}
-use Rattle.isa.specs.declared.code.Code.TheVariants as code
-use Rattle.isa.specs.declared.code.Code.TheVariants.{Bytes}
-use Rattle.isa.specs.declared.rom.RomByte.{RomByte}
-use Rattle.isa.specs.declared.rom.RomByte.TheVariants.{Byte, Outside}
+use Rattle.isa.specs.declared.Refusal.{Refusal}
 
 -- what decoding answers where it does not refuse: an instruction with its length and its cycles
 pub data Decoding : Type 0 where
   instruction : Instruction → (length cycles : ℕ) → Decoding
 
 -- the program's answer by document 01's numbers
-abbrev pub answer_of : Decoded → Answer Decoding
-answer_of (Valid i bytes cycles) = done (instruction i bytes cycles)
-answer_of (Refused r) = refused (numbered r)
+abbrev pub answer_of : Result Decoded Refusal → Answer Decoding
+answer_of (Ok d) = done (instruction d.instruction d.length d.cycles)
+answer_of (Err r) = refused (numbered r)
 
 -- "5 undefined opcode"
-abbrev pub with_form : ℕ → ℕ → Form → Answer Decoding
-with_form address opcode (Is i) = done (instruction i (bytes_of (entry_of opcode)) (cycles_of (entry_of opcode)))
-with_form address opcode Undefined = refused (located 5 address)
+abbrev pub with_form : ℕ → ℕ → Option Instruction → Answer Decoding
+with_form address opcode (Some i) = done (instruction i (bytes_of (entry_of opcode)) (cycles_of (entry_of opcode)))
+with_form address opcode None = refused (located 5 address)
 
 -- "4 operand byte outside ROM". An undefined opcode has no operand bytes, so that 5 comes before this 4
-abbrev pub with_second : ℕ → ℕ → ℕ → RomByte → Answer Decoding
-with_second address opcode first (Byte second) = with_form address opcode (form_of opcode first second)
-with_second address opcode first Outside = refused (located 4 address)
+abbrev pub with_second : ℕ → ℕ → ℕ → Option ℕ → Answer Decoding
+with_second address opcode first (Some second) = with_form address opcode (form_of opcode first second)
+with_second address opcode first None = refused (located 4 address)
 
-abbrev pub with_first : List ℕ → ℕ → ℕ → RomByte → Answer Decoding
-with_first image address opcode (Byte first) =
+abbrev pub with_first : List ℕ → ℕ → ℕ → Option ℕ → Answer Decoding
+with_first image address opcode (Some first) =
     with_second address opcode first (operand_at image address 2 (bytes_of (entry_of opcode)))
-with_first image address opcode Outside = refused (located 4 address)
+with_first image address opcode None = refused (located 4 address)
 
 -- "4 opcode byte outside ROM"
-abbrev pub with_opcode : List ℕ → ℕ → RomByte → Answer Decoding
-with_opcode image address (Byte opcode) =
+abbrev pub with_opcode : List ℕ → ℕ → Option ℕ → Answer Decoding
+with_opcode image address (Some opcode) =
     with_first image address opcode (operand_at image address 1 (bytes_of (entry_of opcode)))
-with_opcode image address Outside = refused (located 4 address)
+with_opcode image address None = refused (located 4 address)
 
 -- "4 opcode byte outside ROM; 5 undefined opcode; 4 operand byte outside ROM": what stands at an address of program
 -- space
@@ -51,9 +44,9 @@ abbrev pub decode_of : List ℕ → ℕ → Answer Decoding
 decode_of image address = with_opcode image address (rom_at image address)
 
 -- what decoding makes of an instruction's bytes: the opcode and the two bytes that follow
-abbrev pub code_as : ℕ → Code → Answer Decoding
-code_as address (Bytes opcode first second) = with_form address opcode (form_of opcode first second)
-code_as address code.Outside = refused (located 4 address)
+abbrev pub code_as : ℕ → Option (ℕ × ℕ × ℕ) → Answer Decoding
+code_as address (Some bytes) = with_form address bytes.0 (form_of bytes.0 bytes.1 bytes.2)
+code_as address None = refused (located 4 address)
 
 -- "Decode at an address: 1 image length; 3 address above FFFh", of program space as it stands
 unfoldable pub decode_at : List ℕ → ℕ → Answer Decoding

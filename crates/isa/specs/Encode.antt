@@ -1,6 +1,6 @@
 -- The bytes of each instruction, by the opcodes of the manual's pages, and writing them (document 01, "Write an
 -- instruction").
-use Rattle.std.specs.Prelude.{ℕ, ◌+◌, ◌-◌, ◌*◌, ◌/◌, ◌%◌, ◌^◌, Bool, cond, ◌&&◌, List, [], ◌∷◌, ltb, ℤ}
+use Rattle.std.specs.Prelude.{ℕ, ◌+◌, ◌-◌, ◌*◌, ◌/◌, ◌%◌, ◌^◌, Bool, cond, ◌&&◌, List, [], ◌∷◌, ltb, ℤ, Option, Some, None}
 use Rattle.std.specs.Int.Signed.{mag}
 use Rattle.isa.specs.Displacement.{modulo}
 use Rattle.isa.specs.declared.Operand.{Operand}
@@ -8,55 +8,55 @@ use Rattle.isa.specs.declared.Operand.TheVariants.{Direct, Short, ThroughX, Thro
 use Rattle.isa.specs.declared.Instruction.{Instruction}
 use Rattle.isa.specs.declared.Instruction.TheVariants as I
 use Rattle.isa.specs.declared.Encoded.{Encoded}
-use Rattle.isa.specs.declared.Encoded.TheVariants.{One, Two, Three, Unencodable}
+use Rattle.isa.specs.declared.Encoded.TheVariants.{One, Two, Three}
 
 -- whether a displacement lies in a signed field of the given count of bits; `mag` is n for n and for -(n + 1)
 abbrev pub in_field : ℕ → ℤ → Bool
 in_field bits d = ltb (mag d) (2 ^ (bits - 1))
 
 -- an opcode with one operand byte, and with two; "8 operand beyond its field": the field is a byte
-abbrev pub with_byte : ℕ → ℕ → Encoded
-with_byte opcode first = cond (ltb first 256) (Two opcode first) Unencodable
+abbrev pub with_byte : ℕ → ℕ → Option Encoded
+with_byte opcode first = cond (ltb first 256) (Some (Two opcode first)) None
 
-abbrev pub with_bytes : ℕ → ℕ → ℕ → Encoded
-with_bytes opcode first second = cond (ltb first 256 && ltb second 256) (Three opcode first second) Unencodable
+abbrev pub with_bytes : ℕ → ℕ → ℕ → Option Encoded
+with_bytes opcode first second = cond (ltb first 256 && ltb second 256) (Some (Three opcode first second)) None
 
 -- a short jump: the displacement in the top five bits
-abbrev pub short_jump : ℕ → ℤ → Encoded
-short_jump base d = cond (in_field 5 d) (One (modulo 32 d * 8 + base)) Unencodable
+abbrev pub short_jump : ℕ → ℤ → Option Encoded
+short_jump base d = cond (in_field 5 d) (Some (One (modulo 32 d * 8 + base))) None
 
 -- CALL or JP: the target's lowest digit is the opcode's high one, its upper two are the second byte
-abbrev pub extended_jump : ℕ → ℕ → Encoded
-extended_jump base target = cond (ltb target 4096) (Two (target % 16 * 16 + base) (target / 16)) Unencodable
+abbrev pub extended_jump : ℕ → ℕ → Option Encoded
+extended_jump base target = cond (ltb target 4096) (Some (Two (target % 16 * 16 + base) (target / 16))) None
 
 -- an opcode with a bit number: its three bits reversed stand at the top
 abbrev pub with_bit : ℕ → ℕ → ℕ
 with_bit base bit = (bit % 2 * 4 + bit / 2 % 2 * 2 + bit / 4) * 32 + base
 
-abbrev pub bit_jump : ℕ → ℕ → ℕ → ℤ → Encoded
+abbrev pub bit_jump : ℕ → ℕ → ℕ → ℤ → Option Encoded
 bit_jump base bit address d =
-    cond (ltb bit 8 && in_field 8 d) (with_bytes (with_bit base bit) address (modulo 256 d)) Unencodable
+    cond (ltb bit 8 && in_field 8 d) (with_bytes (with_bit base bit) address (modulo 256 d)) None
 
-abbrev pub bit_direct : ℕ → ℕ → ℕ → Encoded
-bit_direct base bit address = cond (ltb bit 8) (with_byte (with_bit base bit) address) Unencodable
+abbrev pub bit_direct : ℕ → ℕ → ℕ → Option Encoded
+bit_direct base bit address = cond (ltb bit 8) (with_byte (with_bit base bit) address) None
 
 -- an instruction on a data operand, by its opcodes for (X), (Y) and rr; "of a kind the map lacks for it": a short
 -- operand
-abbrev pub on_data : ℕ → ℕ → ℕ → Operand → Encoded
+abbrev pub on_data : ℕ → ℕ → ℕ → Operand → Option Encoded
 on_data x y rr (Direct address) = with_byte rr address
-on_data x y rr (Short register) = Unencodable
-on_data x y rr ThroughX = One x
-on_data x y rr ThroughY = One y
+on_data x y rr (Short register) = None
+on_data x y rr ThroughX = Some (One x)
+on_data x y rr ThroughY = Some (One y)
 
 -- the same with a short operand too, by the opcode for X
-abbrev pub on_short : ℕ → ℕ → ℕ → ℕ → Operand → Encoded
+abbrev pub on_short : ℕ → ℕ → ℕ → ℕ → Operand → Option Encoded
 on_short short x y rr (Direct address) = with_byte rr address
-on_short short x y rr (Short register) = cond (ltb register 4) (One (register * 64 + short)) Unencodable
-on_short short x y rr ThroughX = One x
-on_short short x y rr ThroughY = One y
+on_short short x y rr (Short register) = cond (ltb register 4) (Some (One (register * 64 + short))) None
+on_short short x y rr ThroughX = Some (One x)
+on_short short x y rr ThroughY = Some (One y)
 
--- the bytes of each instruction
-unfoldable pub encode_of : Instruction → Encoded
+-- the bytes of each instruction; none of one with an operand beyond its field or of a kind that the map lacks
+unfoldable pub encode_of : Instruction → Option Encoded
 encode_of (I.Jrnz d) = short_jump 0x00 d
 encode_of (I.Jrnc d) = short_jump 0x02 d
 encode_of (I.Jrz d) = short_jump 0x04 d
@@ -81,16 +81,16 @@ encode_of (I.And o) = on_data 0xA7 0xAF 0xBF o
 encode_of (I.AndImmediate n) = with_byte 0xB7 n
 encode_of (I.Cp o) = on_data 0x27 0x2F 0x3F o
 encode_of (I.CpImmediate n) = with_byte 0x37 n
-encode_of I.Com = One 0x2D
-encode_of I.Rlc = One 0xAD
-encode_of I.Ret = One 0xCD
-encode_of I.Reti = One 0x4D
-encode_of I.Stop = One 0x6D
-encode_of I.Wait = One 0xED
+encode_of I.Com = Some (One 0x2D)
+encode_of I.Rlc = Some (One 0xAD)
+encode_of I.Ret = Some (One 0xCD)
+encode_of I.Reti = Some (One 0x4D)
+encode_of I.Stop = Some (One 0x6D)
+encode_of I.Wait = Some (One 0xED)
 
 -- the bytes as a list
-abbrev pub bytes : Encoded → List ℕ
-bytes (One a) = a ∷ []
-bytes (Two a b) = a ∷ b ∷ []
-bytes (Three a b c) = a ∷ b ∷ c ∷ []
-bytes Unencodable = []
+abbrev pub bytes : Option Encoded → List ℕ
+bytes (Some (One a)) = a ∷ []
+bytes (Some (Two a b)) = a ∷ b ∷ []
+bytes (Some (Three a b c)) = a ∷ b ∷ c ∷ []
+bytes None = []

@@ -1,5 +1,5 @@
 -- Refusals by the numbers of document 01 ("What each operation turns down") and of document 02.
-use Rattle.std.specs.Prelude.{ℕ, Bool, true, false}
+use Rattle.std.specs.Prelude.{ℕ, Bool, true, false, Result, Ok, Err}
 use Rattle.isa.specs.declared.Number.{Number}
 use Rattle.isa.specs.declared.Number.TheVariants.{Plain, Located}
 use Rattle.isa.specs.declared.Refusal.{Refusal}
@@ -59,6 +59,11 @@ as_numbered (Located n a) = located n a
 pub data Answer (A : Type 0) : Type 0 where
   done : A → Answer A
   refused : Numbered → Answer A
+
+-- the program's answer by these numbers
+abbrev pub answered : {A : Type 0} → Result A Refusal → Answer A
+answered (Ok v) = done v
+answered (Err r) = refused (numbered r)
 
 -- .. of an operation that answers no value
 abbrev pub Ended : Type 0

@@ -1,8 +1,7 @@
 -- The image's bytes by program address (document 01, "Program space and data space"; document 02, W-210).
-use Rattle.std.specs.Prelude.{ℕ, suc, ◌+◌, ◌-◌, ◌*◌, ◌/◌, ◌%◌, ◌≡◌, ◌⊎◌, Bool, true, cond, ◌||◌, ◌&&◌, List, ◌++◌, eqb, ltb, leb, length, get_or, take, drop}
+use Rattle.std.specs.Prelude.{ℕ, suc, ◌+◌, ◌-◌, ◌*◌, ◌/◌, ◌%◌, ◌≡◌, ◌⊎◌, Bool, true, cond, ◌||◌, ◌&&◌, List, ◌++◌, eqb, ltb, leb, length, get_or, take, drop, Option, Some, None}
 use Rattle.isa.specs.Displacement.{forward_of}
-use Rattle.isa.specs.declared.rom.RomByte.{RomByte}
-use Rattle.isa.specs.declared.rom.RomByte.TheVariants.{Byte, Outside}
+use Rattle.isa.specs.declared.rom.Space.{Space}
 
 -- how many bytes program space can have as it stands: 2048 (800h to FFFh), or 4096 (000h to FFFh) with a page in place
 abbrev pub is_space : ℕ → Bool
@@ -41,19 +40,27 @@ space_of image bank = page_of image bank ++ fixed_of image
 abbrev pub Halves : List ℕ → List ℕ → Type 0
 Halves page fixed = ((length page ≡ 0) ⊎ (length page ≡ 2048)) × (length fixed ≡ 2048)
 
+-- .. of a space, and its bytes
+abbrev pub IsWhole : Space → Type 0
+IsWhole space = Halves space.page.now space.fixed.now
+
+abbrev pub bytes_in : Space → List ℕ
+bytes_in space = space.page.now ++ space.fixed.now
+
 -- "Instruction bytes are handed over from the page or from the fixed half": the one in which an address lies
 unfoldable pub half_of : (page fixed : List ℕ) → (address : ℕ) → List ℕ
 half_of page fixed address = cond (ltb address 2048) page fixed
 
--- the ROM byte at a program address of an image as it stands in program space: its last byte stands at FFFh
-unfoldable pub rom_at : List ℕ → ℕ → RomByte
+-- the ROM byte at a program address of an image as it stands in program space: its last byte stands at FFFh; none
+-- outside ROM
+unfoldable pub rom_at : List ℕ → ℕ → Option ℕ
 rom_at image address =
     cond (ltb address 4096)
-    (cond (leb 4096 (address + length image)) (Byte (get_or image (address + length image - 4096) 0)) Outside)
-    Outside
+    (cond (leb 4096 (address + length image)) (Some (get_or image (address + length image - 4096) 0)) None)
+    None
 
 -- "an operand byte after FFFh is the one at 000h": the byte at an offset from the opcode, and 0 where the instruction
 -- is shorter
-unfoldable pub operand_at : List ℕ → ℕ → ℕ → ℕ → RomByte
+unfoldable pub operand_at : List ℕ → ℕ → ℕ → ℕ → Option ℕ
 operand_at image address offset bytes =
-    cond (ltb offset bytes) (rom_at image (forward_of address offset)) (Byte 0)
+    cond (ltb offset bytes) (rom_at image (forward_of address offset)) (Some 0)

@@ -1,5 +1,5 @@
 -- Writing and decoding undo one another (document 01, "The opcode map" and "Write an instruction").
-use Rattle.std.specs.Prelude.{ℕ, ◌<◌, ◌≡◌, ◌↔◌, true, List, length, get_or}
+use Rattle.std.specs.Prelude.{ℕ, ◌<◌, ◌≡◌, ◌↔◌, true, List, length, get_or, Some, None}
 use Rattle.isa.specs.Refusals.{plain, done, refused}
 use Rattle.isa.specs.Displacement.{forward_of}
 use Rattle.isa.specs.Table.{cycles_of}
@@ -9,8 +9,6 @@ use Rattle.isa.specs.Decode.{instruction, decode_in}
 use Rattle.isa.specs.Write.{outcome}
 use Rattle.isa.specs.Encode.{encode_of, bytes}
 use Rattle.isa.specs.declared.Instruction.{Instruction}
-use Rattle.isa.specs.declared.Encoded.TheVariants.{Unencodable}
-use Rattle.isa.specs.declared.rom.RomByte.TheVariants.{Byte}
 
 -- every element is a byte: what a slice of u8 holds
 abbrev pub Bytes : List ℕ → Type 0
@@ -18,14 +16,14 @@ Bytes image = (j : ℕ) → get_or image j 0 < 256
 
 -- the bytes stand in program space from an address on; "an operand byte after FFFh is the one at 000h"
 abbrev pub Holds : List ℕ → ℕ → List ℕ → Type 0
-Holds image a bs = (j : ℕ) → j < length bs → rom_at image (forward_of a j) ≡ Byte (get_or bs j 0)
+Holds image a bs = (j : ℕ) → j < length bs → rom_at image (forward_of a j) ≡ Some (get_or bs j 0)
 
 -- "An instruction decodes to one of the manual's forms with its operands": every instruction that is not refused does,
 -- wherever its bytes stand, in a page too, and with the length and the cycles of its opcode
 -- proved by written_decodes, proofs/InImage
 abbrev pub WrittenDecodes : Type 0
 WrittenDecodes =
-    (i : Instruction) → (encode_of i ≡ Unencodable → ⊥) →
+    (i : Instruction) → (encode_of i ≡ None → ⊥) →
     (image : List ℕ) → is_image (length image) ≡ true →
     (bank a : ℕ) → a < 4096 → Holds (space_of image bank) a (bytes (encode_of i)) →
     decode_in image bank a ≡

@@ -5,7 +5,8 @@ ghost use Rattle.isa.specs.ControlFlow.{short_of, long_of, flow_of};
 use crate::displacement::{long_target, short_target};
 use crate::{Condition, Flow, Instruction};
 
-// A branch by a short displacement, counted from the next address.
+// A branch by a short displacement, counted from the next address. This and `long` stay two functions: given the
+// function of the target, one for both would make no call shorter.
 pub fn short(condition: Condition, address: u16, displacement: i8) -> Flow
     ensures { result ≡ short_of condition address displacement }
 {
@@ -26,6 +27,7 @@ pub fn long(condition: Condition, address: u16, displacement: i8) -> Flow
 }
 
 // Where the instruction at an address continues.
+#[tactic(auto, unfolding(crate::specs::ControlFlow::flow_of))]
 pub fn flow_of(i: Instruction, at: u16) -> Flow
     ensures { result ≡ flow_of i at }
 {

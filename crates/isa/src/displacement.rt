@@ -72,5 +72,5 @@ pub fn long_target(address: u16, displacement: i8) -> u16
 pub fn is_short(displacement: i8) -> bool
     ensures { result ≡ in_field 5 displacement }
 {
-    -16 <= displacement && displacement <= 15
+    (-16..=15).contains(&displacement)
 }

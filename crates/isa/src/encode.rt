@@ -1,5 +1,5 @@
-// From an instruction to its bytes.
-ghost use Rattle.std.specs.Prelude.{◌≡◌, ◌<◌, ◌≤◌};
+// From an instruction to its bytes: none where an operand lies beyond its field or is of a kind that the map lacks.
+ghost use Rattle.std.specs.Prelude.{◌≡◌, ◌<◌};
 ghost use Rattle.isa.specs.Encode.{with_byte, with_bytes, with_bit, short_jump, extended_jump};
 ghost use Rattle.isa.specs.Encode.{bit_direct, bit_jump, on_data, on_short, encode_of};
 
@@ -7,40 +7,41 @@ use crate::displacement::{is_short, long_byte, short_field};
 use crate::{Encoded, Instruction, Operand};
 
 // An opcode with one operand byte.
-fn with_byte(opcode: u8, first: u8) -> Encoded
+fn with_byte(opcode: u8, first: u8) -> Option<Encoded>
     ensures { result ≡ with_byte opcode first }
 {
-    Encoded::Two(opcode, first)
+    Some(Encoded::Two(opcode, first))
 }
 
 // An opcode with two operand bytes.
-fn with_bytes(opcode: u8, first: u8, second: u8) -> Encoded
+fn with_bytes(opcode: u8, first: u8, second: u8) -> Option<Encoded>
     ensures { result ≡ with_bytes opcode first second }
 {
-    Encoded::Three(opcode, first, second)
+    Some(Encoded::Three(opcode, first, second))
 }
 
 // A short jump. `base` is the opcode at displacement 0.
-fn short_jump(base: u8, displacement: i8) -> Encoded
+fn short_jump(base: u8, displacement: i8) -> Option<Encoded>
     requires { base < 8 }
     ensures { result ≡ short_jump base displacement }
 {
     if is_short(displacement) {
-        Encoded::One(short_field(displacement) * 8 + base)
+        Some(Encoded::One(short_field(displacement) * 8 + base))
     } else {
-        Encoded::Unencodable
+        None
     }
 }
 
 // CALL or JP. `base` is the opcode at a target whose lowest digit is 0.
-fn extended_jump(base: u8, target: u16) -> Encoded
+fn extended_jump(base: u8, target: u16) -> Option<Encoded>
     requires { base < 16 }
     ensures { result ≡ extended_jump base target }
 {
     if target < 4096 {
-        Encoded::Two((target % 16 * 16) as u8 + base, (target / 16) as u8)
+        let [low, high] = (target * 16).to_le_bytes();
+        Some(Encoded::Two(low + base, high))
     } else {
-        Encoded::Unencodable
+        None
     }
 }
 
@@ -49,47 +50,47 @@ fn with_bit(base: u8, bit: u8) -> u8
     requires { (base < 32) × (bit < 8) }
     ensures { result ≡ with_bit base bit }
 {
-    (bit % 2 * 4 + bit / 2 % 2 * 2 + bit / 4) * 32 + base
+    bit.reverse_bits() + base
 }
 
 // JRR or JRS.
-fn bit_jump(base: u8, bit: u8, address: u8, displacement: i8) -> Encoded
+fn bit_jump(base: u8, bit: u8, address: u8, displacement: i8) -> Option<Encoded>
     requires { base < 32 }
     ensures { result ≡ bit_jump base bit address displacement }
 {
     if bit < 8 {
         with_bytes(with_bit(base, bit), address, long_byte(displacement))
     } else {
-        Encoded::Unencodable
+        None
     }
 }
 
 // RES or SET.
-fn bit_direct(base: u8, bit: u8, address: u8) -> Encoded
+fn bit_direct(base: u8, bit: u8, address: u8) -> Option<Encoded>
     requires { base < 32 }
     ensures { result ≡ bit_direct base bit address }
 {
     if bit < 8 {
         with_byte(with_bit(base, bit), address)
     } else {
-        Encoded::Unencodable
+        None
     }
 }
 
 // An instruction on a data operand, by its opcodes for (X), (Y) and rr.
-fn on_data(x: u8, y: u8, rr: u8, operand: Operand) -> Encoded
+fn on_data(x: u8, y: u8, rr: u8, operand: Operand) -> Option<Encoded>
     ensures { result ≡ on_data x y rr operand }
 {
     match operand {
         Operand::Direct(address) => with_byte(rr, address),
-        Operand::Short(_) => Encoded::Unencodable,
-        Operand::ThroughX => Encoded::One(x),
-        Operand::ThroughY => Encoded::One(y),
+        Operand::Short(_) => None,
+        Operand::ThroughX => Some(Encoded::One(x)),
+        Operand::ThroughY => Some(Encoded::One(y)),
     }
 }
 
 // The same with a short operand too, by the opcode for register X.
-fn on_short(short: u8, x: u8, y: u8, rr: u8, operand: Operand) -> Encoded
+fn on_short(short: u8, x: u8, y: u8, rr: u8, operand: Operand) -> Option<Encoded>
     requires { short < 64 }
     ensures { result ≡ on_short short x y rr operand }
 {
@@ -97,18 +98,19 @@ fn on_short(short: u8, x: u8, y: u8, rr: u8, operand: Operand) -> Encoded
         Operand::Direct(address) => with_byte(rr, address),
         Operand::Short(register) => {
             if register < 4 {
-                Encoded::One(register * 64 + short)
+                Some(Encoded::One(register * 64 + short))
             } else {
-                Encoded::Unencodable
+                None
             }
         }
-        Operand::ThroughX => Encoded::One(x),
-        Operand::ThroughY => Encoded::One(y),
+        Operand::ThroughX => Some(Encoded::One(x)),
+        Operand::ThroughY => Some(Encoded::One(y)),
     }
 }
 
 // The bytes of an instruction.
-pub fn encode(instruction: Instruction) -> Encoded
+#[tactic(auto, unfolding(crate::specs::Encode::encode_of))]
+pub fn encode(instruction: Instruction) -> Option<Encoded>
     ensures { result ≡ encode_of instruction }
 {
     match instruction {
@@ -136,11 +138,11 @@ pub fn encode(instruction: Instruction) -> Encoded
         Instruction::AndImmediate(n) => with_byte(0xB7, n),
         Instruction::Cp(o) => on_data(0x27, 0x2F, 0x3F, o),
         Instruction::CpImmediate(n) => with_byte(0x37, n),
-        Instruction::Com => Encoded::One(0x2D),
-        Instruction::Rlc => Encoded::One(0xAD),
-        Instruction::Ret => Encoded::One(0xCD),
-        Instruction::Reti => Encoded::One(0x4D),
-        Instruction::Stop => Encoded::One(0x6D),
-        Instruction::Wait => Encoded::One(0xED),
+        Instruction::Com => Some(Encoded::One(0x2D)),
+        Instruction::Rlc => Some(Encoded::One(0xAD)),
+        Instruction::Ret => Some(Encoded::One(0xCD)),
+        Instruction::Reti => Some(Encoded::One(0x4D)),
+        Instruction::Stop => Some(Encoded::One(0x6D)),
+        Instruction::Wait => Some(Encoded::One(0xED)),
     }
 }

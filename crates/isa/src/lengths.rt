@@ -10,8 +10,6 @@ pub fn length_with(operand: Operand) -> u8
 {
     match operand {
         Operand::Direct(_) => 2,
-        Operand::Short(_) => 1,
-        Operand::ThroughX => 1,
-        Operand::ThroughY => 1,
+        Operand::Short(_) | Operand::ThroughX | Operand::ThroughY => 1,
     }
 }

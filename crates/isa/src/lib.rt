@@ -19,7 +19,7 @@ pub mod table;
 pub mod write;
 
 // A data operand: where an instruction finds its byte in data space.
-#[derive(Clone, Copy)]
+#[derive(Clone, Copy, Debug, PartialEq, Eq)]
 pub enum Operand {
     Direct(u8),
     // 0 to 3: X, Y, V, W.
@@ -29,7 +29,7 @@ pub enum Operand {
 }
 
 // One case for each of the manual's forms.
-#[derive(Clone, Copy)]
+#[derive(Clone, Copy, Debug, PartialEq, Eq)]
 pub enum Instruction {
     // Short displacements, counted from the next address.
     Jrnz(i8),
@@ -69,16 +69,9 @@ pub enum Instruction {
     Wait,
 }
 
-// What the opcode map holds for an opcode with its operand bytes.
-#[derive(Drop)]
-pub enum Form {
-    Is(Instruction),
-    Undefined,
-}
-
 // Why an operation was refused or stopped, in the order of the papers' numbers 1 to 30, with the address where they
 // give one.
-#[derive(Clone, Copy)]
+#[derive(Clone, Copy, Debug, PartialEq, Eq)]
 pub enum Refusal {
     ImageLength,
     IllFormedMachine,
@@ -112,42 +105,31 @@ pub enum Refusal {
     RecordTooLong,
 }
 
-// A refusal's number, alone or with an address.
-#[derive(Drop)]
+// A refusal's number, alone or with an address: no Option, since the number is always there.
+#[derive(Clone, Copy, Debug, PartialEq, Eq)]
 pub enum Number {
     Plain(u8),
     Located(u8, u16),
 }
 
-// What stands at a program address.
-#[derive(Clone, Copy)]
-pub enum Decoded {
-    Valid {
-        instruction: Instruction,
-        length: u8,
-        cycles: u8,
-    },
-    Refused(Refusal),
+// What stands at a program address: an instruction with its length and its cycles.
+#[derive(Clone, Copy, Debug, PartialEq, Eq)]
+pub struct Decoded {
+    pub instruction: Instruction,
+    pub length: u8,
+    pub cycles: u8,
 }
 
-// An instruction's bytes, or that an operand lies beyond its field or is of a kind that the map lacks.
-#[derive(Drop)]
+// An instruction's bytes.
+#[derive(Clone, Copy, Debug, PartialEq, Eq)]
 pub enum Encoded {
     One(u8),
     Two(u8, u8),
     Three(u8, u8, u8),
-    Unencodable,
-}
-
-// The answer of writing an instruction: how many bytes were written.
-#[derive(Drop)]
-pub enum Written {
-    Done(u8),
-    Refused(Refusal),
 }
 
 // What a branch tests, and the value at which it jumps: the flag Z or C, or a bit of a data byte.
-#[derive(Clone, Copy)]
+#[derive(Clone, Copy, Debug, PartialEq, Eq)]
 pub enum Condition {
     Zero(bool),
     Carry(bool),
@@ -155,7 +137,7 @@ pub enum Condition {
 }
 
 // Where an instruction may continue.
-#[derive(Clone, Copy)]
+#[derive(Clone, Copy, Debug, PartialEq, Eq)]
 pub enum Flow {
     // At the next address.
     Next,
@@ -171,14 +153,14 @@ pub enum Flow {
 }
 
 // Where the instruction at a program address continues, with the address after it.
-#[derive(Drop)]
-pub enum Continuation {
-    Valid { flow: Flow, next: u16 },
-    Refused(Refusal),
+#[derive(Clone, Copy, Debug, PartialEq, Eq)]
+pub struct Continuation {
+    pub flow: Flow,
+    pub next: u16,
 }
 
 // What may ask for a service, in the order of a request byte's bits 0 to 4: NMI and sources 1 to 4.
-#[derive(Clone, Copy)]
+#[derive(Clone, Copy, Debug, PartialEq, Eq)]
 pub enum Source {
     Nmi,
     First,

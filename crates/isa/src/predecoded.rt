@@ -24,11 +24,7 @@ const FIRST_OPERATION: u64 = 12;
 fn word(code: u8, cycles: u8, a: u8, b: u8, c: u8) -> u64
     ensures { IsWord result (instruction_by_code code a b c) cycles }
 {
-    c as u64 * 0x100000000
-        + b as u64 * 0x1000000
-        + a as u64 * 0x10000
-        + cycles as u64 * 0x100
-        + code as u64
+    u64::from_le_bytes([code, cycles, a, b, c, 0, 0, 0])
 }
 
 // The number of a code that has an operand: the code with its kind.
@@ -45,6 +41,7 @@ fn on(code: u8, cycles: u8, operand: Operand) -> u64
 }
 
 // The number of an instruction.
+#[tactic(auto, unfolding(crate::specs::Predecoded::instruction_by_code))]
 fn word_of(instruction: Instruction, cycles: u8) -> u64
     ensures { IsWord result instruction cycles }
 {
@@ -53,8 +50,14 @@ fn word_of(instruction: Instruction, cycles: u8) -> u64
         Instruction::Jrnc(d) => word(1, cycles, long_byte(d), 0, 0),
         Instruction::Jrz(d) => word(2, cycles, long_byte(d), 0, 0),
         Instruction::Jrc(d) => word(3, cycles, long_byte(d), 0, 0),
-        Instruction::Call(to) => word(4, cycles, (to % 256) as u8, (to / 256) as u8, 0),
-        Instruction::Jp(to) => word(5, cycles, (to % 256) as u8, (to / 256) as u8, 0),
+        Instruction::Call(to) => {
+            let [low, high] = to.to_le_bytes();
+            word(4, cycles, low, high, 0)
+        }
+        Instruction::Jp(to) => {
+            let [low, high] = to.to_le_bytes();
+            word(5, cycles, low, high, 0)
+        }
         Instruction::Jrr(bit, at, d) => word(6, cycles, bit, at, long_byte(d)),
         Instruction::Jrs(bit, at, d) => word(7, cycles, bit, at, long_byte(d)),
         Instruction::Res(first, second) => word(12, cycles, first, second, 0),
@@ -117,27 +120,19 @@ pub fn is_transfer(word: u64) -> bool
     word % 0x100 < FIRST_OPERATION
 }
 
-// A target of two bytes.
-fn target(low: u8, high: u8) -> u16
-    ensures { result ≡ low + high * 256 }
-{
-    low as u16 + high as u16 * 256
-}
-
 // The instruction of a number, where it may go elsewhere.
+#[tactic(auto, unfolding(crate::specs::Predecoded::instruction_by_code))]
 pub fn transfer_in(word: u64) -> Instruction
     ensures { word % 256 < 12 → result ≡ instruction_of_word word }
 {
-    let a = (word / 0x10000 % 0x100) as u8;
-    let b = (word / 0x1000000 % 0x100) as u8;
-    let c = (word / 0x100000000 % 0x100) as u8;
-    match word % 0x100 {
+    let [code, _, a, b, c, ..] = word.to_le_bytes();
+    match code {
         0 => Instruction::Jrnz(long_displacement(a)),
         1 => Instruction::Jrnc(long_displacement(a)),
         2 => Instruction::Jrz(long_displacement(a)),
         3 => Instruction::Jrc(long_displacement(a)),
-        4 => Instruction::Call(target(a, b)),
-        5 => Instruction::Jp(target(a, b)),
+        4 => Instruction::Call(u16::from_le_bytes([a, b])),
+        5 => Instruction::Jp(u16::from_le_bytes([a, b])),
         6 => Instruction::Jrr(a, b, long_displacement(c)),
         7 => Instruction::Jrs(a, b, long_displacement(c)),
         8 => Instruction::Ret,
@@ -149,12 +144,12 @@ pub fn transfer_in(word: u64) -> Instruction
 
 // The instruction of a number, where it goes on at the next address. One match, though it is long: in two functions it
 // costs a run one more jump in each step, 4 % of its time.
+#[tactic(auto, unfolding(crate::specs::Predecoded::instruction_by_code))]
 pub fn operation_in(word: u64) -> Instruction
     ensures { 12 ≤ word % 256 → result ≡ instruction_of_word word }
 {
-    let a = (word / 0x10000 % 0x100) as u8;
-    let b = (word / 0x1000000 % 0x100) as u8;
-    match word % 0x100 {
+    let [code, _, a, b, ..] = word.to_le_bytes();
+    match code {
         12 => Instruction::Res(a, b),
         13 => Instruction::Set(a, b),
         14 => Instruction::LoadA(Operand::Direct(a)),

@@ -1,7 +1,8 @@
 // The image's bytes by program address. Program space as it stands is a page, or nothing, below 800h, and the fixed half
-// above. What is promised of two halves holds where their lengths are those of a page, or nothing, and of a fixed half.
-ghost use Rattle.std.specs.Prelude.{◌≡◌, true, ◌++◌, ◌<◌, ◌%◌};
-ghost use Rattle.isa.specs.Rom.{is_image, is_space, spaces_in, page_of, fixed_of, Halves, half_of, rom_at, operand_at};
+// above. What is promised of a space holds where the lengths are those of a page, or nothing, and of a fixed half.
+ghost use Rattle.std.specs.Prelude.{◌≡◌, true, ◌<◌, ◌%◌};
+ghost use Rattle.isa.specs.Rom.{is_image, is_space, spaces_in, page_of, fixed_of, half_of};
+ghost use Rattle.isa.specs.Rom.{IsWhole, bytes_in, rom_at, operand_at};
 
 use crate::displacement::forward;
 use crate::parts::{fixed_in, page_in};
@@ -14,20 +15,19 @@ pub const HALF_SPACE: usize = 2048;
 // The longest image: nine pages and the fixed half.
 const LONGEST: usize = 20480;
 
-#[derive(Drop)]
-pub enum RomByte {
-    Byte(u8),
-    Outside,
+// Program space as it stands: a page, or nothing, and the fixed half.
+#[derive(Clone, Copy)]
+pub struct Space<'a> {
+    pub page: &'a [u8],
+    pub fixed: &'a [u8],
 }
 
-// Whether an image may have this many bytes.
+// Whether an image may have this many bytes. That it may is a premise of contracts (`IsImage`) and no type: so each
+// function, here and in the crates above, takes any slice, and promises what it did of every one.
 pub fn is_image_length(length: usize) -> bool
     ensures { result ≡ is_image length }
 {
-    if length % HALF_SPACE != 0 {
-        return false;
-    }
-    HALF_SPACE <= length && length <= LONGEST
+    length % HALF_SPACE == 0 && (HALF_SPACE..=LONGEST).contains(&length)
 }
 
 // Whether program space as it stands may have this many bytes: the lengths of an image that needs no bank byte.
@@ -38,17 +38,11 @@ pub fn is_space_length(length: usize) -> bool
 }
 
 // In how many ways program space can stand: one for each page of an image of this many bytes, and one where there are
-// none.
+// none. An image of one half counts as of two; the bounds keep the number a byte, whatever the length.
 pub fn spaces_in(length: usize) -> u8
     ensures { is_image length ≡ true → result ≡ spaces_in length }
 {
-    if length <= PROGRAM_SPACE {
-        return 1;
-    }
-    if LONGEST < length {
-        return 1;
-    }
-    (length / HALF_SPACE - 1) as u8
+    (length / HALF_SPACE).clamp(2, LONGEST / HALF_SPACE) as u8 - 1
 }
 
 // The number of the page that a bank byte picks; 0 where there is nothing to pick. Without a division where it is the
@@ -67,6 +61,7 @@ pub fn page_number(length: usize, bank: u8) -> u8
 }
 
 // The page that a bank byte picks; none of an image of one half.
+#[tactic(auto, unfolding(crate::specs::Rom::page_of))]
 pub fn page_of(image: &[u8], bank: u8) -> &[u8]
     ensures { result.now ≡ page_of image.now bank }
 {
@@ -77,6 +72,7 @@ pub fn page_of(image: &[u8], bank: u8) -> &[u8]
 }
 
 // The fixed half: the last of an image.
+#[tactic(auto, unfolding(crate::specs::Rom::fixed_of))]
 pub fn fixed_of(image: &[u8]) -> &[u8]
     ensures { result.now ≡ fixed_of image.now }
 {
@@ -86,43 +82,49 @@ pub fn fixed_of(image: &[u8]) -> &[u8]
     fixed_in(image)
 }
 
-// The half of program space in which an address lies, handed over from the page or from the fixed half.
-pub fn half<'a>(page: &'a [u8], fixed: &'a [u8], address: u16) -> &'a [u8]
-    ensures { result.now ≡ half_of page.now fixed.now address }
-{
-    if address < 0x800 {
-        return page;
+impl<'a> Space<'a> {
+    // Program space of an image with a bank byte.
+    pub fn of(image: &'a [u8], bank: u8) -> Space<'a>
+        ensures page { result.page.now ≡ page_of image.now bank }
+        ensures fixed { result.fixed.now ≡ fixed_of image.now }
+    {
+        Space {
+            page: page_of(image, bank),
+            fixed: fixed_of(image),
+        }
     }
-    fixed
-}
 
-// The ROM byte at a program address, of a page and a fixed half.
-pub fn rom_byte<'a>(page: &'a [u8], fixed: &'a [u8], address: u16) -> RomByte
-    ensures { Halves page.now fixed.now → address < 4096
-        → result ≡ rom_at (page.now ++ fixed.now) address }
-{
-    let part = half(page, fixed, address);
-    let at = (address as usize) % HALF_SPACE;
-    if part.len() <= at {
-        return RomByte::Outside;
+    // The half in which an address lies.
+    #[tactic(auto, unfolding(crate::specs::Rom::half_of))]
+    pub fn half(self, address: u16) -> &'a [u8]
+        ensures { result.now ≡ half_of self.entry.page.now self.entry.fixed.now address }
+    {
+        if address < 0x800 {
+            return self.page;
+        }
+        self.fixed
     }
-    RomByte::Byte(part[at])
-}
 
-// The byte of an instruction at an offset from its address; 0 where the instruction is shorter.
-pub fn operand_byte<'a>(
-    page: &'a [u8],
-    fixed: &'a [u8],
-    address: u16,
-    offset: u8,
-    length: u8,
-) -> RomByte
-    ensures { Halves page.now fixed.now
-        → result ≡ operand_at (page.now ++ fixed.now) address offset length }
-{
-    if offset < length {
-        rom_byte(page, fixed, forward(address, offset))
-    } else {
-        RomByte::Byte(0)
+    // The ROM byte at a program address; none outside ROM.
+    pub fn byte(self, address: u16) -> Option<u8>
+        ensures { IsWhole self.entry → address < 4096
+            → result ≡ rom_at (bytes_in self.entry) address }
+    {
+        self.half(address)
+            .get(address as usize % HALF_SPACE)
+            .copied()
+    }
+
+    // The byte of an instruction at an offset from its address; 0 where the instruction is shorter.
+    #[tactic(auto, unfolding(crate::specs::Rom::operand_at))]
+    pub fn operand_byte(self, address: u16, offset: u8, length: u8) -> Option<u8>
+        ensures { IsWhole self.entry
+            → result ≡ operand_at (bytes_in self.entry) address offset length }
+    {
+        if offset < length {
+            self.byte(forward(address, offset))
+        } else {
+            Some(0)
+        }
     }
 }

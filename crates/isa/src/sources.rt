@@ -7,6 +7,15 @@ use crate::Source;
 // The address where the program begins after a reset.
 pub const RESET_VECTOR: u16 = 0xFFE;
 
+// The sources in the order of their numbers.
+pub const SOURCES: [Source; 5] = [
+    Source::Nmi,
+    Source::First,
+    Source::Second,
+    Source::Third,
+    Source::Fourth,
+];
+
 // Whether a byte names nothing but sources: bits 5, 6 and 7 are 0.
 pub fn names_only_sources(byte: u8) -> bool
     ensures { result ≡ names_only_sources byte }
@@ -27,7 +36,7 @@ pub fn names(byte: u8, source: Source) -> bool
     }
 }
 
-// The address where a source's service begins.
+// The address where a source's service begins, by the manual's table.
 pub fn vector_of(source: Source) -> u16
     ensures { result ≡ vector_of source }
 {

@@ -3,12 +3,12 @@
 
 ghost use Rattle.std.specs.Prelude.{◌≤◌, IfOk, length};
 
-use jobs::Answered;
 use jobs::answer::answer;
 use std::io;
 use std::io::Read;
 
-// Reads until the input ends or the buffer is full, and answers how much that is.
+// Reads until the input ends or the buffer is full, and answers how much that is. The library's way to read to the end
+// fills a Vec, and no heap is used.
 fn read_job(rt: &HostRuntime, job: &mut [u8]) -> io::Result<usize>
     ensures { IfOk result (λ n. n ≤ length job.new) }
 {
@@ -26,8 +26,8 @@ fn read_job(rt: &HostRuntime, job: &mut [u8]) -> io::Result<usize>
 fn print_answer(rt: &impl Print, job: &[u8]) -> io::Result<()> {
     let mut line = [0u8; 16];
     match answer(job, &mut line) {
-        Answered::Line(length) => rt.write_all(&line[..length]),
-        _ => Ok(()),
+        Ok(length) => rt.write_all(&line[..length]),
+        Err(_) => Ok(()),
     }
 }
 

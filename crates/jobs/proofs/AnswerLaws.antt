@@ -1,30 +1,9 @@
 -- What a caller of `answer::answer` may do with its answer.
-use Prim.Native.Nat.{ℕ, ◌≤◌}
+use Prim.Native.Nat.{◌≤◌}
 use native.Mathlib.Omega.{arith}
-use mathlib.Core.Path.{◌≡◌, sym, ap, ◌∙◌}
-use mathlib.Core.Bool.{Bool, true, false, cond}
-use mathlib.Core.List.{List, ◌++◌}
-use lib.ListN.{length, drop, length-append}
+use lib.ListN.{length}
 use borrow.Author.Tests.{le-leb}
-use Rattle.isa.specs.Refusals.{plain, done, refused}
-use Rattle.jobs.specs.declared.Answered.{Answered}
-use Rattle.jobs.specs.declared.Answered.TheVariants.{Line}
-use Rattle.jobs.specs.Answer.{Answers, fits, outcome_of, SixteenBytesAreEnough}
-
--- a line that was written lies within the buffer
-pub within_buffer :
-    {line before after : List ℕ} {r : Answered} {n : ℕ} → r ≡ Line n → Answers line before after r → n ≤ length after
-within_buffer {line} {before} {after} {r} {n} e a = go (fits line before) (ap outcome_of (sym e) ∙ a.answer) a.buffer
-  where
-    go :
-        (b : Bool)
-        → done n ≡ cond b (done (length line)) (refused (plain 9))
-        → after ≡ cond b (line ++ drop (length line) before) before
-        → n ≤ length after
-    go true p q =
-        let same : n ≡ length line = cc in
-        rw (q, length-append) (omega arith)
-    go false p q = let never : ◌≡◌ {A = ℕ} 0 1 = cc in absurd (omega arith)
+use Rattle.jobs.specs.Answer.{SixteenBytesAreEnough}
 
 pub sixteen_bytes_are_enough : SixteenBytesAreEnough
 sixteen_bytes_are_enough line before after r a h =

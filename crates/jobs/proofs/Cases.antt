@@ -3,7 +3,8 @@ use mathlib.Core.Path.{refl, ap, ◌∙◌}
 use mathlib.Core.List.{[], ◌∷◌}
 use Rattle.certificate.specs.Cases.{image11, certificate11, put}
 use Rattle.certificate.proofs.Cases.{check_cases}
-use Rattle.jobs.specs.Line.{line_of, decimal_of}
+use Rattle.text_line.specs.Digits.{decimal_of}
+use Rattle.jobs.specs.Line.{line_of}
 use Rattle.jobs.specs.Cases.{PrintedCases}
 use Rattle.jobs.proofs.CheckJob.{jobs_are_checked}
 

@@ -1,5 +1,3 @@
-pub mod LineLaws
-pub mod Digits
 pub mod CheckJob
 pub mod Cases
 pub mod AnswerLaws

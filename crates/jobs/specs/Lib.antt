@@ -4,5 +4,3 @@ pub mod Line
 pub mod Answer
 pub mod Addresses
 pub mod Cases
--- for the contracts of functions inside; no claim uses them
-pub mod LineBuffer

@@ -1,9 +1,9 @@
 // A job taken apart and checked.
 ghost use Rattle.std.specs.Prelude.{◌+◌, ◌≤◌, ◌≡◌, length};
-ghost use Rattle.certificate.specs.Check.{answered, check_of};
+ghost use Rattle.isa.specs.Refusals.{answered};
+ghost use Rattle.certificate.specs.Check.{check_of};
 ghost use Rattle.jobs.specs.CheckJob.{certificate_of, count_of, image_of, is_count, job_of, wired_of};
 
-use certificate::Checked;
 use certificate::check::check;
 use isa::Refusal;
 
@@ -12,7 +12,7 @@ fn count_of(job: &[u8]) -> usize
     requires { 3 ≤ length job.now }
     ensures { result ≡ count_of job.now }
 {
-    job[1] as usize * 256 + job[2] as usize
+    u16::from_be_bytes([job[1], job[2]]) as usize
 }
 
 // Whether a count is that of a 2K or of a 4K job.
@@ -23,7 +23,7 @@ fn is_count(count: usize) -> bool
 }
 
 // The check of a job whose image and certificate have so many bytes each, as parts of the job.
-fn check_parts(job: &[u8], size: usize) -> Checked
+fn check_parts(job: &[u8], size: usize) -> Result<u8, Refusal>
     requires { length job.now ≡ 4 + (size + size) }
     ensures { answered result
         ≡ check_of (image_of size job.now) (certificate_of size job.now)
@@ -34,21 +34,22 @@ fn check_parts(job: &[u8], size: usize) -> Checked
 }
 
 // What a job answers, by number: 20, 21, 22, then the check's answer. It is lent no buffer to write to.
-pub fn check_job(job: &[u8]) -> Checked
+#[tactic(auto, unfolding(crate::specs::CheckJob::job_of))]
+pub fn check_job(job: &[u8]) -> Result<u8, Refusal>
     ensures { answered result ≡ job_of job.now }
 {
     if job.len() < 3 {
-        return Checked::Refused(Refusal::JobTooShort);
+        return Err(Refusal::JobTooShort);
     }
     if job[0] != 1 {
-        return Checked::Refused(Refusal::JobVersion);
+        return Err(Refusal::JobVersion);
     }
     let count = count_of(job);
     if !is_count(count) {
-        return Checked::Refused(Refusal::JobLength);
+        return Err(Refusal::JobLength);
     }
     if job.len() - 3 != count {
-        return Checked::Refused(Refusal::JobLength);
+        return Err(Refusal::JobLength);
     }
     check_parts(job, (count - 1) / 2)
 }

@@ -4,20 +4,8 @@
 pub mod answer;
 pub mod check_job;
 mod line;
-mod line_buffer;
 
-use isa::Refusal;
+use text_line::Line;
 
-// The answer of writing a job's line: how many bytes it has, or a refusal.
-#[derive(Drop)]
-pub enum Answered {
-    Line(usize),
-    Refused(Refusal),
-}
-
-// A line in the making: its first bytes, in an array that the longest line fills.
-#[derive(Drop)]
-pub struct LineBuffer {
-    pub letters: [u8; 16],
-    pub count: usize,
-}
+// A line in the making, as long as the longest.
+pub type LineBuffer = Line<16>;

@@ -6,7 +6,7 @@ use Rattle.isa.specs.Map.{entry_of, form_as, form_of}
 use Rattle.isa.specs.Table.{bytes_of, cycles_of}
 use Rattle.isa.specs.ControlFlow.{flow_of}
 use Rattle.certificate.specs.Marks.{mark_at, need_at}
-use Rattle.jobs.specs.Line.{decimal_of}
+use Rattle.text_line.specs.Digits.{decimal_of}
 use Rattle.listing.specs.InstructionText.{instruction_text, operand_text}
 use Rattle.listing.specs.Kinds.{kind_name}
 use Rattle.listing.specs.Pages.{choices_in, page_text, rom_in}

@@ -19,27 +19,24 @@ use Rattle.isa.specs.RoundTrip.{Bytes}
 use Rattle.isa.specs.declared.Instruction.{Instruction}
 use Rattle.isa.specs.declared.Flow.{Flow}
 use Rattle.isa.specs.declared.Flow.TheVariants as flow
-use Rattle.isa.specs.declared.Form.{Form}
-use Rattle.isa.specs.declared.Form.TheVariants.{Is, Undefined}
-use Rattle.isa.specs.declared.rom.RomByte.{RomByte}
-use Rattle.isa.specs.declared.rom.RomByte.TheVariants.{Byte, Outside}
+use Rattle.std.specs.Prelude.{Option, Some, None}
 use Rattle.isa.proofs.Finite.{bounded}
 use Rattle.isa.proofs.Halves.{Sized, sized, space_bytes}
 use Rattle.isa.proofs.Reading.{reading, rom_byte}
 use Rattle.certificate.specs.Marks.{kind_of, mark_at, need_at, need_of}
-use Rattle.jobs.specs.Line.{decimal_of, three_digits}
-use Rattle.jobs.proofs.Digits.{at_most_three, one_digit}
+use Rattle.text_line.specs.Digits.{decimal_of, three_digits, two_digits}
+use Rattle.text_line.specs.Line.{pad_to}
+use Rattle.text_line.proofs.Decimal.{digits_fit, one_digit}
 use Rattle.listing.specs.Words.{ascii}
-use Rattle.listing.specs.Pieces.{pad_to, two_digits}
 use Rattle.listing.specs.InstructionText.{instruction_text, operand_text, TextFits}
 use Rattle.listing.specs.Kinds.{kind_name}
 use Rattle.listing.specs.Pages.{choices_in, page_text, rom_in}
 use Rattle.listing.specs.AddressLine.{address_line, byte_text, call_text, code_text, length_of, LineFits, mark_text}
 use Rattle.listing.specs.AddressLine.{need_text, operand_byte_text, standing_text, target_text}
 
-abbrev form_text : Form → ℕ → List ℕ
-form_text (Is i) a = instruction_text i a
-form_text Undefined a = []
+abbrev form_text : Option Instruction → ℕ → List ℕ
+form_text (Some i) a = instruction_text i a
+form_text None a = []
 
 -- whatever the operand bytes are, by the 256 opcodes
 form_fits : (k first second a : ℕ) → k < 256 → length (form_text (form_of k first second) a) < 17
@@ -73,10 +70,10 @@ chosen false s t n p q = q
 pad_fits : (column : ℕ) (s : List ℕ) → length s ≤ column → length (pad_to column s) ≤ column
 pad_fits column s h = rw (length-append, length-replicate) (omega arith)
 
-byte_fits : (r : RomByte) → length (byte_text r) ≤ 2
+byte_fits : (r : Option ℕ) → length (byte_text r) ≤ 2
 unfolding byte_text
-byte_fits (Byte n) = leb-true 2 2 refl
-byte_fits Outside = leb-true 0 2 refl
+byte_fits (Some n) = leb-true 2 2 refl
+byte_fits None = leb-true 0 2 refl
 
 operand_fits : (image : List ℕ) (bank a offset bytes : ℕ) → length (operand_byte_text image bank a offset bytes) ≤ 3
 unfolding operand_byte_text
@@ -104,7 +101,7 @@ standing_fits image bytes bank a = go (decode_in image bank a) refl
         chosen (eqb n 5) (ascii "undefined opcode") (ascii "outside ROM") 16 (leb-true 16 16 refl) (leb-true 11 16 refl)
 
 decimal_fits : (n : ℕ) → n < 256 → length (decimal_of n) ≤ 3
-decimal_fits n h = omega (arith, at_most_three n h)
+decimal_fits n h = digits_fit 2 n (omega arith)
 
 target_fits : (certificate : List ℕ) (f : Flow) → length (target_text certificate f) ≤ 22
 unfolding need_at

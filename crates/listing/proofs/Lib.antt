@@ -1,5 +1,3 @@
-pub mod LineLaws
-pub mod Decimal
 pub mod Calls
 pub mod PageLaws
 pub mod Fits

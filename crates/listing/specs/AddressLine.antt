@@ -1,5 +1,5 @@
 -- The line of an address in a listing: `881  01 89     CALL 890h         21  main, needs 1; its target needs 0`.
-use Rattle.std.specs.Prelude.{ℕ, ◌+◌, ◌≤◌, cond, List, [], ◌++◌, eqb, leb, length}
+use Rattle.std.specs.Prelude.{ℕ, ◌+◌, ◌≤◌, cond, List, [], ◌++◌, eqb, leb, length, Option, Some, None}
 use Rattle.isa.specs.Displacement.{forward_of}
 use Rattle.isa.specs.Refusals.{Numbered, plain, located, Answer, done, refused}
 use Rattle.isa.specs.ControlFlow.{flow_of}
@@ -8,20 +8,18 @@ use Rattle.isa.specs.Decode.{Decoding, decode_in}
 use Rattle.isa.specs.RoundTrip.{Bytes}
 use Rattle.isa.specs.declared.Flow.{Flow}
 use Rattle.isa.specs.declared.Flow.TheVariants as flow
-use Rattle.isa.specs.declared.rom.RomByte.{RomByte}
-use Rattle.isa.specs.declared.rom.RomByte.TheVariants.{Byte, Outside}
 use Rattle.certificate.specs.Marks.{kind_of, mark_at, need_at, need_of}
-use Rattle.jobs.specs.Line.{decimal_of, three_digits}
+use Rattle.text_line.specs.Digits.{decimal_of, three_digits, two_digits}
+use Rattle.text_line.specs.Line.{pad_to}
 use Rattle.listing.specs.Words.{ascii}
-use Rattle.listing.specs.Pieces.{pad_to, two_digits}
 use Rattle.listing.specs.InstructionText.{instruction_text}
 use Rattle.listing.specs.Kinds.{kind_name}
 use Rattle.listing.specs.Pages.{page_text, rom_in}
 
 -- a ROM byte, and nothing outside ROM
-unfoldable pub byte_text : RomByte → List ℕ
-byte_text (Byte n) = two_digits n
-byte_text Outside = []
+unfoldable pub byte_text : Option ℕ → List ℕ
+byte_text (Some n) = two_digits n
+byte_text None = []
 
 -- the byte of an instruction at an offset from its address, where it has so many
 unfoldable pub operand_byte_text : (image : List ℕ) → (bank a offset bytes : ℕ) → List ℕ

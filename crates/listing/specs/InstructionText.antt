@@ -9,9 +9,8 @@ use Rattle.isa.specs.declared.Instruction.{Instruction}
 use Rattle.isa.specs.declared.Instruction.TheVariants as I
 use Rattle.isa.specs.declared.Operand.{Operand}
 use Rattle.isa.specs.declared.Operand.TheVariants as operand
-use Rattle.jobs.specs.Line.{decimal_of, three_digits}
+use Rattle.text_line.specs.Digits.{decimal_of, three_digits, two_digits}
 use Rattle.listing.specs.Words.{ascii}
-use Rattle.listing.specs.Pieces.{two_digits}
 
 -- a program address: `890h`
 abbrev pub address_text : ℕ → List ℕ

@@ -1,14 +1,12 @@
 -- Program space with a page in place: its bytes, and addresses with the page that they lie in (document 02, W-210).
-use Rattle.std.specs.Prelude.{ℕ, ◌%◌, cond, List, [], ◌++◌, leb, length}
+use Rattle.std.specs.Prelude.{ℕ, ◌%◌, cond, List, [], ◌++◌, leb, length, Option, None}
 use Rattle.isa.specs.Rom.{is_image, spaces_in, space_of, rom_at}
-use Rattle.isa.specs.declared.rom.RomByte.{RomByte}
-use Rattle.isa.specs.declared.rom.RomByte.TheVariants.{Outside}
-use Rattle.jobs.specs.Line.{decimal_of, three_digits}
+use Rattle.text_line.specs.Digits.{decimal_of, three_digits}
 use Rattle.listing.specs.Words.{ascii}
 
 -- the ROM byte at an address of an image with a bank byte
-unfoldable pub rom_in : (image : List ℕ) → (bank a : ℕ) → RomByte
-rom_in image bank a = cond (is_image (length image)) (rom_at (space_of image bank) a) Outside
+unfoldable pub rom_in : (image : List ℕ) → (bank a : ℕ) → Option ℕ
+rom_in image bank a = cond (is_image (length image)) (rom_at (space_of image bank) a) None
 
 -- how many pages an image of so many bytes has to choose from: 1 where there is no choice
 unfoldable pub choices_in : (bytes : ℕ) → ℕ

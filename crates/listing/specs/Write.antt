@@ -1,17 +1,11 @@
 -- What writing a line does to the buffer that is lent.
-use Rattle.std.specs.Prelude.{ℕ, ◌≡◌, cond, List, ◌++◌, length, drop}
-use Rattle.isa.specs.Refusals.{plain, numbered, Answer, done, refused}
-use Rattle.jobs.specs.Answer.{fits}
-use Rattle.listing.specs.declared.LineWritten.{LineWritten}
-use Rattle.listing.specs.declared.LineWritten.TheVariants.{Done, Refused}
-
--- the program's answer by document 01's numbers
-abbrev pub outcome_of : LineWritten → Answer ℕ
-outcome_of (Done n) = done n
-outcome_of (Refused r) = refused (numbered r)
+use Rattle.std.specs.Prelude.{ℕ, ◌≡◌, cond, List, ◌++◌, length, drop, Result}
+use Rattle.isa.specs.Refusals.{plain, answered, done, refused}
+use Rattle.isa.specs.declared.Refusal.{Refusal}
+use Rattle.text_line.specs.Line.{fits}
 
 -- writing a line's bytes to a buffer: from its first byte, and bytes after them stay; 9, and nothing written, where the
 -- buffer is shorter than the line
-pub record Writes (line before after : List ℕ) (r : LineWritten) : Type 0 where
-  pub answer : outcome_of r ≡ cond (fits line before) (done (length line)) (refused (plain 9))
+pub record Writes (line before after : List ℕ) (r : Result ℕ Refusal) : Type 0 where
+  pub answer : answered r ≡ cond (fits line before) (done (length line)) (refused (plain 9))
   pub buffer : after ≡ cond (fits line before) (line ++ drop (length line) before) before

@@ -2,7 +2,7 @@
 ghost use Rattle.std.specs.Prelude.{◌≡◌};
 ghost use Rattle.isa.specs.Refusals.{numbered};
 ghost use Rattle.isa.specs.Decode.{answer_of};
-ghost use Rattle.listing.specs.Pieces.{Adds, content_of};
+ghost use Rattle.listing.specs.Pieces.{Adds};
 ghost use Rattle.listing.specs.AddressLine.{address_line, byte_text, call_text, code_text, length_of, mark_text};
 ghost use Rattle.listing.specs.AddressLine.{need_text, operand_byte_text, refusal_text, standing_text};
 
@@ -15,7 +15,6 @@ use isa::control_flow::flow_of;
 use isa::decode::decode;
 use isa::displacement::forward;
 use isa::refusals::number_of;
-use isa::rom::RomByte;
 use isa::{Decoded, Flow, Number, Refusal};
 
 // The columns where the instruction and the mark begin, after the page.
@@ -24,21 +23,23 @@ const TEXT_COLUMN: usize = 15;
 const MARK_COLUMN: usize = 33;
 
 // A ROM byte, nothing outside ROM.
-fn rom_text(line: Line, byte: RomByte) -> Line
+#[tactic(auto, unfolding(crate::specs::AddressLine::byte_text))]
+fn rom_text(line: Line, byte: Option<u8>) -> Line
     ensures { Adds (byte_text byte) line result }
 {
     match byte {
-        RomByte::Byte(n) => line.byte(n),
-        RomByte::Outside => line,
+        Some(n) => line.byte(n),
+        None => line.word(b""),
     }
 }
 
 // The byte of an instruction at an offset from its address, nothing where the instruction is shorter.
+#[tactic(auto, unfolding(crate::specs::AddressLine::operand_byte_text))]
 fn operand_text(line: Line, image: &[u8], bank: u8, address: u16, offset: u8, length: u8) -> Line
     ensures { Adds (operand_byte_text image.now bank address offset length) line result }
 {
     if length <= offset {
-        return line;
+        return line.word(b"");
     }
     rom_text(
         line.letter(b' '),
@@ -56,16 +57,12 @@ fn code(line: Line, image: &[u8], bank: u8, address: u16, length: u8) -> Line
 }
 
 // How many bytes to show: one where nothing decodes.
-fn length_of(decoded: Decoded) -> u8
+fn length_of(decoded: Result<Decoded, Refusal>) -> u8
     ensures { result ≡ length_of (answer_of decoded) }
 {
     match decoded {
-        Decoded::Valid {
-            instruction: _,
-            length,
-            cycles: _,
-        } => length,
-        Decoded::Refused(_) => 1,
+        Ok(d) => d.length,
+        Err(_) => 1,
     }
 }
 
@@ -86,52 +83,60 @@ fn refusal_text(line: Line, refusal: Refusal) -> Line
 }
 
 // The instruction, or why there is none.
-fn standing_text(line: Line, decoded: Decoded, address: u16) -> Line
+fn standing_text(line: Line, decoded: Result<Decoded, Refusal>, address: u16) -> Line
     ensures { Adds (standing_text address (answer_of decoded)) line result }
 {
     match decoded {
-        Decoded::Valid {
-            instruction: i,
-            length: _,
-            cycles: _,
-        } => instruction(line, i, address),
-        Decoded::Refused(refusal) => refusal_text(line, refusal),
+        Ok(d) => instruction(line, d.instruction, address),
+        Err(refusal) => refusal_text(line, refusal),
     }
 }
 
 // What the target of a CALL needs; nothing for another instruction.
-fn call_text(line: Line, certificate: &[u8], decoded: Decoded, address: u16) -> Line
+fn call_text(
+    line: Line,
+    certificate: &[u8],
+    decoded: Result<Decoded, Refusal>,
+    address: u16,
+) -> Line
     ensures { Adds (call_text certificate.now address (answer_of decoded)) line result }
 {
-    let Decoded::Valid {
-        instruction: i,
-        length: _,
-        cycles: _,
-    } = decoded
-    else {
-        return line;
+    let Ok(d) = decoded else {
+        return line.word(b"");
     };
-    let Flow::Call(target) = flow_of(i, address) else {
-        return line;
+    let Flow::Call(target) = flow_of(d.instruction, address) else {
+        return line.word(b"");
     };
     let need = need_at(certificate, target);
     line.word(b"; its target needs ").decimal(need as u32)
 }
 
 // The need of a mark, and of a CALL's target; nothing where the mark has no kind.
-fn need_text(line: Line, certificate: &[u8], decoded: Decoded, address: u16, mark: u8) -> Line
+#[tactic(auto, unfolding(crate::specs::AddressLine::need_text))]
+fn need_text(
+    line: Line,
+    certificate: &[u8],
+    decoded: Result<Decoded, Refusal>,
+    address: u16,
+    mark: u8,
+) -> Line
     ensures { Adds (need_text certificate.now address (answer_of decoded) mark) line result }
 {
-    if kind_of(mark) == 0 {
-        return line;
-    }
+    let Some(_) = kind_of(mark) else {
+        return line.word(b"");
+    };
     let need = need_of(mark);
     let needs = line.word(b", needs ").decimal(need as u32);
     call_text(needs, certificate, decoded, address)
 }
 
 // The mark as a byte and in words.
-fn mark_text(line: Line, certificate: &[u8], decoded: Decoded, address: u16) -> Line
+fn mark_text(
+    line: Line,
+    certificate: &[u8],
+    decoded: Result<Decoded, Refusal>,
+    address: u16,
+) -> Line
     ensures { Adds (mark_text certificate.now address (answer_of decoded)) line result }
 {
     let mark = mark_at(certificate, address);
@@ -141,7 +146,7 @@ fn mark_text(line: Line, certificate: &[u8], decoded: Decoded, address: u16) -> 
 
 // The line of an address, without line end, with a bank byte: its bytes, its instruction and its mark.
 pub fn address_line(image: &[u8], bank: u8, certificate: &[u8], address: u16) -> Line
-    ensures { content_of result ≡ address_line image.now bank certificate.now address }
+    ensures { result ≡ address_line image.now bank certificate.now address }
 {
     let decoded = decode(image, bank, address);
     let paged = page_text(Line::new(), image.len(), bank, address);

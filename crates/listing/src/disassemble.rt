@@ -2,23 +2,26 @@
 ghost use Rattle.isa.specs.Decode.{decode_in};
 ghost use Rattle.listing.specs.Disassemble.{WritesText, text_of};
 
+use crate::Line;
 use crate::instruction::instruction;
 use crate::write::write;
-use crate::{Line, LineWritten};
-use isa::Decoded;
+use isa::Refusal;
 use isa::decode::decode;
 
 // Writes the text of the instruction at an address from the buffer's first byte. What decoding refuses is refused.
-pub fn write_instruction(image: &[u8], bank: u8, address: u16, buffer: &mut [u8]) -> LineWritten
+#[tactic(auto, unfolding(crate::specs::Disassemble::WritesText))]
+pub fn write_instruction(
+    image: &[u8],
+    bank: u8,
+    address: u16,
+    buffer: &mut [u8],
+) -> Result<usize, Refusal>
     ensures { WritesText (text_of address (decode_in image.now bank address))
         buffer.old buffer.new result }
 {
-    match decode(image, bank, address) {
-        Decoded::Valid {
-            instruction: decoded,
-            length: _,
-            cycles: _,
-        } => write(instruction(Line::new(), decoded, address), buffer),
-        Decoded::Refused(refusal) => LineWritten::Refused(refusal),
-    }
+    let decoded = decode(image, bank, address)?;
+    write(
+        instruction(Line::new(), decoded.instruction, address),
+        buffer,
+    )
 }

@@ -28,6 +28,7 @@ fn data(line: Line, n: u8) -> Line
     line.byte(n).letter(b'h')
 }
 
+#[tactic(auto, unfolding(crate::specs::InstructionText::operand_text))]
 fn data_operand(line: Line, operand: Operand) -> Line
     ensures { Adds (operand_text operand) line result }
 {
@@ -83,6 +84,7 @@ fn load_immediate(line: Line, address: u8, value: u8) -> Line
 }
 
 // Adds the text of the instruction at an address.
+#[tactic(auto, unfolding(crate::specs::InstructionText::instruction_text))]
 pub fn instruction(line: Line, i: Instruction, at: u16) -> Line
     ensures { Adds (instruction_text i at) line result }
 {

@@ -3,27 +3,21 @@ ghost use Rattle.listing.specs.Pieces.{Adds};
 ghost use Rattle.listing.specs.Kinds.{kind_name};
 
 use crate::Line;
-use certificate::marks::{MAIN, SERVICE, START_UP, SUBROUTINE, kind_of};
+use certificate::marks::{Kind, kind_of};
 
 // Adds the name of a mark's kind.
+#[tactic(auto, unfolding(crate::specs::Kinds::kind_name))]
 pub fn kind_name(line: Line, mark: u8) -> Line
     ensures { Adds (kind_name mark) line result }
 {
     if mark == 0 {
         return line.word(b"unmarked");
     }
-    let kind = kind_of(mark);
-    if kind == START_UP {
-        return line.word(b"start-up");
+    match kind_of(mark) {
+        Some(Kind::StartUp) => line.word(b"start-up"),
+        Some(Kind::Main) => line.word(b"main"),
+        Some(Kind::Service) => line.word(b"service"),
+        Some(Kind::Subroutine) => line.word(b"subroutine"),
+        None => line.word(b"malformed"),
     }
-    if kind == MAIN {
-        return line.word(b"main");
-    }
-    if kind == SERVICE {
-        return line.word(b"service");
-    }
-    if kind == SUBROUTINE {
-        return line.word(b"subroutine");
-    }
-    line.word(b"malformed")
 }

@@ -7,24 +7,10 @@ pub mod disassemble;
 pub mod instruction;
 pub mod kinds;
 pub mod pages;
-mod pieces;
 pub mod write;
-
-use isa::Refusal;
 
 // The most bytes of a line.
 pub const MOST: usize = 128;
 
-// A line in the making: the first `count` of its letters.
-#[derive(Clone, Copy)]
-pub struct Line {
-    pub letters: [u8; 128],
-    pub count: usize,
-}
-
-// How many bytes of a line were written, or a refusal.
-#[derive(Drop)]
-pub enum LineWritten {
-    Done(usize),
-    Refused(Refusal),
-}
+// A line in the making. What goes beyond its most bytes is cut off.
+pub type Line = text_line::Line<MOST>;

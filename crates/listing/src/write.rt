@@ -1,19 +1,12 @@
 // A line written to a buffer.
-ghost use Rattle.listing.specs.Pieces.{content_of};
 ghost use Rattle.listing.specs.Write.{Writes};
 
-use crate::{Line, LineWritten};
+use crate::Line;
 use isa::Refusal;
 
-// Writes a line from the buffer's first byte, where it fits; bytes after it stay.
-pub fn write(line: Line, buffer: &mut [u8]) -> LineWritten
-    ensures { Writes (content_of line) buffer.old buffer.new result }
+// Writes a line from the buffer's first byte, where it fits, and answers how many bytes it has; bytes after it stay.
+pub fn write(line: Line, buffer: &mut [u8]) -> Result<usize, Refusal>
+    ensures { Writes line buffer.old buffer.new result }
 {
-    let letters = line.letters;
-    let count = line.length();
-    if buffer.len() < count {
-        return LineWritten::Refused(Refusal::BufferLength);
-    }
-    slices::copy(&letters[..count], buffer);
-    LineWritten::Done(count)
+    line.write(buffer).ok_or(Refusal::BufferLength)
 }

@@ -4,6 +4,7 @@ use mathlib.Core.Path.{◌≡◌, refl}
 use mathlib.Core.Bool.{Bool, true, false, cond}
 use mathlib.Core.List.{List}
 use lib.ListN.{length}
+use Rattle.std.specs.Prelude.{Option, Some, None}
 use Rattle.isa.specs.Refusals.{Numbered, plain, Answer, done, refused, unless}
 use Rattle.isa.specs.Sources.{names_only_sources}
 use Rattle.isa.specs.Rom.{is_image}
@@ -12,8 +13,6 @@ use Rattle.isa.specs.Decode as decode
 use Rattle.isa.specs.declared.Instruction.{Instruction}
 use Rattle.isa.specs.declared.Source.{Source}
 use Rattle.data.specs.Space.{program_of}
-use Rattle.control.specs.declared.Requested.{Requested}
-use Rattle.control.specs.declared.Requested.TheVariants.{Nothing, Taken}
 use Rattle.control.specs.Requests.{requested_of}
 use Rattle.machine.specs.declared.Machine.{Machine}
 use Rattle.machine.specs.State.{is_well_formed}
@@ -81,11 +80,11 @@ module _ (image : List ℕ) (m : Machine) (request : ℕ) where
   unrequested none false e = decoded none e (decode_at image m.control.pc) refl
 
   requested :
-      (r : Requested) → requested_of m.control.mode (enabled_of m.bytes) request ≡ r →
+      (r : Option Source) → requested_of m.control.mode (enabled_of m.bytes) request ≡ r →
       Due image m request (requested_action image m.control r)
   unfolding unrequested_action
-  requested (Taken source) e = taking source e
-  requested Nothing e = unrequested e m.control.asleep refl
+  requested (Some source) e = taking source e
+  requested None e = unrequested e m.control.asleep refl
 
   pub is_due : Due image m request (due_of image m request)
   unfolding due_of

@@ -14,6 +14,7 @@ use lib.Seq.{get_or-set_same, get_or-set_other, set_out, length-sets}
 use lib.Seq as seq
 use Rattle.alu.specs.declared.Flags.{Flags}
 use Rattle.isa.specs.Refusals.{Answer, done}
+use Rattle.std.specs.Prelude.{Option, Some, None}
 use Rattle.isa.specs.Map
 use Rattle.isa.specs.Table
 use Rattle.isa.specs.Rom
@@ -21,13 +22,11 @@ use Rattle.isa.specs.Rom.{is_image}
 use Rattle.isa.specs.Decode
 use Rattle.isa.specs.ControlFlow
 use Rattle.isa.specs.Encode.{encode_of, bytes}
-use Rattle.isa.specs.declared.Encoded.TheVariants.{Unencodable}
 use Rattle.isa.specs.declared.Operand.{Operand}
+use Rattle.isa.specs.declared.Source.{Source}
 use Rattle.isa.specs.declared.Operand.TheVariants.{Direct, Short, ThroughX, ThroughY}
 use Rattle.isa.specs.declared.Instruction.{Instruction}
 use Rattle.isa.specs.declared.Instruction.TheVariants as I
-use Rattle.data.specs.declared.OperandRead.{OperandRead}
-use Rattle.data.specs.declared.OperandRead.TheVariants.{Is}
 use Rattle.data.specs.Space.{program_of, in_window, read_of, store_of, address_of, operand_of}
 use Rattle.data.specs.Effect.{store_result_of, effect_of}
 use Rattle.data.specs.Reads.{operand_read_of}
@@ -35,8 +34,6 @@ use Rattle.control.specs.Transfers
 use Rattle.control.specs.Requests
 use Rattle.control.specs.WellFormed
 use Rattle.control.specs.declared.Mode.TheVariants.{Normal}
-use Rattle.control.specs.declared.Requested.{Requested}
-use Rattle.control.specs.declared.Requested.TheVariants.{Nothing}
 use Rattle.machine.specs.declared.Machine.{Machine}
 use Rattle.machine.specs.Execute.{execute_of}
 use Rattle.machine.specs.State.{machine_of, cleared_pairs, with_byte}
@@ -156,10 +153,10 @@ other o = with_byte machine (address_of machine.bytes o) 0xFF
 -- told to read, that it stands at 880h for both, that no request is taken, and how many bytes they have
 record Facts : Type 0 where
   differ : Bool
-  told : OperandRead
+  told : Option Operand
   first : Answer Decode.Decoding
   second : Answer Decode.Decoding
-  taken : Requested
+  taken : Option Source
   size : ℕ
 
 abbrev facts_of : Instruction → Operand → Facts
@@ -177,10 +174,10 @@ facts_of i o = record {
 abbrev facts_for : Instruction → Operand → (long cycles : ℕ) → Facts
 facts_for i o long cycles = record {
   differ = true;
-  told = Is o;
+  told = Some o;
   first = done (Decode.instruction i long cycles);
   second = done (Decode.instruction i long cycles);
-  taken = Nothing;
+  taken = None;
   size = 256;
 }
 
@@ -234,15 +231,15 @@ module _ {i like : Instruction} {o : Operand} (same : SameForm i like) (r : Row 
 on_operand_lem :
     (f : Operand → Instruction) → ((o p : Operand) → SameKind o p → SameForm (f o) (f p)) →
     Row (f (Direct 0x10)) (Direct 0x10) → Row (f ThroughX) ThroughX → Row (f ThroughY) ThroughY →
-    ((n : ℕ) → (encode_of (f (Short n)) ≡ Unencodable → ⊥) → Row (f (Short 2)) (Short 2)) →
-    (o : Operand) → (encode_of (f o) ≡ Unencodable → ⊥) → Matters (f o)
+    ((n : ℕ) → (encode_of (f (Short n)) ≡ None → ⊥) → Row (f (Short 2)) (Short 2)) →
+    (o : Operand) → (encode_of (f o) ≡ None → ⊥) → Matters (f o)
 on_operand_lem f same d x y s (Direct a) w = witness (same _ _ (direct a 0x10)) d
 on_operand_lem f same d x y s (Short n) w = witness (same _ _ (short n 2)) (s n w)
 on_operand_lem f same d x y s ThroughX w = witness (same _ _ through_x) x
 on_operand_lem f same d x y s ThroughY w = witness (same _ _ through_y) y
 
 -- the table
-by_form : (i : Instruction) (o : Operand) → (encode_of i ≡ Unencodable → ⊥) → ReadForm i o → Matters i
+by_form : (i : Instruction) (o : Operand) → (encode_of i ≡ None → ⊥) → ReadForm i o → Matters i
 unfolding operand_read_of encode_of Map.entry_of Table.bytes_of Table.cycles_of Map.form_as Map.form_of Rom.space_of Rom.page_of
     Rom.fixed_of Rom.rom_at Rom.operand_at Decode.decode_at ControlFlow.flow_of Requests.requested_of Requests.serving_of
     address_of store_of read_of operand_of effect_of store_result_of execute_of Transfers.advance_of WellFormed.well_formed
@@ -269,5 +266,5 @@ by_form _ _ w (read.is_jrs n a d) = witness {o = Direct 0x10} (jumps_set n 0 a 0
 
 -- it matters for each form in the table of what is read
 pub matters :
-    (i : Instruction) (o : Operand) → (encode_of i ≡ Unencodable → ⊥) → operand_read_of i ≡ Is o → Matters i
+    (i : Instruction) (o : Operand) → (encode_of i ≡ None → ⊥) → operand_read_of i ≡ Some o → Matters i
 matters i o w e = by_form i o w (read_form i o e)

@@ -5,7 +5,8 @@ use mathlib.Core.Bool.{Bool, true}
 use mathlib.Core.List.{List}
 use native.Mathlib.Omega.{arith}
 use lib.ListN.{length, get_or}
-use Rattle.isa.specs.Refusals.{located, Answer, done, refused}
+use Rattle.std.specs.Prelude.{Option, Some, None}
+use Rattle.isa.specs.Refusals.{Answer, done, refused}
 use Rattle.isa.specs.Sources.{names_only_sources}
 use Rattle.isa.specs.Rom.{is_image}
 use Rattle.isa.specs.Displacement.{forward_of}
@@ -13,17 +14,12 @@ use Rattle.isa.specs.ControlFlow.{flow_of}
 use Rattle.isa.specs.declared.Operand.{Operand}
 use Rattle.isa.specs.declared.Instruction.{Instruction}
 use Rattle.data.specs.declared.Origin.{Origin}
-use Rattle.data.specs.declared.OperandRead.{OperandRead}
-use Rattle.data.specs.declared.OperandRead.TheVariants as operand
-use Rattle.data.specs.declared.OriginRead.{OriginRead}
-use Rattle.data.specs.declared.OriginRead.TheVariants as origin
 use Rattle.data.specs.Space.{read_of, origin_of, address_of, operand_of}
 use Rattle.data.specs.Effect.{accumulator_of, effect_of}
 use Rattle.data.specs.Reads.{operand_read_of, origin_at, origin_read_of}
 use Rattle.data.proofs.Origins.{byte_comes_from}
 use Rattle.control.specs.declared.Control.{Control}
 use Rattle.control.specs.declared.Stop.{Stop}
-use Rattle.control.specs.declared.Stop.TheVariants as stop
 use Rattle.control.specs.Stack.{Transferred}
 use Rattle.control.specs.Transfers.{advance_of}
 use Rattle.data.specs.Space.{program_of}
@@ -35,6 +31,7 @@ use Rattle.machine.specs.Advance.{
   Step,
   done_of,
   refused_of,
+  stop_at,
   stopped_of,
   completed_of,
   executed_of,
@@ -117,10 +114,10 @@ alike m m' control stack flags t x cycles = by_stop t.stop
         (stored_by x.stores n.bytes))
         cycles
 
-    stays : (number : ℕ) → StepsAlike m m' (refused_of m (located number m.control.pc))
-        (refused_of m' (located number m'.control.pc))
-    stays number = record {
-      answer = ap (λ (c : Control). refused (located number c.pc)) control;
+    stays : (s : Stop) → StepsAlike m m' (refused_of m (stop_at s m.control.pc))
+        (refused_of m' (stop_at s m'.control.pc))
+    stays s = record {
+      answer = ap (λ (c : Control). refused (stop_at s c.pc)) control;
       control = control;
       stack = stack;
       flags = flags;
@@ -129,8 +126,8 @@ alike m m' control stack flags t x cycles = by_stop t.stop
       second = refl;
     }
 
-    by_stop : (s : Stop) → StepsAlike m m' (stopped_of m s (after m)) (stopped_of m' s (after m'))
-    by_stop stop.None = record {
+    by_stop : (s : Option Stop) → StepsAlike m m' (stopped_of m s (after m)) (stopped_of m' s (after m'))
+    by_stop None = record {
       answer = refl;
       control = refl;
       stack = refl;
@@ -139,8 +136,7 @@ alike m m' control stack flags t x cycles = by_stop t.stop
       first = refl;
       second = refl;
     }
-    by_stop stop.Full = stays 6
-    by_stop stop.Empty = stays 7
+    by_stop (Some s) = stays s
 
 -- two steps that come to one instruction, from machines with the same control, stack and flags
 module _ (image : List ℕ) (m : Machine) (image' : List ℕ) (m' : Machine) (request request' : ℕ) (i : Instruction)
@@ -200,7 +196,7 @@ module _ (image : List ℕ) (m : Machine) (image' : List ℕ) (m' : Machine) (re
 -- a step that comes to an instruction which reads is done, and tells its operand's origin
 tells :
     {i : Instruction} {o : Operand} → MadeOf i o → (image : List ℕ) (m : Machine) (request bytes cycles : ℕ) →
-    Executes image m request i bytes cycles → operand_read_of i ≡ operand.Is o →
+    Executes image m request i bytes cycles → operand_read_of i ≡ Some o →
     TellsOf image m request cycles (address_of m.bytes o)
 unfolding reading_of step_read_of origin_read_of executed_of completed_of
 tells {i} {o} made image m request bytes cycles at reads =
@@ -217,17 +213,17 @@ tells {i} {o} made image m request bytes cycles at reads =
     }
 
 -- none and an origin are apart
-not_read : {P : Type 0} (x : Origin) → ◌≡◌ {A = OriginRead} origin.Nothing (origin.From x) → P
+not_read : {P : Type 0} (x : Origin) → ◌≡◌ {A = Option Origin} None (Some x) → P
 not_read x e = let z : ◌≡◌ {A = ℕ} 0 1 = cc in absurd (omega arith)
 
 -- a step that tells an origin comes to an instruction that reads
 module _ (image : List ℕ) (m : Machine) (request : ℕ) (x : Origin) where
   module _ (i : Instruction) (bytes cycles : ℕ) (at : Executes image m request i bytes cycles) where
     by_operand :
-        (r : OperandRead) → operand_read_of i ≡ r →
-        origin_at (program_of image m.bytes) m.bytes r ≡ origin.From x → Reads image m request
-    by_operand operand.Nothing reads e = not_read x e
-    by_operand (operand.Is o) reads e = record {
+        (r : Option Operand) → operand_read_of i ≡ r →
+        origin_at (program_of image m.bytes) m.bytes r ≡ Some x → Reads image m request
+    by_operand None reads e = not_read x e
+    by_operand (Some o) reads e = record {
       i = i;
       bytes = bytes;
       cycles = cycles;
@@ -240,7 +236,7 @@ module _ (image : List ℕ) (m : Machine) (request : ℕ) (x : Origin) where
   by_due :
       is_image (length image) ≡ true → is_well_formed m ≡ true → names_only_sources request ≡ true →
       (a : StepAction) → Due (program_of image m.bytes) m request a →
-      action_read (program_of image m.bytes) m.bytes a ≡ origin.From x → Reads image m request
+      action_read (program_of image m.bytes) m.bytes a ≡ Some x → Reads image m request
   unfolding origin_read_of
   by_due size formed sources _ (taking source is) e = not_read x e
   by_due size formed sources _ (idling none asleep) e = not_read x e
@@ -257,14 +253,14 @@ module _ (image : List ℕ) (m : Machine) (request : ℕ) (x : Origin) where
 
   by_action :
       (a : StepAction) → ActionTested image m request a →
-      action_read (program_of image m.bytes) m.bytes a ≡ origin.From x → Reads image m request
+      action_read (program_of image m.bytes) m.bytes a ≡ Some x → Reads image m request
   by_action _ (refusing r why) e = not_read x e
   by_action _ (passing size formed sources) e =
       by_due size formed sources _ (is_due (program_of image m.bytes) m request) e
 
   by_answer :
       (a : Answer ℕ) →
-      read_if_done a (action_read (program_of image m.bytes) m.bytes (action_of image m request)) ≡ origin.From x →
+      read_if_done a (action_read (program_of image m.bytes) m.bytes (action_of image m request)) ≡ Some x →
       Reads image m request
   by_answer (done spent) e = by_action (action_of image m request) (is_tested image m request) e
   by_answer (refused r) e = not_read x e

@@ -15,8 +15,7 @@ use Rattle.control.specs.declared.Mode.{Mode}
 use Rattle.control.specs.declared.Mode.TheVariants.{Reset, Normal, Interrupt, NmiOverNormal, NmiOverInterrupt}
 use Rattle.control.specs.declared.Control.{Control}
 use Rattle.control.specs.declared.Stop.{Stop}
-use Rattle.control.specs.declared.Stop.TheVariants as stop
-use Rattle.control.specs.declared.Requested.TheVariants.{Nothing}
+use Rattle.std.specs.Prelude.{Option, Some, None}
 use Rattle.control.specs.Modes.{mode_beneath}
 use Rattle.control.specs.Stack.{goes_on, pop_of}
 use Rattle.control.specs.Update.{with_pc, with_mode}
@@ -112,11 +111,10 @@ module _ (image : List ℕ) (m : Machine) (flags : FlagPairs)
   unmoved a = record { answer = refl; control = refl; stack = refl; bytes = refl; pair = sym same }
 
   unless_stopped :
-      (s : Stop) (a b : Step) → Alike m.control.mode a b →
+      (s : Option Stop) (a b : Step) → Alike m.control.mode a b →
       Alike m.control.mode (stopped_of m s a) (stopped_of (with_flags m flags) s b)
-  unless_stopped stop.None a b h = h
-  unless_stopped stop.Full a b h = unmoved _
-  unless_stopped stop.Empty a b h = unmoved _
+  unless_stopped None a b h = h
+  unless_stopped (Some s) a b h = unmoved _
 
   -- an instruction sees the same of data in both machines
   acted :
@@ -207,7 +205,7 @@ and_false false = refl
 
 nothing_taken :
     (mode : Mode) → (mode ≡ NmiOverNormal) ⊎ (mode ≡ NmiOverInterrupt) → (enabled : Bool) (request : ℕ) →
-    requested_of mode enabled request ≡ Nothing
+    requested_of mode enabled request ≡ None
 unfolding requested_of
 nothing_taken mode (inl e) enabled request = rw e (simp and_false)
 nothing_taken mode (inr e) enabled request = rw e (simp and_false)

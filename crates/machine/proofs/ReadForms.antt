@@ -26,13 +26,11 @@ use Rattle.isa.specs.declared.Operand.{Operand}
 use Rattle.isa.specs.declared.Operand.TheVariants.{Direct, Short, ThroughX, ThroughY}
 use Rattle.isa.specs.declared.Instruction.{Instruction}
 use Rattle.isa.specs.declared.Instruction.TheVariants as I
-use Rattle.data.specs.declared.OperandRead.{OperandRead}
-use Rattle.data.specs.declared.OperandRead.TheVariants.{Nothing, Is}
+use Rattle.std.specs.Prelude.{Option, Some, None}
 use Rattle.data.specs.Space.{address_of, operand_of}
 use Rattle.data.specs.Effect.{Data, data_of, accumulator_of, store_result_of, effect_of}
 use Rattle.data.specs.Reads.{operand_read_of}
 use Rattle.control.specs.declared.Control.{Control}
-use Rattle.control.specs.declared.Stop.TheVariants as stop
 use Rattle.control.specs.Transfers.{advance_of}
 use Rattle.machine.specs.Execute.{agrees, jumps_of, execute_of}
 use Rattle.machine.specs.OriginTold.{UsesA, add, sub, and, cp, Storing, nothing, byte, stored_by}
@@ -51,11 +49,11 @@ pub data ReadForm : Instruction → Operand → Type 0 where
   is_jrr : (n a : ℕ) (e : _) → ReadForm (I.Jrr n a e) (Direct a)
   is_jrs : (n a : ℕ) (e : _) → ReadForm (I.Jrs n a e) (Direct a)
 
-none : {P : Type 0} (o : Operand) → ◌≡◌ {A = OperandRead} Nothing (Is o) → P
+none : {P : Type 0} (o : Operand) → ◌≡◌ {A = Option Operand} None (Some o) → P
 none o e = let z : ◌≡◌ {A = ℕ} 0 1 = cc in absurd (omega arith)
 
 -- .. are those of the table
-pub read_form : (i : Instruction) (o : Operand) → operand_read_of i ≡ Is o → ReadForm i o
+pub read_form : (i : Instruction) (o : Operand) → operand_read_of i ≡ Some o → ReadForm i o
 unfolding operand_read_of
 read_form (I.LoadA p) o e = let same : p ≡ o = cc in rw same (is_load o)
 read_form (I.Add p) o e = let same : p ≡ o = cc in rw same (is_add o)
@@ -114,7 +112,7 @@ pub record MadeOf (i : Instruction) (o : Operand) : Type 0 where
   pub same : (x x' v a : ℕ) (f : Flags) → (UsesA i → x ≡ x') → change_of x v a f ≡ change_of x' v a f
   pub goes :
       (image : List ℕ) (d : Data) (stack : List ℕ) (c : Control) (next : ℕ) →
-      (execute_of image d stack c i next).stop ≡ stop.None
+      (execute_of image d stack c i next).stop ≡ None
 
 pub made_of : (i : Instruction) (o : Operand) → ReadForm i o → MadeOf i o
 unfolding effect_of store_result_of operand_of address_of flow_of execute_of advance_of
@@ -232,10 +230,10 @@ abbrev on_control :
 on_control jumps effect_is jumps_is =
     record { change_of = λ a x y f. change nothing f; jumps = jumps; effect_is = effect_is; jumps_is = jumps_is }
 
-some : {P : Type 0} (o : Operand) → ◌≡◌ {A = OperandRead} (Is o) Nothing → P
+some : {P : Type 0} (o : Operand) → ◌≡◌ {A = Option Operand} (Some o) None → P
 some o e = let z : ◌≡◌ {A = ℕ} 0 1 = cc in absurd (omega arith)
 
-pub made_apart : (i : Instruction) → operand_read_of i ≡ Nothing → MadeApart i
+pub made_apart : (i : Instruction) → operand_read_of i ≡ None → MadeApart i
 unfolding operand_read_of effect_of store_result_of address_of flow_of
 made_apart (I.StoreA (Direct at)) e =
     on_data_lem (λ a x y f. result at (result_of a f.carry)) (λ image d. refl) (λ image d pc. refl)

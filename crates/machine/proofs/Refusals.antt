@@ -7,15 +7,16 @@ use native.Mathlib.Omega.{arith}
 use borrow.Author.Tests.{lt-leb, le-leb, lt-ltb, leb-true, leb-false, ltb-true}
 use lib.Dec.{leb, ltb}
 use lib.ListN.{length, get_or}
-use Rattle.isa.specs.Refusals.{Numbered, plain, located, Answer, done, refused, unless}
+use Rattle.isa.specs.Refusals.{Numbered, plain, Answer, done, refused, unless}
 use Rattle.isa.specs.Displacement.{forward_of}
 use Rattle.isa.specs.ControlFlow.{flow_of}
 use Rattle.isa.specs.Sources.{names_only_sources}
 use Rattle.isa.specs.Rom.{is_image}
 use Rattle.isa.specs.declared.Instruction.{Instruction}
 use Rattle.isa.specs.declared.Instruction.TheVariants as I
+use Rattle.std.specs.Prelude.{Some}
 use Rattle.control.specs.declared.Stop.{Stop}
-use Rattle.control.specs.declared.Stop.TheVariants as stop
+use Rattle.control.specs.declared.Stop.TheVariants.{Full, Empty}
 use Rattle.control.specs.Transfers.{advance_of}
 use Rattle.control.specs.Requests.{take_of}
 use Rattle.control.proofs.Stopped.{take_stops, call_stops, pop_stops, return_stops}
@@ -23,22 +24,13 @@ use Rattle.data.specs.Space.{program_of}
 use Rattle.machine.specs.declared.Machine.{Machine}
 use Rattle.machine.specs.Execute.{execute_of}
 use Rattle.machine.specs.State.{is_well_formed, with_byte, host_stored, host_store_of}
-use Rattle.machine.specs.Advance.{
-  Step,
-  refused_of,
-  stopped_of,
-  taken_by,
-  taken_of,
-  completed_of,
-  executed_of,
-  acted_of,
-  advanced_of,
-}
+use Rattle.machine.specs.Advance.{Step, refused_of, stop_at, taken_by, taken_of, completed_of, executed_of, acted_of, advanced_of}
 use Rattle.machine.specs.Actions.{action_of}
 use Rattle.machine.specs.Step.{step_of}
 use Rattle.machine.specs.Steps.{requests_fit, steps_of}
 use Rattle.machine.specs.Run.{refused_run, run_of}
-use Rattle.machine.specs.Reading.{Reading, reading_of}
+use Rattle.machine.specs.declared.reading.Reading.{Reading}
+use Rattle.machine.specs.Reading.{reading_of}
 use Rattle.machine.specs.Refusals as why
 use Rattle.machine.specs.Refusals.{
   TakesNone,
@@ -68,28 +60,28 @@ module _ (image : List ℕ) (m : Machine) (request : ℕ) where
   instruction_stops :
       TakesNone m request → m.control.asleep ≡ false → (i : Instruction) (bytes cycles : ℕ) →
       AtPc image m i bytes cycles →
-      (s : Stop) (n : ℕ) → ((more : Step) → stopped_of m s more ≡ refused_of m (located n m.control.pc)) →
-      (execution_at image m i bytes).stop ≡ s → advanced_of image m request ≡ refused_of m (located n m.control.pc)
+      (s : Stop) → (execution_at image m i bytes).stop ≡ Some s →
+      advanced_of image m request ≡ refused_of m (stop_at s m.control.pc)
   unfolding advanced_of acted_of executed_of completed_of
-  instruction_stops none awake i bytes cycles at s n is e =
-      ap (acted_of image m) (awake_due image m request none awake _ at) ∙ rw e (is _)
+  instruction_stops none awake i bytes cycles at s e =
+      ap (acted_of image m) (awake_due image m request none awake _ at) ∙ rw e
 
   stop_given : (r : Numbered) → StepStops image m request r → advanced_of image m request ≡ refused_of m r
   unfolding advanced_of acted_of taken_of taken_by execute_of advance_of flow_of
   stop_given _ (why.request_full source e six) =
-      let full : (take_of m.stack m.control source).stop ≡ stop.Full =
+      let full : (take_of m.stack m.control source).stop ≡ Some Full =
       (take_stops m.stack m.control source).stop ∙ rw six in
       ap (acted_of image m) (takes_due image m request source e) ∙ rw full
   stop_given r (why.undecoded _ none awake e) =
       ap (acted_of image m) (awake_due image m request none awake _ e)
   stop_given _ (why.call_full to bytes cycles none awake at six) =
-      instruction_stops none awake (I.Call to) bytes cycles at stop.Full 6 (λ more. refl)
+      instruction_stops none awake (I.Call to) bytes cycles at Full
       ((call_stops m.stack m.control to (forward_of m.control.pc bytes)).stop ∙ rw six)
   stop_given _ (why.ret_empty bytes cycles none awake at empty) =
-      instruction_stops none awake I.Ret bytes cycles at stop.Empty 7 (λ more. refl)
+      instruction_stops none awake I.Ret bytes cycles at Empty
       ((pop_stops m.stack m.control).stop ∙ rw empty)
   stop_given _ (why.reti_empty bytes cycles none awake at empty mode) =
-      instruction_stops none awake I.Reti bytes cycles at stop.Empty 7 (λ more. refl)
+      instruction_stops none awake I.Reti bytes cycles at Empty
       ((return_stops m.stack m.control (forward_of m.control.pc bytes)).stop ∙ rw (empty, mode))
 
 module _ (image : List ℕ) (m : Machine) (request : ℕ) where

@@ -1,5 +1,5 @@
 -- A run step by step.
-use Prim.Native.Nat.{ℕ, zero, suc, ◌+◌, ◌-◌, ◌<◌, ◌≤◌}
+use Prim.Native.Nat.{ℕ, zero, suc, ◌+◌, ◌-◌, ◌<◌}
 use mathlib.Core.Path.{◌≡◌, refl, sym, ap, ◌∙◌}
 use mathlib.Core.Bool.{Bool, true, false, and-eq-true_iff}
 use mathlib.Core.List.{List}
@@ -7,8 +7,15 @@ use native.Mathlib.Omega.{arith}
 use native.Mathlib.Nat.{zero-add, suc-add}
 use native.Mathlib.Numerals.{add-one}
 use borrow.Author.Count.{below_more}
-use lib.ListN.{get_or, length, get_or-eq_default}
-use Rattle.isa.specs.Refusals.{Numbered, done, refused}
+use borrow.Author.Tests.{ltb-true, ltb-false}
+use lib.Dec.{ltb}
+use lib.ListN.{get_or, length, take, get_or-eq_default, length-take}
+use Rattle.std.proofs.lemmas.List.{get_or-take}
+use Rattle.std.specs.Bool.{MatchBool}
+use Rattle.std.specs.List.{AllWithin, HoldsAt}
+use Rattle.std.specs.Prelude.{Result, Ok, Err, is_err}
+use Rattle.isa.specs.declared.Refusal.{Refusal}
+use Rattle.isa.specs.Refusals.{Numbered, done, refused, answered}
 use Rattle.isa.specs.Sources.{names_only_sources}
 use Rattle.isa.specs.Rom.{is_image}
 use Rattle.isa.specs.Decode.{decode_at}
@@ -18,8 +25,11 @@ use Rattle.machine.specs.State.{is_well_formed}
 use Rattle.machine.specs.Advance.{Step, done_of, refused_of, acted_of, advanced_of}
 use Rattle.machine.specs.Actions.{decoded_action, unrequested_action}
 use Rattle.machine.specs.Step.{step_of}
-use Rattle.machine.specs.Steps.{Run, run_at, continued_of, steps_of, requests_fit}
+use Rattle.machine.specs.Steps.{Run, run_at, settled_by, continued_of, steps_of, requests_fit}
 use Rattle.machine.proofs.Due.{action_due}
+
+apart : ◌≡◌ {A = Bool} false true → ⊥
+apart e = let z : ◌≡◌ {A = ℕ} 0 1 = cc in omega arith
 
 -- a step that is not refused
 pub step_advances :
@@ -49,21 +59,32 @@ fits_not requests n k h named true e =
     let fits : names_only_sources (get_or requests k 0) ≡ true = fits_at requests n e k h in
     cc
 
--- past the list's end there is nothing that does not fit
-past_end :
-    (requests : List ℕ) (d : ℕ) → requests_fit requests (d + length requests) ≡ requests_fit requests (length requests)
+-- they fit if each does
+all_fit :
+    (requests : List ℕ) (n : ℕ) → ((k : ℕ) → k < n → names_only_sources (get_or requests k 0) ≡ true) →
+    requests_fit requests n ≡ true
 unfolding requests_fit
-past_end requests zero = ap (requests_fit requests) (zero-add (length requests))
-past_end requests (suc d) =
-    ap (requests_fit requests) (suc-add d (length requests))
-    ∙ rw (get_or-eq_default requests 0 {n = d + length requests} (omega arith)) (past_end requests d)
+all_fit requests zero f = refl
+all_fit requests (suc n) f = rw (f n (omega arith)) (all_fit requests n (λ k h. f k (omega arith)))
 
-pub fit_past :
-    (requests : List ℕ) (n : ℕ) → length requests ≤ n →
-    requests_fit requests (length requests) ≡ requests_fit requests n
-fit_past requests n h =
-    let whole : (n - length requests) + length requests ≡ n = omega arith in
-    sym (past_end requests (n - length requests)) ∙ ap (requests_fit requests) whole
+-- the test looks at the bytes that there are, since past the list's end there is nothing that does not fit
+pub fit_taken :
+    (requests : List ℕ) (n : ℕ) (b : Bool) →
+    MatchBool b
+    (AllWithin (λ q. names_only_sources q ≡ true) (take n requests) 0 (length (take n requests)))
+    ((k : ℕ) × (k < length (take n requests)) × HoldsAt (λ q. names_only_sources q ≡ false) (take n requests) k) →
+    b ≡ requests_fit requests n
+fit_taken requests n true f = sym (all_fit requests n (λ k h. at k h (ltb k (length requests)) refl))
+  where
+    at : (k : ℕ) → k < n → (t : Bool) → ltb k (length requests) ≡ t → names_only_sources (get_or requests k 0) ≡ true
+    at k h true e =
+        let inside : k < length (take n requests) =
+        omega (arith, length-take n requests, ltb-true k (length requests) e, h) in
+        rw get_or-take at (f k 0 (omega arith) inside)
+    at k h false e = rw (get_or-eq_default requests 0 {n = k} (ltb-false k (length requests) e))
+fit_taken requests n false (k, h, f) =
+    let inside : k < n = omega (arith, length-take n requests, h) in
+    sym (fits_not requests n k inside (rw (get_or-take n requests k 0 inside) at (f 0)) _ refl)
 
 -- step i of a run, from what the program knows
 pub stepped :
@@ -140,3 +161,14 @@ module _ (image requests : List ℕ) (m : Machine) where
       let whole : (n - suc i) + suc i ≡ n = omega arith in
       here ∙ sym (stays_by (suc i) (n - suc i) r (sym (ap (λ (x : Run). x.report.ending) here)))
       ∙ ap (steps_of image requests m) whole
+
+-- a part of a run that stops settles all its steps, and one that does not those that it counts
+pub stopped_settles : (r : Result (Unit {0}) Refusal) (steps n : ℕ) → is_err r ≡ true → settled_by r steps n ≡ n
+stopped_settles (Ok u) steps n e = absurd (apart e)
+stopped_settles (Err r) steps n e = refl
+
+pub counted_settles :
+    (r : Result (Unit {0}) Refusal) (steps n : ℕ) → is_err r ≡ false →
+    (settled_by r steps n ≡ steps) × (answered r ≡ done tt)
+counted_settles (Ok u) steps n e = (refl, refl)
+counted_settles (Err r) steps n e = absurd (apart (sym e))

@@ -18,8 +18,9 @@ use Rattle.isa.specs.Decode as decode
 use Rattle.isa.specs.declared.Instruction.{Instruction}
 use Rattle.isa.specs.declared.Source.{Source}
 use Rattle.isa.proofs.AtAddress.{AtAddress, at_address}
+use Rattle.std.specs.Prelude.{Option, Some, None}
 use Rattle.control.specs.declared.Stop.{Stop}
-use Rattle.control.specs.declared.Stop.TheVariants as stop
+use Rattle.control.specs.declared.Stop.TheVariants.{Full, Empty}
 use Rattle.control.specs.Modes.{is_reset}
 use Rattle.control.specs.Stack.{is_full}
 use Rattle.control.specs.Transfers.{advance_of}
@@ -32,6 +33,7 @@ use Rattle.machine.specs.State.{view_of, is_well_formed}
 use Rattle.machine.specs.Advance.{
   Step,
   refused_of,
+  stop_at,
   stopped_of,
   taken_by,
   taken_of,
@@ -82,9 +84,9 @@ not_start_up false reset e = never e
 module _ (image : List ℕ) (m : Machine) (request : ℕ) (formed : is_well_formed m ≡ true) where
   -- by the test that makes it stop
   by_test :
-      (x : Stop) (more : Step) (s : Stop) (test : Bool) → x ≡ cond test s stop.None → (x ≡ stop.None →
+      (x : Option Stop) (more : Step) (s : Stop) (test : Bool) → x ≡ cond test (Some s) None → (x ≡ None →
       Does image m request more) →
-      (test ≡ true → Does image m request (stopped_of m s more)) → Does image m request (stopped_of m x more)
+      (test ≡ true → Does image m request (refused_of m (stop_at s m.control.pc))) → Does image m request (stopped_of m x more)
   by_test x more s true e goes stopping = rw e (stopping refl)
   by_test x more s false e goes stopping = rw e (goes e)
 
@@ -95,7 +97,7 @@ module _ (image : List ℕ) (m : Machine) (request : ℕ) (formed : is_well_form
   taken : (source : Source) → Takes m request source → Does image m request (taken_of m source)
   unfolding taken_of taken_by
   taken source e =
-      by_test _ _ stop.Full (is_full m.control) (take_stops m.stack m.control source).stop (takes source e)
+      by_test _ _ Full (is_full m.control) (take_stops m.stack m.control source).stop (takes source e)
       (λ f. stops _ (request_full source e (six f)))
 
   executed :
@@ -104,21 +106,21 @@ module _ (image : List ℕ) (m : Machine) (request : ℕ) (formed : is_well_form
       Does image m request (executed_of image m i bytes cycles)
   unfolding executed_of completed_of execute_of advance_of flow_of
   executed none awake i bytes cycles at (is_call to) =
-      by_test _ _ stop.Full (is_full m.control)
+      by_test _ _ Full (is_full m.control)
       (call_stops m.stack m.control to (forward_of m.control.pc bytes)).stop
       (executes i bytes cycles none awake at) (λ f. stops _ (call_full to bytes cycles none awake at (six f)))
   executed none awake i bytes cycles at is_ret =
-      by_test _ _ stop.Empty (eqb m.control.levels 0) (pop_stops m.stack m.control).stop
+      by_test _ _ Empty (eqb m.control.levels 0) (pop_stops m.stack m.control).stop
       (executes i bytes cycles none awake at)
       (λ f. stops _ (ret_empty bytes cycles none awake at (eqb-true m.control.levels 0 f)))
   executed none awake i bytes cycles at is_reti_lem =
-      by_test _ _ stop.Empty _ (return_stops m.stack m.control (forward_of m.control.pc bytes)).stop
+      by_test _ _ Empty _ (return_stops m.stack m.control (forward_of m.control.pc bytes)).stop
       (executes i bytes cycles none awake at)
       (λ f.
       let p = not_start_up (eqb m.control.levels 0) (is_reset m.control.mode) f in
       stops _ (reti_empty bytes cycles none awake at (eqb-true m.control.levels 0 p.0) p.1))
   executed none awake i bytes cycles at (goes_on_lem e) =
-      by_test _ _ stop.Full false (e image (view_of m) m.stack m.control (forward_of m.control.pc bytes))
+      by_test _ _ Full false (e image (view_of m) m.stack m.control (forward_of m.control.pc bytes))
       (executes i bytes cycles none awake at) (λ f. never f)
 
   -- what comes of an action that is due

@@ -8,15 +8,15 @@ use lib.Dec.{eqb, ltb}
 use lib.ListN.{length, get_or, set, replicate, length-replicate, get_or-replicate, get_or-eq_default}
 use lib.Seq.{get_or-set_same, get_or-set_other}
 use borrow.Author.Tests.{ltb-true, ltb-false, eqb-true, eqb-false}
+use Rattle.std.specs.Prelude.{Ok}
 use Rattle.isa.specs.Rom.{space_of}
 use Rattle.isa.specs.Decode.{decode_of}
 use Rattle.isa.specs.Predecoded.{tag_for, tag_of_word}
-use Rattle.machine.specs.declared.Fetched.TheVariants.{Word}
 use Rattle.machine.specs.Fetch.{fetched_as, Coherent}
 
 -- what a number stands for, if it has this tag
 abbrev Stands : (image : List ℕ) → (w bank a : ℕ) → Type 0
-Stands image w bank a = fetched_as (Word w) ≡ decode_of (space_of image bank) a
+Stands image w bank a = fetched_as (Ok w) ≡ decode_of (space_of image bank) a
 
 -- a tag tells its bank byte and its address
 module _ (bank a bank₀ a₀ : ℕ) (h : a < 4096) (h₀ : a₀ < 4096) (e : tag_for bank a ≡ tag_for bank₀ a₀) where

@@ -11,8 +11,8 @@ use Rattle.isa.specs.Rom.{is_image}
 use Rattle.isa.specs.Displacement.{forward_of}
 use Rattle.isa.specs.ControlFlow.{flow_of}
 use Rattle.isa.specs.declared.Instruction.{Instruction}
-use Rattle.data.specs.declared.OperandRead.{OperandRead}
-use Rattle.data.specs.declared.OperandRead.TheVariants.{Nothing, Is}
+use Rattle.isa.specs.declared.Operand.{Operand}
+use Rattle.std.specs.Prelude.{Option, Some, None}
 use Rattle.data.specs.Space.{program_of, in_window, address_of, operand_of}
 use Rattle.data.specs.Effect.{Data, accumulator_of, effect_of}
 use Rattle.data.specs.Reads.{operand_read_of}
@@ -31,7 +31,6 @@ use Rattle.data.proofs.UnderWindow.{
   kept_by_store,
 }
 use Rattle.control.specs.declared.Stop.{Stop}
-use Rattle.control.specs.declared.Stop.TheVariants as stop
 use Rattle.control.specs.Stack.{Transferred}
 use Rattle.control.specs.Requests.{take_of}
 use Rattle.control.specs.Transfers.{advance_of}
@@ -88,8 +87,8 @@ record OneChange (image : List ℕ) (d d' : Data) (i : Instruction) : Type 0 whe
 
 module _ (image : List ℕ) (d d' : Data) (flags : d.flags ≡ d'.flags) (same : SameButUnder d.bytes d'.bytes)
     (i : Instruction) where
-  by_operand : (r : OperandRead) → operand_read_of i ≡ r → OneChange image d d' i
-  by_operand (Is o) e =
+  by_operand : (r : Option Operand) → operand_read_of i ≡ r → OneChange image d d' i
+  by_operand (Some o) e =
       let made = made_of i o (read_form i o e) in
       let operand = same_operand d.bytes d'.bytes same image o in
       record {
@@ -107,7 +106,7 @@ module _ (image : List ℕ) (d d' : Data) (flags : d.flags ≡ d'.flags) (same :
             (made.effect_is image d');
         jumps = λ pc. made.jumps_is image d pc ∙ ap made.jumps operand ∙ sym (made.jumps_is image d' pc);
       }
-  by_operand Nothing e =
+  by_operand None e =
       let made = made_apart i e in
       record {
         change =
@@ -152,10 +151,9 @@ module _ (m m' : Machine) (same : AlikeButUnder m m') where
   }
 
   unless_stopped :
-      (x : Stop) (s s' : Step) → StepsAlike m m' s s' → StepsAlike m m' (stopped_of m x s) (stopped_of m' x s')
-  unless_stopped stop.None s s' h = h
-  unless_stopped stop.Full s s' h = unmoved _ _ (rw same.control)
-  unless_stopped stop.Empty s s' h = unmoved _ _ (rw same.control)
+      (x : Option Stop) (s s' : Step) → StepsAlike m m' s s' → StepsAlike m m' (stopped_of m x s) (stopped_of m' x s')
+  unless_stopped None s s' h = h
+  unless_stopped (Some stop) s s' h = unmoved _ _ (rw same.control)
 
   module _ (image : List ℕ) where
     abbrev transfer_of : Machine → Instruction → (bytes : ℕ) → Transferred

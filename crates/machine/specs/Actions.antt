@@ -1,7 +1,7 @@
 -- What a step is about to do (document 01, "Modes, stack, sleep" and "Step"): it takes a request, else it sleeps, else
 -- it
 -- executes the instruction at PC. A step's effect, the operand that it reads and its effect on the stack go by this.
-use Rattle.std.specs.Prelude.{ℕ, Bool, cond, List, get_or, length}
+use Rattle.std.specs.Prelude.{ℕ, Bool, cond, List, get_or, length, Option, Some, None}
 use Rattle.alu.specs.Alu.{bit_of}
 use Rattle.isa.specs.Refusals.{Numbered, plain, numbered, Answer, done, refused, unless}
 use Rattle.isa.specs.Sources.{names_only_sources}
@@ -12,8 +12,6 @@ use Rattle.isa.specs.declared.Instruction.{Instruction}
 use Rattle.isa.specs.declared.Source.{Source}
 use Rattle.data.specs.Space.{program_of}
 use Rattle.control.specs.declared.Control.{Control}
-use Rattle.control.specs.declared.Requested.{Requested}
-use Rattle.control.specs.declared.Requested.TheVariants.{Nothing, Taken}
 use Rattle.control.specs.Requests.{requested_of}
 use Rattle.machine.specs.declared.Machine.{Machine}
 use Rattle.machine.specs.declared.Action.{Action}
@@ -34,7 +32,7 @@ pub data StepAction : Type 0 where
 abbrev pub action_as : Action → StepAction
 action_as (action.Takes source) = takes source
 action_as action.Idles = idles
-action_as (action.Executes i bytes cycles) = executes i bytes cycles
+action_as (action.Executes d) = executes d.instruction d.length d.cycles
 action_as (action.Refused r) = refuses (numbered r)
 
 -- "Bit 4 of 0C8h enables sources 1 to 4.": of the byte stored there, not of a program's read, which gives 0. "The
@@ -51,9 +49,9 @@ decoded_action (refused r) = refuses r
 unfoldable pub unrequested_action : (image : List ℕ) → Control → StepAction
 unrequested_action image c = cond c.asleep idles (decoded_action (decode_at image c.pc))
 
-abbrev pub requested_action : (image : List ℕ) → Control → Requested → StepAction
-requested_action image c (Taken source) = takes source
-requested_action image c Nothing = unrequested_action image c
+abbrev pub requested_action : (image : List ℕ) → Control → Option Source → StepAction
+requested_action image c (Some source) = takes source
+requested_action image c None = unrequested_action image c
 
 -- with a program space, where 1, 2 and 11 do not apply
 unfoldable pub due_of : (image : List ℕ) → Machine → (request : ℕ) → StepAction
@@ -70,8 +68,8 @@ action_of image m request =
     (due_of (program_of image m.bytes) m request)))
 
 -- the request that an action takes, if any
-abbrev pub request_in : StepAction → Requested
-request_in (takes source) = Taken source
-request_in idles = Nothing
-request_in (executes i bytes cycles) = Nothing
-request_in (refuses r) = Nothing
+abbrev pub request_in : StepAction → Option Source
+request_in (takes source) = Some source
+request_in idles = None
+request_in (executes i bytes cycles) = None
+request_in (refuses r) = None

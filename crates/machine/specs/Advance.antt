@@ -1,28 +1,23 @@
 -- One step that is not refused (document 01, "Modes, stack, sleep" and "Step").
-use Rattle.std.specs.Prelude.{ℕ, List}
-use Rattle.isa.specs.Refusals.{Numbered, located, numbered, Answer, done, refused}
+use Rattle.std.specs.Prelude.{ℕ, List, Option, Some, None, Result}
+use Rattle.isa.specs.Refusals.{Numbered, located, Answer, done, refused, answered}
 use Rattle.isa.specs.Displacement.{forward_of}
 use Rattle.isa.specs.declared.Instruction.{Instruction}
+use Rattle.isa.specs.declared.Refusal.{Refusal}
 use Rattle.isa.specs.declared.Source.{Source}
+use Rattle.alu.specs.declared.Flags.{Flags}
 use Rattle.control.specs.declared.Mode.{Mode}
 use Rattle.control.specs.declared.Stop.{Stop}
-use Rattle.control.specs.declared.Stop.TheVariants as stop
+use Rattle.control.specs.declared.Stop.TheVariants.{Full, Empty}
 use Rattle.control.specs.Stack.{Transferred}
 use Rattle.control.specs.Requests.{take_of}
 use Rattle.machine.specs.declared.FlagPairs.{FlagPairs}
 use Rattle.machine.specs.declared.Machine.{Machine}
-use Rattle.machine.specs.declared.StepAnswer.{StepAnswer}
-use Rattle.machine.specs.declared.StepAnswer.TheVariants as answer
-use Rattle.machine.specs.declared.Advanced.{Advanced}
+use Rattle.machine.specs.declared.Progress.{Progress}
 use Rattle.machine.specs.Pairs.{with_pair_of}
 use Rattle.machine.specs.Execute.{Execution, execute_of}
 use Rattle.machine.specs.State.{machine_of, view_of}
 use Rattle.machine.specs.Actions.{StepAction, takes, idles, executes, refuses, due_of}
-
--- a step's answer by document 01's numbers: done in so many cycles, or refused or stopped
-abbrev pub answer_of : StepAnswer → Answer ℕ
-answer_of (answer.Done cycles) = done cycles
-answer_of (answer.Refused r) = refused (numbered r)
 
 -- a machine after a step, and the step's answer
 pub record Step : Type 0 where
@@ -30,10 +25,10 @@ pub record Step : Type 0 where
   pub answer : Answer ℕ
 
 -- the program's answer, with the bytes and the stack that it was lent; its flags are the pair of a mode
-abbrev pub advanced_as : FlagPairs → Mode → (bytes stack : List ℕ) → Advanced → Step
+abbrev pub advanced_as : FlagPairs → Mode → (bytes stack : List ℕ) → Progress Flags (Result ℕ Refusal) → Step
 advanced_as pairs mode bytes stack r = record {
   machine = machine_of r.control stack (with_pair_of pairs mode r.flags) bytes;
-  answer = answer_of r.answer;
+  answer = answered r.report;
 }
 
 abbrev pub done_of : Machine → (cycles : ℕ) → Step
@@ -43,11 +38,15 @@ done_of m cycles = record { machine = m; answer = done cycles }
 abbrev pub refused_of : Machine → Numbered → Step
 refused_of m r = record { machine = m; answer = refused r }
 
--- by whether a stop is met: 6 and 7 give the address at PC
-abbrev pub stopped_of : Machine → Stop → Step → Step
-stopped_of m stop.None more = more
-stopped_of m stop.Full more = refused_of m (located 6 m.control.pc)
-stopped_of m stop.Empty more = refused_of m (located 7 m.control.pc)
+-- 6 and 7 give the address at PC
+abbrev pub stop_at : Stop → (pc : ℕ) → Numbered
+stop_at Full pc = located 6 pc
+stop_at Empty pc = located 7 pc
+
+-- by whether a stop is met
+abbrev pub stopped_of : Machine → Option Stop → Step → Step
+stopped_of m None more = more
+stopped_of m (Some s) more = refused_of m (stop_at s m.control.pc)
 
 -- the machine after a request: flags and data as they were
 abbrev pub served_of : Machine → Transferred → Machine

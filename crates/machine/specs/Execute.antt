@@ -1,6 +1,6 @@
 -- One instruction: its effect on data and flags, and where its flow takes control. The two do not look at each other,
 -- but for the condition of a branch.
-use Rattle.std.specs.Prelude.{ℕ, Bool, true, false, not, List}
+use Rattle.std.specs.Prelude.{ℕ, Bool, true, false, not, List, Option, Some, None, Result, Ok, Err}
 use Rattle.alu.specs.Alu.{bit_of}
 use Rattle.data.specs.Space.{read_of}
 use Rattle.data.specs.Effect.{Data, data_of, effect_of}
@@ -15,6 +15,7 @@ use Rattle.control.specs.declared.Stop.{Stop}
 use Rattle.control.specs.Stack.{Transferred}
 use Rattle.control.specs.Transfers.{advance_of}
 use Rattle.machine.specs.declared.Executed.{Executed}
+use Rattle.machine.specs.declared.Room.TheVariants.{Spare}
 
 -- a flag or a bit is the value at which a branch jumps
 abbrev pub agrees : (value is : Bool) → Bool
@@ -41,12 +42,12 @@ pub record Execution : Type 0 where
   pub space : Data
   pub control : Control
   pub stack : List ℕ
-  pub stop : Stop
+  pub stop : Option Stop
 
--- the program's answer, with the bytes and the stack that it was lent
+-- the program's answer where it goes on, with the bytes and the stack that it was lent
 abbrev pub execution_of : (bytes stack : List ℕ) → Executed → Execution
 execution_of bytes stack r =
-    record { space = data_of bytes r.flags; control = r.control; stack = stack; stop = r.stop }
+    record { space = data_of bytes r.flags; control = r.control; stack = stack; stop = None }
 
 -- data and flags as an effect leaves them, control and stack as a transfer does
 abbrev pub execution_by : Data → Transferred → Execution
@@ -58,3 +59,22 @@ unfoldable pub execute_of :
 execute_of image d stack c i next =
     execution_by (effect_of image d i)
     (advance_of stack c (flow_of i c.pc) (jumps_of image d (flow_of i c.pc)) next)
+
+-- what the program answers of an execution, and how it leaves the bytes and the stack that it was lent
+pub record Left : Type 0 where
+  pub bytes : List ℕ
+  pub stack : List ℕ
+  pub answer : Result Executed Stop
+
+abbrev pub left_of : (bytes stack : List ℕ) → Result Executed Stop → Left
+left_of bytes stack r = record { bytes = bytes; stack = stack; answer = r }
+
+-- control and flags; of an instruction that stops only why
+abbrev pub unless_stopped : Option Stop → Executed → Result Executed Stop
+unless_stopped None r = Ok r
+unless_stopped (Some s) r = Err s
+
+abbrev pub left_by : Execution → Left
+left_by x =
+    left_of x.space.bytes x.stack
+    (unless_stopped x.stop (record { control = x.control; flags = x.space.flags; room = Spare }))

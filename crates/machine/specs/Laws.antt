@@ -1,6 +1,6 @@
 -- What callers may rely on of step, run, host store and reset: claims about the definitions (document 01, "Modes,
 -- stack, sleep" and "What each operation turns down").
-use Rattle.std.specs.Prelude.{ℕ, ◌+◌, ◌≤◌, ◌≡◌, true, false, List, [], ◌∷◌, length, drop}
+use Rattle.std.specs.Prelude.{ℕ, ◌+◌, ◌≤◌, ◌≡◌, true, false, List, [], ◌∷◌, length, drop, None}
 use Rattle.isa.specs.Refusals.{Numbered, located, Ended, done, refused}
 use Rattle.isa.specs.RoundTrip.{Bytes}
 use Rattle.isa.specs.Sources.{names_only_sources}
@@ -11,7 +11,6 @@ use Rattle.isa.specs.declared.Instruction.{Instruction}
 use Rattle.isa.specs.declared.Flow.TheVariants as flow
 use Rattle.isa.specs.declared.Source.{Source}
 use Rattle.data.specs.Space.{program_of}
-use Rattle.control.specs.declared.Stop.TheVariants as stop
 use Rattle.control.specs.Update.{with_pc}
 use Rattle.control.specs.Requests.{take_of}
 use Rattle.machine.specs.declared.Machine.{Machine}
@@ -51,13 +50,13 @@ StopsNumbered =
 pub data Does (image : List ℕ) (m : Machine) (request : ℕ) : Step → Type 0 where
   stops : (r : Numbered) → StepStops image m request r → Does image m request (refused_of m r)
   takes :
-      (source : Source) → Takes m request source → (take_of m.stack m.control source).stop ≡ stop.None →
+      (source : Source) → Takes m request source → (take_of m.stack m.control source).stop ≡ None →
       Does image m request (done_of (served_of m (take_of m.stack m.control source)) 1)
   idles : TakesNone m request → m.control.asleep ≡ true → Does image m request (done_of m 0)
   executes :
       (i : Instruction) (bytes cycles : ℕ) → TakesNone m request → m.control.asleep ≡ false →
       AtPc image m i bytes cycles →
-      (execution_at image m i bytes).stop ≡ stop.None →
+      (execution_at image m i bytes).stop ≡ None →
       Does image m request (done_of (after_of m (execution_at image m i bytes)) cycles)
 
 -- of every step to which 1, 2 and 11 do not apply

@@ -1,12 +1,12 @@
 -- "With one page all equals the 4K machine, but for that clearing" (document 02, W-210): what the machine's operations
 -- answered of an image without pages to choose from, by their definitions as they were. The image itself was program
 -- space, and no byte picked a page.
-use Rattle.std.specs.Prelude.{ℕ, zero, suc, ◌≡◌, true, List, leb, length, get_or, set, replicate}
+use Rattle.std.specs.Prelude.{ℕ, zero, suc, ◌≡◌, true, List, leb, length, get_or, set, replicate, Option}
 use Rattle.isa.specs.Rom.{is_space}
 use Rattle.isa.specs.Decode.{decode_at, decode_in}
 use Rattle.isa.specs.Refusals.{plain, Answer, Ended, done, refused, unless}
 use Rattle.isa.specs.Sources.{names_only_sources}
-use Rattle.data.specs.declared.OriginRead.{OriginRead}
+use Rattle.data.specs.declared.Origin.{Origin}
 use Rattle.data.specs.Space.{read_of, origin_of}
 use Rattle.machine.specs.declared.Machine.{Machine}
 use Rattle.machine.specs.State.{machine_of, cleared_pairs, reset_control, is_well_formed, reset_of}
@@ -14,7 +14,8 @@ use Rattle.machine.specs.Step.{Step, refused_of, due_of, advanced_of, step_of}
 use Rattle.machine.specs.Steps.{Run, run_at, joined_of}
 use Rattle.machine.specs.Run.{requests_fit, refused_run, steps_of, run_of}
 use Rattle.machine.specs.Operands.{action_read, read_if_done, step_read_of}
-use Rattle.machine.specs.Reading.{Reading, reading_as, reading_of}
+use Rattle.machine.specs.declared.reading.Reading.{Reading}
+use Rattle.machine.specs.Reading.{reading_as, reading_of}
 
 -- a step
 abbrev pub step_unpaged : (image : List ℕ) → Machine → (request : ℕ) → Step
@@ -24,7 +25,7 @@ step_unpaged image m request =
     (unless (names_only_sources request) (refused_of m (plain 11)) (advanced_of image m request)))
 
 -- what it reads
-abbrev pub step_read_unpaged : (image : List ℕ) → Machine → (request : ℕ) → OriginRead
+abbrev pub step_read_unpaged : (image : List ℕ) → Machine → (request : ℕ) → Option Origin
 step_read_unpaged image m request =
     read_if_done (step_unpaged image m request).answer
     (action_read image m.bytes (due_of image m request))

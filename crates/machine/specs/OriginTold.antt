@@ -1,6 +1,6 @@
 -- What holds of the origin that a step tells and of the reading (document 02, W-203): the byte told of is the byte that
 -- the instruction used.
-use Rattle.std.specs.Prelude.{ℕ, ◌≡◌, true, false, List, length, get_or, ℤ}
+use Rattle.std.specs.Prelude.{ℕ, ◌≡◌, true, false, List, length, get_or, ℤ, Some, None}
 use Rattle.isa.specs.Refusals.{done}
 use Rattle.isa.specs.Sources.{names_only_sources}
 use Rattle.isa.specs.Rom.{is_image}
@@ -8,11 +8,8 @@ use Rattle.isa.specs.declared.Instruction.{Instruction}
 use Rattle.isa.specs.declared.Instruction.TheVariants as I
 use Rattle.isa.specs.declared.Operand.{Operand}
 use Rattle.isa.specs.declared.Operand.TheVariants.{Direct, Short, ThroughX, ThroughY}
-use Rattle.isa.specs.declared.Encoded.TheVariants.{Unencodable}
 use Rattle.isa.specs.Encode.{encode_of}
 use Rattle.data.specs.declared.Origin.{Origin}
-use Rattle.data.specs.declared.OperandRead.TheVariants.{Nothing, Is}
-use Rattle.data.specs.declared.OriginRead.TheVariants.{From}
 use Rattle.data.specs.Space.{program_of, read_of, store_of, address_of}
 use Rattle.data.specs.Effect.{accumulator_of}
 use Rattle.data.specs.Reads.{operand_read_of}
@@ -41,7 +38,7 @@ pub record TellsOf (image : List ℕ) (m : Machine) (request cycles a : ℕ) : T
   pub origin : Origin
   pub reading : reading_of image m a ≡ done (reading_as byte origin)
   pub comes : ComesFrom (program_of image m.bytes) m.bytes a byte origin
-  pub told : step_read_of image m request ≡ From origin
+  pub told : step_read_of image m request ≡ Some origin
 
 -- a step completes an instruction that reads
 pub record Reads (image : List ℕ) (m : Machine) (request : ℕ) : Type 0 where
@@ -50,7 +47,7 @@ pub record Reads (image : List ℕ) (m : Machine) (request : ℕ) : Type 0 where
   pub cycles : ℕ
   pub o : Operand
   pub executes : Executes image m request i bytes cycles
-  pub reads : operand_read_of i ≡ Is o
+  pub reads : operand_read_of i ≡ Some o
   pub completed : (step_of image m request).answer ≡ done cycles
 
 -- of the instructions that read, these use A too
@@ -131,7 +128,7 @@ pub record Matters (i : Instruction) : Type 0 where
   pub like : Instruction
   pub same_form : SameForm i like
   pub o : Operand
-  pub reads : operand_read_of like ≡ Is o
+  pub reads : operand_read_of like ≡ Some o
   pub image : List ℕ
   pub m : Machine
   pub value : ℕ
@@ -151,11 +148,11 @@ pub record OriginTold : Type 0 where
   -- operand's address on the machine before the step
   pub told :
       (image : List ℕ) (m : Machine) (request : ℕ) (i : Instruction) (bytes cycles : ℕ) (o : Operand) →
-      Executes image m request i bytes cycles → operand_read_of i ≡ Is o →
+      Executes image m request i bytes cycles → operand_read_of i ≡ Some o →
       TellsOf image m request cycles (address_of m.bytes o)
   -- and no other step tells one: not one that is refused or stops, takes a request, is idle or does not read
   pub only :
-      (image : List ℕ) (m : Machine) (request : ℕ) (origin : Origin) → step_read_of image m request ≡ From origin →
+      (image : List ℕ) (m : Machine) (request : ℕ) (origin : Origin) → step_read_of image m request ≡ Some origin →
       Reads image m request
   -- the byte told of is the one used: machines and images that agree on it, and on all else that the instruction uses,
   -- step alike, whatever the rest of them holds
@@ -163,17 +160,17 @@ pub record OriginTold : Type 0 where
       (image : List ℕ) (m : Machine) (image' : List ℕ) (m' : Machine) (request request' : ℕ) (i : Instruction)
       (bytes cycles : ℕ) (o : Operand) →
       Executes image m request i bytes cycles → Executes image' m' request' i bytes cycles →
-      operand_read_of i ≡ Is o → AgreeOn image m image' m' i o →
+      operand_read_of i ≡ Some o → AgreeOn image m image' m' i o →
       StepsAlike m m' (step_of image m request) (step_of image' m' request')
   -- .. and it is used, not just written or passed by: so for each form of an instruction that can be written, and each
   -- kind of its operand. LDI told as reading would have no such machines
   pub matters :
-      (i : Instruction) (o : Operand) → (encode_of i ≡ Unencodable → ⊥) → operand_read_of i ≡ Is o → Matters i
+      (i : Instruction) (o : Operand) → (encode_of i ≡ None → ⊥) → operand_read_of i ≡ Some o → Matters i
   -- and where an instruction reads none, no other byte of data space and nothing that the ROM window shows is used:
   -- machines that agree on A, X and Y, and on control, stack and flags, step alike
   pub unread :
       (image : List ℕ) (m : Machine) (image' : List ℕ) (m' : Machine) (request request' : ℕ) (i : Instruction)
       (bytes cycles : ℕ) →
       Executes image m request i bytes cycles → Executes image' m' request' i bytes cycles →
-      operand_read_of i ≡ Nothing → AgreeApart m m' →
+      operand_read_of i ≡ None → AgreeApart m m' →
       StepsAlike m m' (step_of image m request) (step_of image' m' request')

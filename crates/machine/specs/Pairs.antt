@@ -1,23 +1,8 @@
 -- The flag pair of a mode (document 01, "Modes, stack, sleep").
-use Rattle.std.specs.Prelude.{Bool, true, false}
 use Rattle.alu.specs.declared.Flags.{Flags}
 use Rattle.control.specs.declared.Mode.{Mode}
 use Rattle.control.specs.declared.Mode.TheVariants.{Reset, Normal, Interrupt, NmiOverNormal, NmiOverInterrupt}
 use Rattle.machine.specs.declared.FlagPairs.{FlagPairs}
-
-abbrev pub is_normal : Mode → Bool
-is_normal Normal = true
-is_normal Interrupt = false
-is_normal Reset = false
-is_normal NmiOverNormal = false
-is_normal NmiOverInterrupt = false
-
-abbrev pub is_interrupt : Mode → Bool
-is_interrupt Normal = false
-is_interrupt Interrupt = true
-is_interrupt Reset = false
-is_interrupt NmiOverNormal = false
-is_interrupt NmiOverInterrupt = false
 
 -- "Normal and interrupt each have their own Z and C; the other three share the NMI pair."
 abbrev pub pair_of : FlagPairs → Mode → Flags

@@ -1,26 +1,16 @@
 -- Reading a data byte, with its origin (document 02, W-203).
 use Rattle.std.specs.Prelude.{ℕ, List, length}
-use Rattle.isa.specs.Refusals.{plain, numbered, Answer, done, refused, unless}
+use Rattle.isa.specs.Refusals.{plain, Answer, done, refused, unless}
 use Rattle.isa.specs.Rom.{is_image}
 use Rattle.data.specs.declared.Origin.{Origin}
 use Rattle.data.specs.Space.{program_of, read_of, origin_of}
 use Rattle.machine.specs.declared.Machine.{Machine}
-use Rattle.machine.specs.declared.ReadAnswer.{ReadAnswer}
-use Rattle.machine.specs.declared.ReadAnswer.TheVariants as answer
+use Rattle.machine.specs.declared.reading.Reading.{Reading}
 use Rattle.machine.specs.State.{is_well_formed}
 
 -- "Reading a data byte shall also tell its origin"
-pub record Reading : Type 0 where
-  pub byte : ℕ
-  pub origin : Origin
-
 abbrev pub reading_as : (byte : ℕ) → Origin → Reading
 reading_as byte origin = record { byte = byte; origin = origin }
-
--- the program's answer by the papers' numbers
-abbrev pub read_answer_of : ReadAnswer → Answer Reading
-read_answer_of (answer.Done byte origin) = done (reading_as byte origin)
-read_answer_of (answer.Refused r) = refused (numbered r)
 
 -- "The reading refuses with 1, then 2."
 unfoldable pub reading_of : (image : List ℕ) → Machine → (a : ℕ) → Answer Reading

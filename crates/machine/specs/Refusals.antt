@@ -1,6 +1,6 @@
 -- When a step, a run, a host store and a reading are refused or stop, and with which number (document 01, "What each
 -- operation turns down"). "The first that applies is given, and never where it doesn't apply."
-use Rattle.std.specs.Prelude.{ℕ, ◌≤◌, ◌<◌, ◌≡◌, true, false, List, length, get_or}
+use Rattle.std.specs.Prelude.{ℕ, ◌≤◌, ◌<◌, ◌≡◌, true, false, List, length, get_or, Some, None}
 use Rattle.isa.specs.Refusals.{Numbered, plain, located, Answer, done, refused}
 use Rattle.isa.specs.Sources.{names_only_sources}
 use Rattle.isa.specs.Rom.{is_image}
@@ -10,7 +10,6 @@ use Rattle.isa.specs.declared.Instruction.{Instruction}
 use Rattle.isa.specs.declared.Instruction.TheVariants as I
 use Rattle.isa.specs.declared.Source.{Source}
 use Rattle.data.specs.Space.{program_of, read_of, origin_of}
-use Rattle.control.specs.declared.Requested.TheVariants.{Nothing, Taken}
 use Rattle.control.specs.Modes.{is_reset}
 use Rattle.control.specs.Requests.{requested_of}
 use Rattle.machine.specs.declared.Machine.{Machine}
@@ -24,10 +23,10 @@ use Rattle.machine.specs.Reading.{reading_as, reading_of}
 
 -- the request that a step takes
 abbrev pub Takes : Machine → (request : ℕ) → Source → Type 0
-Takes m request source = requested_of m.control.mode (enabled_of m.bytes) request ≡ Taken source
+Takes m request source = requested_of m.control.mode (enabled_of m.bytes) request ≡ Some source
 
 abbrev pub TakesNone : Machine → (request : ℕ) → Type 0
-TakesNone m request = requested_of m.control.mode (enabled_of m.bytes) request ≡ Nothing
+TakesNone m request = requested_of m.control.mode (enabled_of m.bytes) request ≡ None
 
 -- the instruction at PC, with its bytes and cycles
 abbrev pub AtPc : (image : List ℕ) → Machine → Instruction → (bytes cycles : ℕ) → Type 0

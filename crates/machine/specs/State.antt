@@ -2,7 +2,7 @@
 -- operation turns down").
 use Rattle.std.specs.Prelude.{ℕ, Bool, false, not, List, set, replicate}
 use Rattle.alu.specs.declared.Flags.{Flags}
-use Rattle.isa.specs.Refusals.{plain, numbered, Ended, done, refused, unless}
+use Rattle.isa.specs.Refusals.{plain, Ended, done, refused, answered, unless}
 use Rattle.isa.specs.Sources.{reset_vector}
 use Rattle.data.specs.Space.{in_window, store_of}
 use Rattle.data.specs.Effect.{Data, data_of}
@@ -11,8 +11,6 @@ use Rattle.control.specs.declared.Control.{Control}
 use Rattle.control.specs.WellFormed.{well_formed}
 use Rattle.machine.specs.declared.FlagPairs.{FlagPairs}
 use Rattle.machine.specs.declared.Machine.{Machine}
-use Rattle.machine.specs.declared.Ending.{Ending}
-use Rattle.machine.specs.declared.Ending.TheVariants as ending
 use Rattle.machine.specs.declared.Stored.{Stored}
 use Rattle.machine.specs.Pairs.{pair_of}
 
@@ -46,18 +44,13 @@ reset_of m = machine_of reset_control (replicate 6 0) cleared_pairs (set (set (s
 unfoldable pub fresh_of : Machine
 fresh_of = reset_of (machine_of reset_control (replicate 6 0) cleared_pairs (replicate 256 0))
 
--- how a run or a host store ends, by document 01's numbers
-abbrev pub ended_of : Ending → Ended
-ended_of ending.Done = done tt
-ended_of (ending.Refused r) = refused (numbered r)
-
 -- a machine after a host store, and how that ended
 pub record HostStore : Type 0 where
   pub machine : Machine
   pub ending : Ended
 
 abbrev pub stored_of : Stored → HostStore
-stored_of r = record { machine = r.machine; ending = ended_of r.ending }
+stored_of r = record { machine = r.machine; ending = answered r.ending }
 
 abbrev pub host_stored : Machine → Ended → HostStore
 host_stored m ending = record { machine = m; ending = ending }

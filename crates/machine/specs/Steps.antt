@@ -1,18 +1,17 @@
 -- The steps of a run (document 01, "Modes, stack, sleep").
-use Rattle.std.specs.Prelude.{ℕ, zero, suc, ◌+◌, Bool, true, ◌&&◌, List, get_or}
-use Rattle.isa.specs.Refusals.{Answer, Ended, done, refused}
+use Rattle.std.specs.Prelude.{ℕ, zero, suc, ◌+◌, Bool, true, ◌&&◌, List, get_or, Result, Ok, Err}
+use Rattle.isa.specs.Refusals.{Answer, Ended, done, refused, answered}
 use Rattle.isa.specs.Sources.{names_only_sources}
+use Rattle.alu.specs.declared.Flags.{Flags}
+use Rattle.isa.specs.declared.Refusal.{Refusal}
 use Rattle.control.specs.declared.Mode.{Mode}
 use Rattle.machine.specs.declared.FlagPairs.{FlagPairs}
 use Rattle.machine.specs.declared.Machine.{Machine}
-use Rattle.machine.specs.declared.Ending.{Ending}
-use Rattle.machine.specs.declared.Ending.TheVariants as ending
-use Rattle.machine.specs.declared.Part.{Part}
-use Rattle.machine.specs.declared.Report.{Report}
+use Rattle.machine.specs.declared.After.{After}
 use Rattle.machine.specs.declared.Progress.{Progress}
-use Rattle.machine.specs.declared.Ran.{Ran}
+use Rattle.machine.specs.declared.Report.{Report}
 use Rattle.machine.specs.Pairs.{with_pair_of}
-use Rattle.machine.specs.State.{machine_of, ended_of}
+use Rattle.machine.specs.State.{machine_of}
 use Rattle.machine.specs.Advance.{Step}
 use Rattle.machine.specs.Step.{step_of}
 
@@ -23,32 +22,32 @@ pub record Reported : Type 0 where
   pub ending : Ended
 
 abbrev pub report_of : Report → Reported
-report_of r = record { steps = r.steps; cycles = r.cycles; ending = ended_of r.ending }
+report_of r = record { steps = r.steps; cycles = r.cycles; ending = answered r.ending }
 
 -- a machine after a run, and the run's report
 pub record Run : Type 0 where
   pub machine : Machine
   pub report : Reported
 
-abbrev pub ran_of : Ran → Run
+abbrev pub ran_of : After Report → Run
 ran_of r = record { machine = r.machine; report = report_of r.report }
 
 -- the program's answer, with the bytes and the stack that it was lent
-abbrev pub progress_as : (bytes stack : List ℕ) → Progress → Run
+abbrev pub progress_as : (bytes stack : List ℕ) → Progress FlagPairs Report → Run
 progress_as bytes stack p =
     record { machine = machine_of p.control stack p.flags bytes; report = report_of p.report }
 
 -- the same of steps in one mode, whose flags are the pair of that mode
-abbrev pub part_as : FlagPairs → Mode → (bytes stack : List ℕ) → Part → Run
+abbrev pub part_as : FlagPairs → Mode → (bytes stack : List ℕ) → Progress Flags Report → Run
 part_as pairs mode bytes stack p = record {
   machine = machine_of p.control stack (with_pair_of pairs mode p.flags) bytes;
   report = report_of p.report;
 }
 
 -- how many steps of a run of n are settled with a part of it: a stop settles all
-abbrev pub settled_by : Ending → (steps n : ℕ) → ℕ
-settled_by ending.Done steps n = steps
-settled_by (ending.Refused r) steps n = n
+abbrev pub settled_by : Result (Unit {0}) Refusal → (steps n : ℕ) → ℕ
+settled_by (Ok u) steps n = steps
+settled_by (Err r) steps n = n
 
 abbrev pub settled : Report → (n : ℕ) → ℕ
 settled r n = settled_by r.ending r.steps n

@@ -1,5 +1,5 @@
 -- What holds of 0C8h and 0C9h, which a program can't read (document 02, W-204).
-use Rattle.std.specs.Prelude.{ℕ, ◌+◌, ◌-◌, ◌*◌, ◌%◌, ◌≤◌, ◌<◌, ◌≡◌, true, false, List, length, get_or, set}
+use Rattle.std.specs.Prelude.{ℕ, ◌+◌, ◌-◌, ◌*◌, ◌%◌, ◌≤◌, ◌<◌, ◌≡◌, true, false, List, length, get_or, set, Some}
 use Rattle.alu.specs.Alu.{bit_of, weight_of}
 use Rattle.isa.specs.Refusals.{done}
 use Rattle.isa.specs.Sources.{names_only_sources}
@@ -8,7 +8,6 @@ use Rattle.isa.specs.declared.Operand.{Operand}
 use Rattle.isa.specs.declared.Instruction.{Instruction}
 use Rattle.isa.specs.declared.Instruction.TheVariants as I
 use Rattle.data.specs.declared.Origin.TheVariants.{Register}
-use Rattle.data.specs.declared.OperandRead.TheVariants.{Is}
 use Rattle.data.specs.Space.{program_of, is_write_only, shown_of, held_of, read_of, store_of, address_of, operand_of}
 use Rattle.data.specs.Reads.{operand_read_of}
 use Rattle.control.specs.Requests.{requested_of}
@@ -31,7 +30,7 @@ pub record WriteOnly : Type 0 where
   -- is stored there. (With another byte at 0C8h a request may be taken; then the step does not come to it.)
   pub unseen :
       (image : List ℕ) (m : Machine) (request : ℕ) (i : Instruction) (bytes cycles : ℕ) (o : Operand) (value : ℕ) →
-      operand_read_of i ≡ Is o → is_write_only (address_of m.bytes o) ≡ true →
+      operand_read_of i ≡ Some o → is_write_only (address_of m.bytes o) ≡ true →
       Executes image m request i bytes cycles →
       Executes image (with_byte m (address_of m.bytes o) value) request i bytes cycles →
       StepsAlike m (with_byte m (address_of m.bytes o) value) (step_of image m request)

@@ -7,16 +7,27 @@ ghost use Rattle.machine.specs.declared.FlagPairs.{FlagPairs};
 ghost use Rattle.machine.specs.Pairs.{with_pair_of};
 ghost use Rattle.machine.specs.State.{machine_of};
 ghost use Rattle.machine.specs.Actions.{enabled_of};
-ghost use Rattle.machine.specs.Advance.{advanced_as, done_of, refused_of, taken_of};
+ghost use Rattle.machine.specs.Advance.{advanced_as, stop_at, done_of, refused_of, taken_of};
 
-use crate::{Advanced, StepAnswer};
+use crate::Advanced;
 use alu::Flags;
 use control::requests::take;
 use control::{Control, Stop};
 use data::space::INTERRUPT_OPTION;
 use isa::{Refusal, Source};
 
-// A completed step.
+// The refusal of a stop, with PC.
+pub fn stop_at(stop: Stop, pc: u16) -> Refusal
+    ensures { numbered result ≡ stop_at stop pc }
+{
+    match stop {
+        Stop::Full => Refusal::StackFull(pc),
+        Stop::Empty => Refusal::StackEmpty(pc),
+    }
+}
+
+// A completed step. This and `stopped` differ in Ok and Err alone: given the report, one for both would have each call
+// write these.
 pub fn done(control: Control, flags: Flags, cycles: u8) -> Advanced
     ensures { (bytes stack : List ℕ) (pairs : FlagPairs) (mode : Mode) → advanced_as pairs mode bytes stack result
         ≡ done_of (machine_of control stack (with_pair_of pairs mode flags) bytes) cycles }
@@ -24,7 +35,7 @@ pub fn done(control: Control, flags: Flags, cycles: u8) -> Advanced
     Advanced {
         control,
         flags,
-        answer: StepAnswer::Done(cycles),
+        report: Ok(cycles),
     }
 }
 
@@ -36,7 +47,7 @@ pub fn stopped(control: Control, flags: Flags, reason: Refusal) -> Advanced
     Advanced {
         control,
         flags,
-        answer: StepAnswer::Refused(reason),
+        report: Err(reason),
     }
 }
 
@@ -45,13 +56,9 @@ pub fn taken(stack: &mut [u16; 6], c: Control, flags: Flags, source: Source) -> 
     ensures { (bytes : List ℕ) (pairs : FlagPairs) → advanced_as pairs c.mode bytes stack.new result
         ≡ taken_of (machine_of c stack.old (with_pair_of pairs c.mode flags) bytes) source }
 {
-    let moved = take(stack, c, source);
-    let control = moved.control;
-    let stop = moved.stop;
-    match stop {
-        Stop::None => done(control, flags, 1),
-        Stop::Full => stopped(c, flags, Refusal::StackFull(c.pc)),
-        Stop::Empty => stopped(c, flags, Refusal::StackEmpty(c.pc)),
+    match take(stack, c, source) {
+        Ok(control) => done(control, flags, 1),
+        Err(stop) => stopped(c, flags, stop_at(stop, c.pc)),
     }
 }
 

@@ -3,15 +3,16 @@ ghost use Rattle.std.specs.Prelude.{◌≡◌, List, ℕ};
 ghost use Rattle.isa.specs.Rom.{IsImage};
 ghost use Rattle.data.specs.Space.{program_of};
 ghost use Rattle.data.specs.Effect.{data_of, effect_of};
+ghost use Rattle.control.specs.declared.Control.{Control};
 ghost use Rattle.control.specs.Stack.{transfer_of, goes_on};
 ghost use Rattle.control.specs.Update.{with_pc};
-ghost use Rattle.machine.specs.Execute.{execution_of, execution_by, execute_of};
+ghost use Rattle.machine.specs.Execute.{execution_of, execution_by, execute_of, left_of, left_by};
 
-use crate::Executed;
+use crate::{Executed, Room};
 use alu::Flags;
 use control::stack::pop;
 use control::transfers::{branch, call, return_from_interrupt, sleep};
-use control::{Control, Stop, Transfer};
+use control::{Control, Stop};
 use isa::Instruction;
 use isa::displacement::{long_target, short_target};
 
@@ -23,22 +24,16 @@ pub fn goes_on(control: Control, flags: Flags) -> Executed
     Executed {
         control,
         flags,
-        stop: Stop::None,
+        room: Room::Spare,
     }
 }
 
-// Control is transferred by way of the stack.
-pub fn transferred(t: Transfer, flags: Flags) -> Executed
-    ensures { (bytes stack : List ℕ) → execution_of bytes stack result
-        ≡ execution_by (data_of bytes flags) (transfer_of stack t) }
+// Control is transferred by way of the stack, unless that stops.
+pub fn transferred(to: Result<Control, Stop>, flags: Flags) -> Result<Executed, Stop>
+    ensures { (bytes stack : List ℕ) (c : Control) → left_of bytes stack result
+        ≡ left_by (execution_by (data_of bytes flags) (transfer_of stack c to)) }
 {
-    let control = t.control;
-    let stop = t.stop;
-    Executed {
-        control,
-        flags,
-        stop,
-    }
+    Ok(goes_on(to?, flags))
 }
 
 // An instruction that goes on at the next address.
@@ -69,34 +64,43 @@ pub fn execute(
     flags: Flags,
     instruction: Instruction,
     next: u16,
-) -> Executed
+) -> Result<Executed, Stop>
     requires { IsImage image.now }
-    ensures { execution_of bytes.new stack.new result
-        ≡ execute_of (program_of image.now bytes.old) (data_of bytes.old flags)
-        stack.old c instruction next }
+    ensures { left_of bytes.new stack.new result
+        ≡ left_by (execute_of (program_of image.now bytes.old) (data_of bytes.old flags)
+        stack.old c instruction next) }
 {
     match instruction {
-        Instruction::Jrnz(d) => goes_on(branch(c, !flags.zero, short_target(c.pc, d), next), flags),
-        Instruction::Jrnc(d) => goes_on(
+        Instruction::Jrnz(d) => Ok(goes_on(
+            branch(c, !flags.zero, short_target(c.pc, d), next),
+            flags,
+        )),
+        Instruction::Jrnc(d) => Ok(goes_on(
             branch(c, !flags.carry, short_target(c.pc, d), next),
             flags,
-        ),
-        Instruction::Jrz(d) => goes_on(branch(c, flags.zero, short_target(c.pc, d), next), flags),
-        Instruction::Jrc(d) => goes_on(branch(c, flags.carry, short_target(c.pc, d), next), flags),
+        )),
+        Instruction::Jrz(d) => Ok(goes_on(
+            branch(c, flags.zero, short_target(c.pc, d), next),
+            flags,
+        )),
+        Instruction::Jrc(d) => Ok(goes_on(
+            branch(c, flags.carry, short_target(c.pc, d), next),
+            flags,
+        )),
         Instruction::Call(to) => transferred(call(stack, c, to, next), flags),
-        Instruction::Jp(to) => goes_on(c.with_pc(to), flags),
+        Instruction::Jp(to) => Ok(goes_on(c.with_pc(to), flags)),
         Instruction::Jrr(bit, address, d) => {
             let after = data::effect::test_bit(image, bytes, flags.zero, address, bit);
-            goes_on(branch(c, !after.carry, long_target(c.pc, d), next), after)
+            Ok(goes_on(branch(c, !after.carry, long_target(c.pc, d), next), after))
         }
         Instruction::Jrs(bit, address, d) => {
             let after = data::effect::test_bit(image, bytes, flags.zero, address, bit);
-            goes_on(branch(c, after.carry, long_target(c.pc, d), next), after)
+            Ok(goes_on(branch(c, after.carry, long_target(c.pc, d), next), after))
         }
         Instruction::Ret => transferred(pop(stack, c), flags),
         Instruction::Reti => transferred(return_from_interrupt(stack, c, next), flags),
-        Instruction::Stop => goes_on(sleep(c, next), flags),
-        Instruction::Wait => goes_on(sleep(c, next), flags),
-        _ => on_data(image, bytes, c, flags, instruction, next),
+        Instruction::Stop => Ok(goes_on(sleep(c, next), flags)),
+        Instruction::Wait => Ok(goes_on(sleep(c, next), flags)),
+        _ => Ok(on_data(image, bytes, c, flags, instruction, next)),
     }
 }

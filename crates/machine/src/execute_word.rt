@@ -11,14 +11,14 @@ ghost use Rattle.data.specs.Effect.{data_of, effect_of};
 ghost use Rattle.control.specs.Stack.{goes_on};
 ghost use Rattle.control.specs.Transfers.{branch_of};
 ghost use Rattle.control.specs.Update.{with_pc};
-ghost use Rattle.machine.specs.Execute.{execution_of, execution_by, execute_of};
+ghost use Rattle.machine.specs.Execute.{execution_of, execution_by, execute_of, left_of, left_by};
 
 use crate::Executed;
 use crate::execute::{goes_on, transferred};
 use alu::Flags;
-use control::Control;
 use control::stack::pop;
 use control::transfers::{branch, call, return_from_interrupt, sleep};
+use control::{Control, Stop};
 use data::effect::{
     add, and, compare, complement, decrement, increment, load, reset_bit, rotate, set_bit, store_a,
     store_immediate, subtract, test_bit,
@@ -46,7 +46,8 @@ fn past_on(c: Control, operand: Operand, flags: Flags) -> Executed
     past(c, length_with(operand), flags)
 }
 
-// A jump on a flag.
+// A jump on a flag. This and `long` stay two functions: one for both, given target and length, would make each call
+// longer.
 fn short(c: Control, jumps: bool, d: i8, flags: Flags) -> Executed
     ensures { (bytes stack : List ℕ) → execution_of bytes stack result
         ≡ execution_by (data_of bytes flags)
@@ -78,33 +79,33 @@ fn on_transfer(
     c: Control,
     flags: Flags,
     word: u64,
-) -> Executed
+) -> Result<Executed, Stop>
     requires { IsImage image.now × (word % 256 < 12) }
-    ensures { execution_of bytes.now stack.new result
-        ≡ execute_of (program_of image.now bytes.now) (data_of bytes.now flags)
-        stack.old c (instruction_of_word word) (forward_of c.pc (length_of (instruction_of_word word))) }
+    ensures { left_of bytes.now stack.new result
+        ≡ left_by (execute_of (program_of image.now bytes.now) (data_of bytes.now flags)
+        stack.old c (instruction_of_word word) (forward_of c.pc (length_of (instruction_of_word word)))) }
 {
     match transfer_in(word) {
-        Instruction::Jrnz(d) => short(c, !flags.zero, d, flags),
-        Instruction::Jrnc(d) => short(c, !flags.carry, d, flags),
-        Instruction::Jrz(d) => short(c, flags.zero, d, flags),
-        Instruction::Jrc(d) => short(c, flags.carry, d, flags),
+        Instruction::Jrnz(d) => Ok(short(c, !flags.zero, d, flags)),
+        Instruction::Jrnc(d) => Ok(short(c, !flags.carry, d, flags)),
+        Instruction::Jrz(d) => Ok(short(c, flags.zero, d, flags)),
+        Instruction::Jrc(d) => Ok(short(c, flags.carry, d, flags)),
         Instruction::Call(to) => transferred(call(stack, c, to, forward(c.pc, 2)), flags),
-        Instruction::Jp(to) => goes_on(c.with_pc(to), flags),
+        Instruction::Jp(to) => Ok(goes_on(c.with_pc(to), flags)),
         Instruction::Jrr(bit, address, d) => {
             let after = test_bit(image, bytes, flags.zero, address, bit);
-            long(c, !after.carry, d, after)
+            Ok(long(c, !after.carry, d, after))
         }
         Instruction::Jrs(bit, address, d) => {
             let after = test_bit(image, bytes, flags.zero, address, bit);
-            long(c, after.carry, d, after)
+            Ok(long(c, after.carry, d, after))
         }
         Instruction::Ret => transferred(pop(stack, c), flags),
         Instruction::Reti => transferred(return_from_interrupt(stack, c, forward(c.pc, 1)), flags),
-        Instruction::Stop => goes_on(sleep(c, forward(c.pc, 1)), flags),
-        Instruction::Wait => goes_on(sleep(c, forward(c.pc, 1)), flags),
+        Instruction::Stop => Ok(goes_on(sleep(c, forward(c.pc, 1)), flags)),
+        Instruction::Wait => Ok(goes_on(sleep(c, forward(c.pc, 1)), flags)),
         // No other has such a number.
-        _ => goes_on(c, flags),
+        _ => Ok(goes_on(c, flags)),
     }
 }
 
@@ -167,14 +168,14 @@ pub fn execute_word(
     c: Control,
     flags: Flags,
     word: u64,
-) -> Executed
+) -> Result<Executed, Stop>
     requires { IsImage image.now }
-    ensures { execution_of bytes.new stack.new result
-        ≡ execute_of (program_of image.now bytes.old) (data_of bytes.old flags)
-        stack.old c (instruction_of_word word) (forward_of c.pc (length_of (instruction_of_word word))) }
+    ensures { left_of bytes.new stack.new result
+        ≡ left_by (execute_of (program_of image.now bytes.old) (data_of bytes.old flags)
+        stack.old c (instruction_of_word word) (forward_of c.pc (length_of (instruction_of_word word)))) }
 {
     if is_transfer(word) {
         return on_transfer(image, bytes, stack, c, flags, word);
     }
-    on_operation(image, bytes, c, flags, word)
+    Ok(on_operation(image, bytes, c, flags, word))
 }

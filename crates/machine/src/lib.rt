@@ -16,12 +16,13 @@ mod steps;
 
 pub use actions::request_in;
 use alu::Flags;
-use control::{Control, Stop};
-use data::{Origin, OriginRead};
-use isa::{Instruction, Refusal, Source};
+use control::Control;
+use data::Origin;
+use isa::{Decoded, Refusal, Source};
+pub use reading::Reading;
 
 // Normal and interrupt mode have a flag pair each; the other three modes share the NMI pair.
-#[derive(Clone, Copy)]
+#[derive(Clone, Copy, Debug, PartialEq, Eq)]
 pub struct FlagPairs {
     pub normal: Flags,
     pub interrupt: Flags,
@@ -29,7 +30,7 @@ pub struct FlagPairs {
 }
 
 // The machine. Of the 256 bytes the 64 under the ROM window (40h-7Fh) are never read and never change.
-#[derive(Clone, Copy)]
+#[derive(Clone, Copy, Debug, PartialEq, Eq)]
 pub struct Machine {
     pub control: Control,
     pub stack: [u16; 6],
@@ -37,121 +38,80 @@ pub struct Machine {
     pub bytes: [u8; 256],
 }
 
-// The number of the instruction at an address (isa's `predecoded`), or why there is none.
-#[derive(Drop)]
-pub enum Fetched {
-    Word(u64),
-    Refused(Refusal),
-}
-
-// What an instruction makes of control and of the flag pair in use.
-#[derive(Drop)]
+// What an instruction that does not stop makes of control and of the flag pair in use. These are eight bytes, which would
+// go through one register as a number and be taken apart again, at a third of a run's time: so there is room for one more.
+#[derive(Clone, Copy, Debug, PartialEq, Eq)]
 pub struct Executed {
     pub control: Control,
     pub flags: Flags,
-    pub stop: Stop,
+    pub room: Room,
+}
+
+// A byte that says nothing.
+#[derive(Clone, Copy, Debug, PartialEq, Eq)]
+pub enum Room {
+    Spare,
 }
 
 // What a step is about to do: it takes a request, is idle, or executes the instruction at PC; or it is refused, or what
-// stands at PC is no instruction.
-#[derive(Clone, Copy)]
+// stands at PC is no instruction. Four cases of one list, as its definition has them, and so no Result.
+#[derive(Clone, Copy, Debug, PartialEq, Eq)]
 pub enum Action {
     Takes(Source),
     Idles,
-    Executes {
-        instruction: Instruction,
-        length: u8,
-        cycles: u8,
-    },
+    Executes(Decoded),
     Refused(Refusal),
 }
 
-// A step's answer: its cycles, or why it was refused or stopped.
-#[derive(Clone, Copy)]
-pub enum StepAnswer {
-    Done(u8),
-    Refused(Refusal),
-}
-
-// What a step makes of control and of the flag pair in use, and its answer; the data bytes and the stack are lent.
-#[derive(Drop)]
-pub struct Advanced {
-    pub control: Control,
-    pub flags: Flags,
-    pub answer: StepAnswer,
-}
-
-// A step's answer, the origin of the data operand that it read, and what it was about to do.
-#[derive(Clone, Copy)]
+// A step's answer (its cycles, or why it was refused or stopped), the origin of the data operand that it read, if any,
+// and what it was about to do.
+#[derive(Clone, Copy, Debug, PartialEq, Eq)]
 pub struct StepReport {
-    pub answer: StepAnswer,
-    pub read: OriginRead,
+    pub answer: Result<u8, Refusal>,
+    pub read: Option<Origin>,
     pub action: Action,
 }
 
-// What a single step makes of all but the data bytes and the stack, which it is lent.
-#[derive(Drop)]
-pub struct StepProgress {
-    pub control: Control,
-    pub flags: FlagPairs,
-    pub report: StepReport,
-}
-
-// A machine after a step, and the step's report.
-#[derive(Clone, Copy)]
-pub struct Stepped {
-    pub machine: Machine,
-    pub report: StepReport,
-}
-
-// A reading's answer: the byte with its origin, or why it was refused.
-#[derive(Drop)]
-pub enum ReadAnswer {
-    Done { byte: u8, origin: Origin },
-    Refused(Refusal),
-}
-
-// How a run or a host store ended.
-#[derive(Clone, Copy)]
-pub enum Ending {
-    Done,
-    Refused(Refusal),
-}
-
 // A run's answer: the steps completed, their cycles, and how it ended.
-#[derive(Drop)]
+#[derive(Clone, Copy, Debug, PartialEq, Eq)]
 pub struct Report {
     pub steps: u32,
     pub cycles: u32,
-    pub ending: Ending,
+    pub ending: Result<(), Refusal>,
 }
 
-// What steps in one mode make of control and of the flag pair in use, and how far the run is.
-#[derive(Drop)]
-pub struct Part {
+// What steps make of all but the data bytes and the stack: control, and flags, the pair in use or all of them; and what
+// they report. Data bytes and stack are lent apart, as the C interface has them, so no struct holds all four.
+#[derive(Clone, Copy, Debug, PartialEq, Eq)]
+pub struct Progress<F, R> {
     pub control: Control,
-    pub flags: Flags,
-    pub report: Report,
+    pub flags: F,
+    pub report: R,
 }
 
-// What a run makes of all but the data bytes and the stack, which it is lent.
-#[derive(Drop)]
-pub struct Progress {
-    pub control: Control,
-    pub flags: FlagPairs,
-    pub report: Report,
-}
+// A step, with its answer; the steps of a run in one mode; a step; and a run.
+pub type Advanced = Progress<Flags, Result<u8, Refusal>>;
 
-// A machine after a run, and the run's answer.
-#[derive(Drop)]
-pub struct Ran {
+pub type Part = Progress<Flags, Report>;
+
+pub type StepProgress = Progress<FlagPairs, StepReport>;
+
+pub type RunProgress = Progress<FlagPairs, Report>;
+
+// A machine after a step or a run, and the report.
+#[derive(Clone, Copy, Debug, PartialEq, Eq)]
+pub struct After<R> {
     pub machine: Machine,
-    pub report: Report,
+    pub report: R,
 }
+
+pub type Stepped = After<StepReport>;
+
+pub type Ran = After<Report>;
 
 // A machine after a host store, and whether it was done.
-#[derive(Drop)]
+#[derive(Clone, Copy, Debug, PartialEq, Eq)]
 pub struct Stored {
     pub machine: Machine,
-    pub ending: Ending,
+    pub ending: Result<(), Refusal>,
 }

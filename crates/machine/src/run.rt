@@ -5,8 +5,8 @@ ghost use Rattle.machine.specs.State.{machine_of};
 ghost use Rattle.machine.specs.Steps.{ran_of, progress_as, requests_fit};
 ghost use Rattle.machine.specs.Run.{refused_run, run_of};
 
-use crate::steps::{by_store, request_at};
-use crate::{Ending, FlagPairs, Machine, Progress, Ran, Report};
+use crate::steps::by_store;
+use crate::{FlagPairs, Machine, Ran, Report, RunProgress};
 use control::Control;
 use control::well_formed::is_well_formed;
 use isa::Refusal;
@@ -16,45 +16,33 @@ use isa::sources::names_only_sources;
 // The longest run.
 const MOST_STEPS: u32 = 65535;
 
-// Whether the first n request bytes name nothing but sources.
-fn first_fit(requests: &[u8], n: u32) -> bool
-    ensures { result ≡ requests_fit requests.now n }
-{
-    for i in 0..n {
-        if !names_only_sources(request_at(requests, i)) {
-            return false;
-        }
-    }
-    true
-}
-
-// The same without a look past the list's end, where there are no requests.
+// Whether the first n request bytes name nothing but sources; past the list's end there are no requests.
 fn requests_fit(requests: &[u8], n: u32) -> bool
     ensures { result ≡ requests_fit requests.now n }
 {
-    let count = requests.len();
-    if (n as usize) < count {
-        return first_fit(requests, n);
-    }
-    first_fit(requests, count as u32)
+    requests
+        .iter()
+        .take(n as usize)
+        .all(|&request| names_only_sources(request))
 }
 
-fn refused_run(control: Control, flags: FlagPairs, reason: Refusal) -> Progress
+fn refused_run(control: Control, flags: FlagPairs, reason: Refusal) -> RunProgress
     ensures { (bytes stack : List ℕ)
         → progress_as bytes stack result ≡ refused_run (machine_of control stack flags bytes) (numbered reason) }
 {
-    Progress {
+    RunProgress {
         control,
         flags,
         report: Report {
             steps: 0,
             cycles: 0,
-            ending: Ending::Refused(reason),
+            ending: Err(reason),
         },
     }
 }
 
 // A run of n steps on lent data bytes and a lent stack. Refuses with 1, 2, 12, then 11.
+#[tactic(auto, unfolding(crate::specs::Run::run_of))]
 pub fn run_lent(
     image: &[u8],
     bytes: &mut [u8; 256],
@@ -63,7 +51,7 @@ pub fn run_lent(
     flags: FlagPairs,
     requests: &[u8],
     n: u32,
-) -> Progress
+) -> RunProgress
     ensures { progress_as bytes.new stack.new result
         ≡ run_of image.now (machine_of c stack.old flags bytes.old)
         requests.now n }
@@ -89,19 +77,16 @@ pub fn run(image: &[u8], m: Machine, requests: &[u8], n: u32) -> Ran
 {
     let mut bytes = m.bytes;
     let mut stack = m.stack;
-    let c = m.control;
-    let f = m.flags;
-    let after = run_lent(image, &mut bytes, &mut stack, c, f, requests, n);
-    let control = after.control;
-    let flags = after.flags;
-    let report = after.report;
+    let after = run_lent(
+        image, &mut bytes, &mut stack, m.control, m.flags, requests, n,
+    );
     Ran {
         machine: Machine {
-            control,
+            control: after.control,
             stack,
-            flags,
+            flags: after.flags,
             bytes,
         },
-        report,
+        report: after.report,
     }
 }

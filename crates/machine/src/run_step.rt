@@ -1,6 +1,5 @@
 // One step of a run, that is not refused: a request, sleep, or an instruction from the lent store of predecoded ones.
 ghost use Rattle.std.specs.Prelude.{◌≡◌, ◌<◌, length};
-ghost use Rattle.isa.specs.Table.{Timings};
 ghost use Rattle.isa.specs.Lengths.{length_of};
 ghost use Rattle.isa.specs.Predecoded.{instruction_of_word, cycles_of_word};
 ghost use Rattle.isa.specs.Rom.{IsImage};
@@ -12,14 +11,13 @@ ghost use Rattle.machine.specs.State.{machine_of};
 ghost use Rattle.machine.specs.Actions.{unrequested_action};
 ghost use Rattle.machine.specs.Advance.{advanced_as, executed_of, acted_of, advanced_of};
 
-use crate::advance::{done, is_enabled, stopped, taken};
+use crate::advance::{done, is_enabled, stop_at, stopped, taken};
 use crate::execute_word::execute_word;
 use crate::fetch::fetch;
-use crate::{Advanced, Fetched};
+use crate::{Advanced, Executed};
 use alu::Flags;
+use control::Control;
 use control::requests::requested;
-use control::{Control, Requested, Stop};
-use isa::Refusal;
 use isa::predecoded::cycles_in;
 
 // The instruction of a number: where it stops, control and flags are as they were. The match on its stop stands here,
@@ -38,21 +36,21 @@ fn executed(
         (machine_of c stack.old (with_pair_of pairs c.mode flags) bytes.old)
         (instruction_of_word word) (length_of (instruction_of_word word)) (cycles_of_word word) }
 {
-    let after = execute_word(image, bytes, stack, c, flags, word);
-    let stop = after.stop;
-    let control = after.control;
-    let left = after.flags;
-    match stop {
-        Stop::None => done(control, left, cycles_in(word)),
-        Stop::Full => stopped(c, flags, Refusal::StackFull(c.pc)),
-        Stop::Empty => stopped(c, flags, Refusal::StackEmpty(c.pc)),
+    match execute_word(image, bytes, stack, c, flags, word) {
+        Ok(
+            Executed {
+                control,
+                flags: left,
+                room: _,
+            },
+        ) => done(control, left, cycles_in(word)),
+        Err(stop) => stopped(c, flags, stop_at(stop, c.pc)),
     }
 }
 
 // A step that takes no request, with the number of the page in place: idle asleep, else the instruction at PC.
 // Decoding's refusals are stops.
 fn uninterrupted(
-    table: &[u8; 256],
     image: &[u8],
     store: &mut [u64],
     page: u8,
@@ -61,7 +59,7 @@ fn uninterrupted(
     c: Control,
     flags: Flags,
 ) -> Advanced
-    requires { Timings table.now × IsImage image.now × (c.pc < 4096) × (0 < length store.old)
+    requires { IsImage image.now × (c.pc < 4096) × (0 < length store.old)
         × Coherent image.now store.old × InPlace image.now bytes.old page }
     ensures { ((pairs : FlagPairs) → advanced_as pairs c.mode bytes.new stack.new result
         ≡ acted_of (program_of image.now bytes.old)
@@ -72,15 +70,15 @@ fn uninterrupted(
     if c.asleep {
         return done(c, flags, 0);
     }
-    match fetch(table, image, store, page, c.pc) {
-        Fetched::Refused(reason) => return stopped(c, flags, reason),
-        Fetched::Word(word) => executed(image, bytes, stack, c, flags, word),
+    match fetch(image, store, page, c.pc) {
+        Ok(word) => executed(image, bytes, stack, c, flags, word),
+        Err(reason) => stopped(c, flags, reason),
     }
 }
 
 // One step, by its request byte.
+#[tactic(auto, unfolding(crate::specs::Actions::due_of, crate::specs::Advance::acted_of, crate::specs::Advance::advanced_of))]
 pub fn advance(
-    table: &[u8; 256],
     image: &[u8],
     store: &mut [u64],
     page: u8,
@@ -90,16 +88,15 @@ pub fn advance(
     flags: Flags,
     request: u8,
 ) -> Advanced
-    requires { Timings table.now × IsImage image.now × (c.pc < 4096) × (0 < length store.old)
+    requires { IsImage image.now × (c.pc < 4096) × (0 < length store.old)
         × Coherent image.now store.old × InPlace image.now bytes.old page }
     ensures { ((pairs : FlagPairs) → advanced_as pairs c.mode bytes.new stack.new result
         ≡ advanced_of (program_of image.now bytes.old)
         (machine_of c stack.old (with_pair_of pairs c.mode flags) bytes.old) request)
         × Coherent image.now store.new }
 {
-    let mode = c.mode;
-    match requested(mode, is_enabled(bytes), request) {
-        Requested::Taken(source) => taken(stack, c, flags, source),
-        Requested::Nothing => uninterrupted(table, image, store, page, bytes, stack, c, flags),
+    match requested(c.mode, is_enabled(bytes), request) {
+        Some(source) => taken(stack, c, flags, source),
+        None => uninterrupted(image, store, page, bytes, stack, c, flags),
     }
 }

@@ -12,7 +12,7 @@ ghost use Rattle.machine.specs.State.{
   host_store_of,
 };
 
-use crate::{Ending, FlagPairs, Machine, Stored};
+use crate::{FlagPairs, Machine, Stored};
 use alu::Flags;
 use control::well_formed::is_well_formed;
 use control::{Control, Mode};
@@ -32,7 +32,7 @@ fn reset_control() -> Control
     }
 }
 
-// Six flags cleared.
+// Six flags cleared. No Default: a flag pair by itself has none.
 fn cleared_pairs() -> FlagPairs
     ensures { result ≡ cleared_pairs }
 {
@@ -49,6 +49,7 @@ fn cleared_pairs() -> FlagPairs
 
 // Reset keeps all data but 0C8h, 0C9h and 0CAh. The slots of the stack are cleared too, so that a fresh machine is one
 // value.
+#[tactic(auto, unfolding(crate::specs::State::reset_of))]
 pub fn reset(m: Machine) -> Machine
     ensures { result ≡ reset_of m }
 {
@@ -65,6 +66,7 @@ pub fn reset(m: Machine) -> Machine
 }
 
 // A fresh machine: a reset one with all data 0.
+#[tactic(auto, unfolding(crate::specs::State::fresh_of))]
 pub fn fresh() -> Machine
     ensures { result ≡ fresh_of }
 {
@@ -79,19 +81,11 @@ pub fn fresh() -> Machine
 fn stored(m: Machine, address: u8, value: u8) -> Stored
     ensures { stored_of result ≡ host_stored (with_byte m address value) (done tt) }
 {
-    let control = m.control;
-    let flags = m.flags;
-    let stack = m.stack;
-    let mut bytes = m.bytes;
-    data::space::store(&mut bytes, address, value);
+    let mut machine = m;
+    data::space::store(&mut machine.bytes, address, value);
     Stored {
-        machine: Machine {
-            control,
-            stack,
-            flags,
-            bytes,
-        },
-        ending: Ending::Done,
+        machine,
+        ending: Ok(()),
     }
 }
 
@@ -100,17 +94,16 @@ fn refused_store(m: Machine, refusal: Refusal) -> Stored
 {
     Stored {
         machine: m,
-        ending: Ending::Refused(refusal),
+        ending: Err(refusal),
     }
 }
 
 // Refuses an ill-formed machine, then an address in the ROM window.
+#[tactic(auto, unfolding(crate::specs::State::host_store_of))]
 pub fn host_store(m: Machine, address: u8, value: u8) -> Stored
     ensures { stored_of result ≡ host_store_of m address value }
 {
-    let control = m.control;
-    let stack = m.stack;
-    if !is_well_formed(&stack, control) {
+    if !is_well_formed(&m.stack, m.control) {
         return refused_store(m, Refusal::IllFormedMachine);
     }
     if is_window(address) {

@@ -1,39 +1,38 @@
 // A single step: the instruction at PC is decoded once, for what it does and for what it reads. It goes by the
 // instruction, since a number pays only where it is found again, as in a run.
-ghost use Rattle.std.specs.Prelude.{◌≡◌, List, ℕ};
-ghost use Rattle.isa.specs.Refusals.{numbered};
+ghost use Rattle.std.specs.Prelude.{◌≡◌, List, ℕ, None};
+ghost use Rattle.isa.specs.Refusals.{numbered, answered};
 ghost use Rattle.isa.specs.Rom.{IsImage};
-ghost use Rattle.data.specs.declared.OriginRead.TheVariants.{Nothing};
 ghost use Rattle.data.specs.Space.{program_of};
 ghost use Rattle.machine.specs.Pairs.{with_pair_of};
 ghost use Rattle.machine.specs.State.{machine_of};
 ghost use Rattle.machine.specs.Actions.{refuses, action_as, action_of};
-ghost use Rattle.machine.specs.Advance.{answer_of, advanced_as, refused_of, executed_of, acted_of};
+ghost use Rattle.machine.specs.Advance.{advanced_as, refused_of, executed_of, acted_of};
 ghost use Rattle.machine.specs.Step.{stepped_of, step_progress_as, step_of};
 ghost use Rattle.machine.specs.Operands.{action_read, read_if_done, step_read_of};
 
 use crate::actions::due;
-use crate::advance::{done, stopped, taken};
+use crate::advance::{done, stop_at, stopped, taken};
 use crate::execute::execute;
 use crate::pairs::{pair, with_pair};
-use crate::{Action, Advanced, FlagPairs, Machine, StepAnswer, StepProgress, StepReport, Stepped};
+use crate::{Action, Advanced, Executed, FlagPairs, Machine, StepProgress, StepReport, Stepped};
 use alu::Flags;
+use control::Control;
 use control::well_formed::is_well_formed;
-use control::{Control, Stop};
-use data::OriginRead;
+use data::Origin;
 use data::reads::origin_read;
 use isa::displacement::forward;
 use isa::rom::is_image_length;
 use isa::sources::names_only_sources;
-use isa::{Instruction, Refusal};
+use isa::{Decoded, Refusal};
 
 // A step that is refused or stops reads no operand.
-fn read_if_done(answer: StepAnswer, read: OriginRead) -> OriginRead
-    ensures { result ≡ read_if_done (answer_of answer) read }
+fn read_if_done(answer: Result<u8, Refusal>, read: Option<Origin>) -> Option<Origin>
+    ensures { result ≡ read_if_done (answered answer) read }
 {
     match answer {
-        StepAnswer::Done(_) => read,
-        StepAnswer::Refused(_) => OriginRead::Nothing,
+        Ok(_) => read,
+        Err(_) => None,
     }
 }
 
@@ -43,19 +42,17 @@ fn ended(
     pairs: FlagPairs,
     c: Control,
     after: Advanced,
-    read: OriginRead,
+    read: Option<Origin>,
     action: Action,
 ) -> StepProgress
     ensures { ((bytes stack : List ℕ)
         → step_progress_as bytes stack result ≡ advanced_as pairs c.mode bytes stack after)
-        × (result.report.read ≡ read_if_done (answer_of result.report.answer) read) × (result.report.action ≡ action) }
+        × (result.report.read ≡ read_if_done (answered result.report.answer) read) × (result.report.action ≡ action) }
 {
-    let mode = c.mode;
-    let control = after.control;
-    let answer = after.answer;
+    let answer = after.report;
     StepProgress {
-        control,
-        flags: with_pair(pairs, mode, after.flags),
+        control: after.control,
+        flags: with_pair(pairs, c.mode, after.flags),
         report: StepReport {
             answer,
             read: read_if_done(answer, read),
@@ -71,25 +68,24 @@ fn executed(
     stack: &mut [u16; 6],
     c: Control,
     flags: Flags,
-    instruction: Instruction,
-    length: u8,
-    cycles: u8,
+    decoded: Decoded,
 ) -> Advanced
     requires { IsImage image.now }
     ensures { (pairs : FlagPairs) → advanced_as pairs c.mode bytes.new stack.new result
         ≡ executed_of (program_of image.now bytes.old)
         (machine_of c stack.old (with_pair_of pairs c.mode flags) bytes.old)
-        instruction length cycles }
+        decoded.instruction decoded.length decoded.cycles }
 {
-    let next = forward(c.pc, length);
-    let after = execute(image, bytes, stack, c, flags, instruction, next);
-    let stop = after.stop;
-    let control = after.control;
-    let left = after.flags;
-    match stop {
-        Stop::None => done(control, left, cycles),
-        Stop::Full => stopped(c, flags, Refusal::StackFull(c.pc)),
-        Stop::Empty => stopped(c, flags, Refusal::StackEmpty(c.pc)),
+    let next = forward(c.pc, decoded.length);
+    match execute(image, bytes, stack, c, flags, decoded.instruction, next) {
+        Ok(
+            Executed {
+                control,
+                flags: left,
+                room: _,
+            },
+        ) => done(control, left, decoded.cycles),
+        Err(stop) => stopped(c, flags, stop_at(stop, c.pc)),
     }
 }
 
@@ -106,33 +102,28 @@ fn act(
     ensures { (step_progress_as bytes.new stack.new result
         ≡ acted_of (program_of image.now bytes.old)
         (machine_of c stack.old pairs bytes.old) (action_as action))
-        × (result.report.read ≡ read_if_done (answer_of result.report.answer)
+        × (result.report.read ≡ read_if_done (answered result.report.answer)
         (action_read (program_of image.now bytes.old) bytes.old (action_as action)))
         × (result.report.action ≡ action) }
 {
-    let mode = c.mode;
-    let flags = pair(pairs, mode);
+    let flags = pair(pairs, c.mode);
     match action {
         Action::Takes(source) => {
             let after = taken(stack, c, flags, source);
-            ended(pairs, c, after, OriginRead::Nothing, action)
+            ended(pairs, c, after, None, action)
         }
         Action::Idles => {
             let after = done(c, flags, 0);
-            ended(pairs, c, after, OriginRead::Nothing, action)
+            ended(pairs, c, after, None, action)
         }
-        Action::Executes {
-            instruction,
-            length,
-            cycles,
-        } => {
-            let read = origin_read(image, bytes, instruction);
-            let after = executed(image, bytes, stack, c, flags, instruction, length, cycles);
+        Action::Executes(decoded) => {
+            let read = origin_read(image, bytes, decoded.instruction);
+            let after = executed(image, bytes, stack, c, flags, decoded);
             ended(pairs, c, after, read, action)
         }
         Action::Refused(reason) => {
             let after = stopped(c, flags, reason);
-            ended(pairs, c, after, OriginRead::Nothing, action)
+            ended(pairs, c, after, None, action)
         }
     }
 }
@@ -140,14 +131,14 @@ fn act(
 fn refused_step(control: Control, flags: FlagPairs, reason: Refusal) -> StepProgress
     ensures { ((bytes stack : List ℕ)
         → step_progress_as bytes stack result ≡ refused_of (machine_of control stack flags bytes) (numbered reason))
-        × (result.report.read ≡ Nothing) × (action_as result.report.action ≡ refuses (numbered reason)) }
+        × (result.report.read ≡ None) × (action_as result.report.action ≡ refuses (numbered reason)) }
 {
     StepProgress {
         control,
         flags,
         report: StepReport {
-            answer: StepAnswer::Refused(reason),
-            read: OriginRead::Nothing,
+            answer: Err(reason),
+            read: None,
             action: Action::Refused(reason),
         },
     }
@@ -190,19 +181,14 @@ pub fn step(image: &[u8], m: Machine, request: u8) -> Stepped
 {
     let mut bytes = m.bytes;
     let mut stack = m.stack;
-    let c = m.control;
-    let f = m.flags;
-    let after = step_lent(image, &mut bytes, &mut stack, c, f, request);
-    let control = after.control;
-    let flags = after.flags;
-    let report = after.report;
+    let after = step_lent(image, &mut bytes, &mut stack, m.control, m.flags, request);
     Stepped {
         machine: Machine {
-            control,
+            control: after.control,
             stack,
-            flags,
+            flags: after.flags,
             bytes,
         },
-        report,
+        report: after.report,
     }
 }

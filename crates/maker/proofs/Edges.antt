@@ -1,20 +1,20 @@
 -- Edges are noted while addresses are explored, and needs rise over them.
 use Prim.Native.Nat.{ℕ, zero, suc, ◌+◌, ◌-◌, ◌*◌, ◌/◌, ◌%◌, ◌≤◌, ◌<◌}
-use native.Mathlib.Nat.{mod-eq_of_lt, mul-add-mod_self_right}
 use native.Mathlib.Omega.{arith}
-use mathlib.Core.Path.{◌≡◌, refl, sym, ◌∙◌}
+use mathlib.Core.Path.{◌≡◌, refl, sym, ap, ◌∙◌}
 use mathlib.Core.Logic.{◌≢◌}
 use mathlib.Core.Bool.{Bool, true, false}
 use mathlib.Core.List.{List, [], ◌∷◌}
 use lib.Dec.{eqb}
-use lib.ListN.{length, get_or, set}
+use lib.ListN.{set}
 use lib.Seq.{get_or-set_other}
 use borrow.Author.Tests.{eqb-true, eqb-false, lt-ltb, le-ltb}
 use Rattle.certificate.specs.Marks.{mark_at, kind_at, need_at}
-use Rattle.maker.specs.declared.Change.{Change}
+use Rattle.maker.specs.declared.graph.Entry.{Entry}
+use Rattle.maker.specs.declared.graph.Link as noted
 use Rattle.maker.specs.Reach.{along}
-use Rattle.maker.specs.Making.{Sound, Kept, Worked, joined, Demanded, Edge, leaves, FirstEdge}
-use Rattle.maker.specs.Making.{link_at, NoEdges, Known, Explored, Raised, Spread}
+use Rattle.maker.specs.Making.{Sound, Change, Kept, Worked, joined, Demanded, Edge, leaves, FirstEdge}
+use Rattle.maker.specs.Making.{link_at, NoEdges, IsLink, Known, Explored, Raised, Spread}
 use Rattle.maker.proofs.Rising.{then, by}
 use Rattle.maker.proofs.Reached.{goes_bounded, has_mark}
 use Rattle.maker.proofs.Following.{takes_need, kind_most}
@@ -42,21 +42,15 @@ edge_kept {from = from} {to} kept e =
     let t = kept to (edge_bounded e).0 in
     record { kind_least = rw f e.kind_least; leads = rw (f, t) e.leads }
 
-known_kept : {image before after edges : List ℕ} → Kept before after → Known image before edges
+known_kept : {image before after : List ℕ} {edges : List Entry} → Kept before after → Known image before edges
     → Known image after edges
 known_kept kept known = record { edge = λ e n. edge_kept kept (known.edge e n) }
 
 -- what is set is read again
-set_here : (l : List ℕ) (i v : ℕ) → get_or (set l i v) i 0 ≢ 0 → get_or (set l i v) i 0 ≡ v
+set_here : (l : List Entry) (i : ℕ) (v : Entry) → link_at (set l i v) i ≢ 0 → link_at (set l i v) i ≡ v.link
 set_here [] i v n = absurd (n refl)
 set_here (m ∷ l) zero v n = refl
 set_here (m ∷ l) (suc i) v n = set_here l i v n
-
--- past the end nothing is noted
-pub past_end : (l : List ℕ) (i : ℕ) → length l ≤ i → get_or l i 0 ≡ 0
-past_end [] i h = refl
-past_end (m ∷ l) zero h = absurd (omega arith)
-past_end (m ∷ l) (suc i) h = past_end l i (omega arith)
 
 -- the address that an edge leaves, by its number, with the first page ..
 pub leaves_below : (e : ℕ) → e < 8192 → e / 2 ≡ leaves e
@@ -87,12 +81,15 @@ other_page from page h k =
     }
 
 -- an edge is noted
-pub recorded_one : (edges : List ℕ) (edge to levels earlier v : ℕ) → to < 4096
-    → v ≡ earlier * 0x10000 + (to * 2 + levels % 2 + 1) → (image certificate : List ℕ) → Known image certificate edges
-    → Edge image certificate (leaves edge) to levels × Unit {0} → Known image certificate (set edges edge v)
-recorded_one edges edge to levels earlier v low v-is image certificate known each =
+pub recorded_one : (edges : List Entry) (edge to levels earlier : ℕ) → (image certificate : List ℕ) → Known image certificate edges
+    → Edge image certificate (leaves edge) to levels × Unit {0}
+    → Known image certificate (set edges edge (record { link = to * 2 + levels % 2 + 1; earlier = earlier }))
+recorded_one edges edge to levels earlier image certificate known each =
     record { edge = λ e n. go e n (eqb e edge) refl }
   where
+    v : Entry
+    v = record { link = to * 2 + levels % 2 + 1; earlier = earlier }
+
     go : (e : ℕ) → link_at (set edges edge v) e ≢ 0 → (t : Bool) → eqb e edge ≡ t
         → Edge image certificate (leaves e) ((link_at (set edges edge v) e - 1) / 2) ((link_at (set edges edge v) e -
         1) % 2)
@@ -100,17 +97,17 @@ recorded_one edges edge to levels earlier v low v-is image certificate known eac
         let same = eqb-true e edge p in
         let most = (edge_bounded each.0).1 in
         let here = set_here edges edge v (λ z. n (rw (same, z))) in
-        let link : v % 0x10000 ≡ to * 2 + levels % 2 + 1 =
-        rw v-is (mul-add-mod_self_right earlier 0x10000 (to * 2 + levels % 2 + 1) ∙ mod-eq_of_lt (omega arith)) in
-        let to_is : (v % 0x10000 - 1) / 2 ≡ to = omega arith in
-        let levels-are : (v % 0x10000 - 1) % 2 ≡ levels = omega arith in
+        let to_is : (to * 2 + levels % 2 + 1 - 1) / 2 ≡ to = omega arith in
+        let levels-are : (to * 2 + levels % 2 + 1 - 1) % 2 ≡ levels = omega arith in
         rw (same, here, to_is, levels-are) each.0
     go e n false p =
-        let other = get_or-set_other edges edge e v 0 (eqb-false e edge p) in
+        let other : link_at (set edges edge v) e ≡ link_at edges e =
+        ap (λ (x : Entry). x.link)
+        (get_or-set_other edges edge e v (record { link = 0; earlier = 0 }) (eqb-false e edge p)) in
         rw other (known.edge e (λ z. n (rw other z)))
 
 -- an address is visited, and the edges that leave it are noted
-pub explored_one : {image before after edges edges' : List ℕ} {p : Change} {Q : List ℕ → Type 0}
+pub explored_one : {image before after : List ℕ} {edges edges' : List Entry} {p : Change} {Q : List ℕ → Type 0}
     {P : List ℕ → List ℕ → Type 0}
     → ((image certificate : List ℕ) → Known image certificate edges → P image certificate →
     Known image certificate edges')
@@ -120,7 +117,15 @@ explored_one {image} {after = after} r v wired s known =
     let t = v wired s in
     (by (λ z. tt) t.0, r image after (known_kept t.0.kept known) t.1)
 
-pub explored_more : {image before middle after edges edges' edges'' : List ℕ} {p q : Change}
+-- .. and none are noted
+pub explored_kept : {image before after : List ℕ} {edges : List Entry} {p : Change} {Q : List ℕ → Type 0} {R : Type 0}
+    → ((wired : ℕ) → Sound image wired before → Worked image wired Q before after p × R)
+    → Explored image before after edges edges p
+explored_kept v wired s known =
+    let t = (v wired s).0 in
+    (by (λ z. tt) t, known_kept t.kept known)
+
+pub explored_more : {image before middle after : List ℕ} {edges edges' edges'' : List Entry} {p q : Change}
     → Explored image before middle edges edges' p → Explored image middle after edges' edges'' q
     → Explored image before after edges edges'' (joined p q)
 explored_more f g wired s known =
@@ -129,29 +134,19 @@ explored_more f g wired s known =
     (by (λ z. tt) (then t.0 u.0), u.1)
 
 -- needs are raised
-pub raised_one : {edges before after : List ℕ} {p : Change} (number link : ℕ)
-    → link ≡ link_at edges number → link ≢ 0
-    → Demanded before after (leaves number) (kind_at before (leaves number))
-    (need_at before ((link - 1) / 2) + (link - 1) % 2) p
-    → Raised edges before after p
-raised_one {before = before} number link e n d image wired s known =
-    let edge = rw (← e) at (known.edge number (λ z. n (e ∙ z))) in
+pub raised_one : {before after : List ℕ} {edges : List Entry} {p : Change} (number : ℕ) {link : noted.Link}
+    → IsLink edges number link
+    → Demanded before after (leaves number) (kind_at before (leaves number)) (need_at before link.to + link.levels) p
+    → Raised before after edges edges p
+raised_one {before = before} number {link} l d image wired s known =
+    let edge = rw (l.to_is, l.levels_are) at (known.edge number l.noted) in
     let from = leaves number in
-    let to = (link - 1) / 2 in
     let r = only_reachable s from (has_mark before from (kind_at before from) refl edge.kind_least) in
-    let t = takes_need to (kind_at before to) s refl (edge_bounded edge).0 in
-    by (λ z. tt) (d image wired s r (along edge.leads t)).0
-
-pub raised_more : {edges before middle after : List ℕ} {p q : Change} → Raised edges before middle p
-    → Raised edges middle after q → Raised edges before after (joined p q)
-raised_more f g image wired s known =
-    let t = f image wired s known in
-    by (λ z. tt) (then t (g image wired t.sound (known_kept t.kept known)))
+    let t = takes_need link.to (kind_at before link.to) s refl (edge_bounded edge).0 in
+    let u = (d image wired s r (along edge.leads t)).0 in
+    (by (λ z. tt) u, known_kept u.kept known)
 
 -- addresses are explored where no edge is noted yet, then needs are raised
-pub spreads : {image before middle after edges edges' : List ℕ} {p q : Change} → NoEdges edges
-    → Explored image before middle edges edges' p → Raised edges' middle after q
-    → Spread image before after (joined p q)
-spreads {image} none f g wired s =
-    let t = f wired s (record { edge = λ e n. absurd (n (rw (none e))) }) in
-    by (λ z. tt) (then t.0 (g image wired t.0.sound t.1))
+pub spreads : {image before after : List ℕ} {edges edges' : List Entry} {p : Change} → NoEdges edges
+    → Explored image before after edges edges' p → Spread image before after p
+spreads none f wired s = (f wired s (record { edge = λ e n. absurd (n (none e)) })).0

@@ -22,11 +22,9 @@ use Rattle.certificate.specs.Rules.{Rules}
 use Rattle.certificate.proofs.Agreement.{agreement}
 use Rattle.certificate.proofs.Facts.{kind_of_lem}
 use Rattle.certificate.proofs.SourceLevels.{source_levels_lem}
-use Rattle.maker.specs.declared.Change.{Change}
 use Rattle.maker.specs.Reach.{Reachable}
 use Rattle.maker.specs.Least.{NoneAccepted, NoSmaller, Least}
-use Rattle.maker.specs.Making.{Sound, Worked, joined, Spread, Seeded, Seeds, Finished}
-use Rattle.maker.proofs.Rising.{then, by}
+use Rattle.maker.specs.Making.{Sound, Finished}
 use Rattle.maker.proofs.Reached.{taken}
 
 max_mono : {a b c d : ℕ} → a ≤ c → b ≤ d → max a b ≤ max c d
@@ -103,13 +101,6 @@ module _ {image certificate : List ℕ} {wired : ℕ} (s : Sound image wired cer
     where
       contradicts : {n : ℕ} → refused r ≡ accepted n → ⊥
       contradicts z = let bad : ◌≡◌ {A = ℕ} 0 1 = cc in omega arith
-
--- the vectors, then visits in any order
-pub begins : {image a b c : List ℕ} {wired : ℕ} {p q : Change} → Sound image wired a
-    → Seeds wired (Seeded wired) a b p → Spread image b c q → Worked image wired (λ m. Unit) a c (joined p q)
-begins {image} {wired = wired} s f g =
-    let t = f image s in
-    by (λ z. tt) (then t (g wired t.sound))
 
 -- no marks yet
 unmarked : (certificate : List ℕ) (a : ℕ) → ((i : ℕ) → get_or certificate i 0 ≡ 0) → mark_at certificate a ≡ 0

@@ -2,7 +2,6 @@
 use Prim.Native.Nat.{ℕ, ◌+◌, ◌/◌, ◌%◌, ◌≤◌, ◌<◌}
 use native.Mathlib.Omega.{arith}
 use mathlib.Core.Path.{◌≡◌, refl, sym, ◌∙◌}
-use mathlib.Core.Logic.{◌≢◌}
 use mathlib.Core.Bool.{Bool, true, false, cond, ◌&&◌}
 use mathlib.Core.List.{List, [], ◌∷◌}
 use lib.Dec.{leb, eqb}
@@ -19,24 +18,30 @@ use Rattle.isa.specs.declared.Instruction.{Instruction}
 use Rattle.isa.specs.declared.Flow.{Flow}
 use Rattle.isa.specs.declared.Flow.TheVariants as flow
 use Rattle.isa.proofs.AtAddress.{in_range}
-use Rattle.certificate.specs.declared.successors.Successor.{Successor}
 use Rattle.certificate.specs.Marks.{mark_at, Marked, WellFormed, kind_of, kind_at, need_at}
-use Rattle.certificate.specs.Successors.{placed, successors_of, continues_at}
+use Rattle.certificate.specs.declared.marks.Kind.{Kind}
+use Rattle.certificate.specs.declared.marks.Kind.TheVariants.{StartUp, Main, Service, Subroutine}
+use Rattle.certificate.specs.Marks.{kind_number}
+use Rattle.certificate.specs.Successors.{Successor, placed, successors_of, continues_at, listed}
 use Rattle.certificate.specs.Links.{Link, Every}
 use Rattle.certificate.specs.Rules.{Runs}
 use Rattle.certificate.proofs.Facts.{kind_of_lem}
 use Rattle.certificate.proofs.Links.{flow_rule_exactly}
 use Rattle.certificate.proofs.Sound.{marked_in_rom}
-use Rattle.maker.specs.declared.Change.{Change}
-use Rattle.maker.specs.declared.Change.TheVariants.{Same, Changed, Impossible}
+use Rattle.certificate.specs.declared.successors.Successors.{Successors}
+use Rattle.certificate.specs.declared.successors.Successors.TheVariants.{None}
+use Rattle.std.specs.Prelude.{Some, Result, Ok, Err, OnOk}
+use Rattle.maker.specs.declared.Impossible.{Impossible}
+use Rattle.maker.specs.declared.Visit.{Visit}
 use Rattle.maker.specs.Reach.{Continues, goes_next, wakes, jumps, branches, passes_by, calls, comes_back}
 use Rattle.maker.specs.Reach.{ends_start_up, Reachable, onward, UsesLevels, here, along}
-use Rattle.maker.specs.Making.{Sound, Kept, Worked, joined, Demanded, Small, LeadsTo, HasKind, Followed}
-use Rattle.maker.specs.Making.{EdgeTo, Visited}
+use Rattle.maker.specs.Making.{Sound, Change, Kept, Worked, joined, Demanded, Small, LeadsTo, HasKind, Followed}
+use Rattle.maker.specs.Making.{EdgeTo, RunsAt, Visited}
 use Rattle.maker.proofs.Rising.{then, by}
 use Rattle.maker.proofs.Reached.{goes_bounded, reached_kind, has_mark}
 use Rattle.maker.proofs.Refuted.{undecodable, misplaced}
 use Rattle.maker.proofs.Demands.{refuted}
+use Rattle.maker.proofs.Final.{only_reachable}
 
 -- the need of an address of a kind is what a path takes
 pub takes_need : {image certificate : List ℕ} {wired : ℕ} (a kind : ℕ) → Sound image wired certificate →
@@ -48,45 +53,50 @@ takes_need {image} {certificate} {wired} a kind s k h =
     let e : mark_at certificate a / 16 ≡ kind = sym (kind_of_lem (mark_at certificate a) f.formed) ∙ k in
     rw e at f.takes
 
+-- what holds anyway
+on_ok : {A E P : Type 0} (r : Result A E) → P → OnOk r P
+on_ok (Ok x) p = p
+on_ok (Err e) p = tt
+
 module _ {before middle : List ℕ} {a kind : ℕ} {s : Successor} where
-  pub stops : Demanded before middle s.address s.kind 0 Impossible
-      → Followed before middle a kind (s ∷ []) Impossible
+  pub stops : {e : Impossible} → Demanded before middle s.address s.kind 0 (Err e)
+      → Followed before middle a kind (s ∷ []) (Err e)
   stops d image wired so r each =
       let t = d image wired so (onward r each.0) here in
-      (record { sound = t.0.sound; told = t.0.told; kept = t.0.kept }, λ n. absurd (n refl))
+      (record { sound = t.0.sound; told = t.0.told; kept = t.0.kept }, tt)
 
-  pub follows : {after : List ℕ} {p q : Change} → Demanded before middle s.address s.kind 0 p
-      → (p ≡ Impossible → ⊥) → Demanded middle after a kind (need_at middle s.address + s.levels) q
-      → Followed before after a kind (s ∷ []) (joined p q)
-  follows {after} {p} {q} d n e image wired so r each =
+  pub follows : {after : List ℕ} {marked : Bool} {q : Change} → Demanded before middle s.address s.kind 0 (Ok marked)
+      → Demanded middle after a kind (need_at middle s.address + s.levels) q
+      → Followed before after a kind (s ∷ []) (joined (Ok marked) q)
+  follows {after} {marked} {q} d e image wired so r each =
       let reach = onward r each.0 in
       let t = d image wired so reach here in
       let kind_least = (reached_kind s.address s.kind reach).0 in
-      let need = takes_need s.address s.kind t.0.sound (t.1 n).kind_is kind_least in
+      let need = takes_need s.address s.kind t.0.sound t.1.kind_is kind_least in
       let u = (e image wired t.0.sound r (along each.0 need)).0 in
       let v : Worked image wired (λ m. need_at m s.address + s.levels ≤ need_at m a) middle after q =
       by (λ z. z.need_least) u in
-      let k = (t.1 n).kind_is in (
+      let k = t.1.kind_is in (
         by (λ z. (record { kind = z.0.kind_is; need = z.1 }, tt)) (then t.0 v),
-        λ z. (u.kept s.address (rw k kind_least) ∙ k, tt),
+        on_ok (joined (Ok marked) q) (u.kept s.address (rw k kind_least) ∙ k, tt),
       )
 
 -- what was done, and then nothing
-joined_same : (p : Change) → joined p Same ≡ p
-joined_same Same = refl
-joined_same Changed = refl
-joined_same Impossible = refl
+joined_same : (p : Change) → joined p (Ok false) ≡ p
+joined_same (Ok false) = refl
+joined_same (Ok true) = refl
+joined_same (Err impossible) = refl
 
 -- no level is needed there, and so none here
-pub follows_free : {before middle : List ℕ} {a kind : ℕ} {s : Successor} {p : Change}
-    → Demanded before middle s.address s.kind 0 p → (p ≡ Impossible → ⊥)
-    → need_at middle s.address + s.levels ≡ 0 → Followed before middle a kind (s ∷ []) p
-follows_free {before} {middle} {a} {kind} {s} {p} d n free image wired so r each =
+pub follows_free : {before middle : List ℕ} {a kind : ℕ} {s : Successor} {marked : Bool}
+    → Demanded before middle s.address s.kind 0 (Ok marked)
+    → need_at middle s.address + s.levels ≡ 0 → Followed before middle a kind (s ∷ []) (Ok marked)
+follows_free {before} {middle} {a} {kind} {s} {marked} d free image wired so r each =
     let t = d image wired so (onward r each.0) here in
-    let v : Worked image wired (λ m. need_at m s.address + s.levels ≤ need_at m a) middle middle Same =
+    let v : Worked image wired (λ m. need_at m s.address + s.levels ≤ need_at m a) middle middle (Ok false) =
     record { sound = t.0.sound; told = (refl, omega arith); kept = λ b h. refl } in (
-      rw (← joined_same p) (by (λ z. (record { kind = z.0.kind_is; need = z.1 }, tt)) (then t.0 v)),
-      λ z. ((t.1 n).kind_is, tt),
+      rw (← joined_same (Ok marked)) (by (λ z. (record { kind = z.0.kind_is; need = z.1 }, tt)) (then t.0 v)),
+      (t.1.kind_is, tt),
     )
 
 -- what holds of every successor, put otherwise
@@ -126,19 +136,21 @@ kind_most mark = go (leb (mark / 16) 4) (leb (mark % 16) 6) refl
     go true false p = omega arith
     go false t p = omega arith
 
--- the successors of a mark's code are small
-pub successors_small : {kind : ℕ} (mark : ℕ) → kind ≡ kind_of mark → kind ≢ 0 → {l : List Successor} (f : Flow) (n : ℕ)
-    → l ≡ successors_of kind f n → (kind ≤ 4) × Every Small l
-successors_small {kind} mark k n f next e =
-    let most : kind ≤ 4 = omega (arith, kind_most mark) in
-    let least : 1 ≤ kind = omega arith in
-    let bounded =
-    every_by (λ s g. small s (goes_bounded kind f next s.address s.kind s.levels least most g))
-    (successors_of kind f next) (every_goes kind f next) in
-    (most, rw e bounded)
-  where
-    small : (s : Successor) → (1 ≤ s.kind) × (s.kind ≤ 4) × (s.levels ≤ 1) → Small s
-    small s b = record { kind_least = b.0; kind_most = b.1; levels_most = b.2 }
+-- a kind's number
+pub kind_bounds : (kind : Kind) → (1 ≤ kind_number (Some kind)) × (kind_number (Some kind) ≤ 4)
+kind_bounds StartUp = (omega arith, omega arith)
+kind_bounds Main = (omega arith, omega arith)
+kind_bounds Service = (omega arith, omega arith)
+kind_bounds Subroutine = (omega arith, omega arith)
+
+-- the successors of code are small
+pub successors_small : (kind : Kind) {l : List Successor} (f : Flow) (n : ℕ)
+    → l ≡ successors_of (kind_number (Some kind)) f n → Every Small l
+successors_small kind f next e =
+    let k = kind_number (Some kind) in
+    let b = kind_bounds kind in
+    rw e (every_by {Q = Small} (λ s g. (goes_bounded k f next s.address s.kind s.levels b.0 b.1 g).2)
+    (successors_of k f next) (every_goes k f next))
 
 -- what decoding answers, by where its instruction continues
 pub record Continued (a : ℕ) (d : Answer Decoding) (f : Flow) (n : ℕ) : Type 0 where
@@ -160,88 +172,119 @@ refused_by a (done (decode.instruction i bytes cycles)) e = absurd (let z : ◌�
 refused_by a (refused q) e = cc
 
 -- an address of a kind is a program address
-pub in_space : (certificate : List ℕ) (a kind : ℕ) → kind ≡ kind_of (mark_at certificate a) → kind ≢ 0 → a < 4096
+pub in_space : (certificate : List ℕ) (a : ℕ) (kind : Kind) → kind_number (Some kind) ≡ kind_at certificate a → a < 4096
+in_space certificate a kind k =
+    (marked_in_rom certificate a (has_mark certificate a (kind_number (Some kind)) (sym k) (kind_bounds kind).0)).most
+
+-- the successors, by the instruction
+as_flow : (kind : ℕ) {n m : ℕ} {l : List Successor} {f g : Flow} → l ≡ successors_of kind f n → f ≡ g → n ≡ m
+    → l ≡ successors_of kind g m
+as_flow kind e p q = e ∙ rw (p, q)
+
+-- a visit, by what following its successors did
+abbrev pub visit_by : Change → Successors → Result Visit Impossible
+visit_by (Ok changed) successors = Ok record { changed = changed; successors = successors }
+visit_by (Err e) successors = Err e
+
+-- the address has no mark
+pub visits_none : (image certificate : List ℕ) (page a : ℕ) → 0 ≡ kind_at certificate a
+    → Visited image certificate certificate page a (Ok record { changed = false; successors = None })
 unfolding kind_at
-in_space certificate a kind k n = (marked_in_rom certificate a (has_mark certificate a kind (sym k) (omega arith))).most
+visits_none image certificate page a kind_is wired s =
+    (record { sound = s; told = (refl, λ m. absurd (contradicts m)); kept = λ b h. refl }, tt)
+  where
+    contradicts : Marked certificate a → ⊥
+    contradicts m =
+        let w = (s.forced a m).formed in
+        omega (arith, kind_is, kind_of_lem (mark_at certificate a) w, w.kind_least)
 
--- the address has a mark of a kind, or none
-module _ (image certificate : List ℕ) (page a kind : ℕ) (kind_is : kind ≡ kind_of (mark_at certificate a)) where
-  pub visits_none : kind ≡ 0 → Visited image certificate certificate page a Same []
-  visits_none z wired s =
-      (record { sound = s; told = (refl, λ m. absurd (contradicts m)); kept = λ b h. refl }, tt)
-    where
-      contradicts : Marked certificate a → ⊥
-      contradicts m =
-          let w = (s.forced a m).formed in
-          omega (arith, kind_is, kind_of_lem (mark_at certificate a) w, w.kind_least)
+-- it has a mark of a kind
+module _ (image certificate : List ℕ) (page a : ℕ) (kind : Kind) (kind_is : kind_number (Some kind) ≡ kind_at certificate a) where
+  mark_here : Marked certificate a
+  mark_here = has_mark certificate a (kind_number (Some kind)) (sym kind_is) (kind_bounds kind).0
 
-  module _ (n : kind ≢ 0) where
-    mark_here : Marked certificate a
-    unfolding kind_at
-    mark_here = has_mark certificate a kind (sym kind_is) (omega arith)
+  reach : {wired : ℕ} → Sound image wired certificate → Reachable image wired a (kind_number (Some kind))
+  reach s = rw kind_is (only_reachable s a mark_here)
 
-    reach : {wired : ℕ} → Sound image wired certificate → Reachable image wired a kind
-    reach s =
-        let f = s.forced a mark_here in
-        let e : mark_at certificate a / 16 ≡ kind = sym (kind_of_lem (mark_at certificate a) f.formed) ∙ sym kind_is in
-        rw e at f.reached
+  -- what decoding answers, of an image and an address in ROM
+  decodes_at : {wired : ℕ} → Sound image wired certificate → {d : Answer Decoding} →
+      d ≡ decode_of (space_of image page) a
+      → decode_at (space_of image page) a ≡ d
+  decodes_at s e =
+      sym (e ∙ in_range (space_of image page) a (is_space_lem image page s.image_length)
+      (marked_in_rom certificate a mark_here).most)
 
-    -- what decoding answers, of an image and an address in ROM
-    decodes_at : {wired : ℕ} → Sound image wired certificate → {d : Answer Decoding} →
-        d ≡ decode_of (space_of image page) a
-        → decode_at (space_of image page) a ≡ d
-    decodes_at s e =
-        sym (e ∙ in_range (space_of image page) a (is_space_lem image page s.image_length)
-        (marked_in_rom certificate a mark_here).most)
+  pub visits_undecodable : {e : Impossible} {r : Numbered} → refused r ≡ continuation_from a (decode_of (space_of image page) a)
+      → Visited image certificate certificate page a (Err e)
+  visits_undecodable {r = r} d wired s =
+      let answer = decodes_at s (refused_by a (decode_of (space_of image page) a) d) in
+      (refuted s (undecodable image wired a (kind_number (Some kind)) (reach s) page r answer), tt)
 
-    pub visits_undecodable : {r : Numbered} → refused r ≡ decode_of (space_of image page) a →
-        Visited image certificate certificate page a Impossible []
-    visits_undecodable {r} d wired s = (refuted s (undecodable image wired a kind (reach s) page r (decodes_at s d)), tt)
+  -- .. and an instruction stands there
+  module _ {i : Instruction} {bytes cycles : ℕ} (d : done (decode.instruction i bytes cycles) ≡ decode_of (space_of image page) a) where
+    misplaced_here : {e : Impossible} → placed (kind_number (Some kind)) (flow_of i a) ≡ false →
+        Visited image certificate certificate page a (Err e)
+    misplaced_here p wired s =
+        (refuted s (misplaced image wired a (kind_number (Some kind)) (reach s) page i bytes cycles (decodes_at s d) p), tt)
 
-    module _ {i : Instruction} {bytes cycles : ℕ} (d : done (decode.instruction i bytes cycles) ≡ decode_of (space_of image page) a) where
-      pub visits_misplaced : placed kind (flow_of i a) ≡ false →
-          Visited image certificate certificate page a Impossible []
-      visits_misplaced p wired s =
-          (refuted s (misplaced image wired a kind (reach s) page i bytes cycles (decodes_at s d) p), tt)
+    lawful : {wired : ℕ} → Sound image wired certificate → placed (kind_number (Some kind)) (flow_of i a) ≡ true
+        → Every (Link certificate a) (successors_of (kind_number (Some kind)) (flow_of i a) (forward_of a bytes)) →
+        WellFormed (mark_at certificate a) × Runs (space_of image page) certificate a
+    lawful s p links =
+        let rule =
+        (flow_rule_exactly certificate a (flow_of i a) (forward_of a bytes)).rule
+        (record { stands = rw (← kind_is) p; links = rw (← kind_is) links }) in (
+          (s.forced a mark_here).formed,
+          record { instruction = i; bytes = bytes; cycles = cycles; decodes = decodes_at s d; rule = rule },
+        )
 
-      lawful : {wired : ℕ} → Sound image wired certificate → placed kind (flow_of i a) ≡ true
-          → Every (Link certificate a) (successors_of kind (flow_of i a) (forward_of a bytes)) →
-          WellFormed (mark_at certificate a) × Runs (space_of image page) certificate a
-      unfolding kind_at
-      lawful s p links =
-          let rule =
-          (flow_rule_exactly certificate a (flow_of i a) (forward_of a bytes)).rule
-          (record { stands = rw (← kind_is) p; links = rw (← kind_is) links }) in (
-            (s.forced a mark_here).formed,
-            record { instruction = i; bytes = bytes; cycles = cycles; decodes = decodes_at s d; rule = rule },
-          )
+    -- what follows from its successors
+    module _ (successors : Successors)
+        (l : listed successors ≡ successors_of (kind_number (Some kind)) (flow_of i a) (forward_of a bytes)) where
+      every_leads : {wired : ℕ} → Sound image wired certificate
+          → Every (LeadsTo image a (kind_number (Some kind))) (listed successors)
+      every_leads s =
+          rw l
+          (every_by {Q = LeadsTo image a (kind_number (Some kind))}
+          (λ t g. record { bank = page; instruction = i; bytes = bytes; cycles = cycles; decodes = decodes_at s d; goes_on = g })
+          (successors_of (kind_number (Some kind)) (flow_of i a) (forward_of a bytes))
+          (every_goes (kind_number (Some kind)) (flow_of i a) (forward_of a bytes)))
 
-      -- what follows from its successors
-      module _ {after : List ℕ} {p : Change} (q : placed kind (flow_of i a) ≡ true)
-          (f : Followed certificate after a kind (successors_of kind (flow_of i a) (forward_of a bytes)) p) where
-        every_leads : {wired : ℕ} → Sound image wired certificate
-            → Every (LeadsTo image a kind) (successors_of kind (flow_of i a) (forward_of a bytes))
-        every_leads s =
-            every_by {Q = LeadsTo image a kind}
-            (λ t g. record { bank = page; instruction = i; bytes = bytes; cycles = cycles; decodes = decodes_at s d; goes_on = g })
-            (successors_of kind (flow_of i a) (forward_of a bytes)) (every_goes kind (flow_of i a) (forward_of a bytes))
+      -- the marks, by what following them did
+      followed : {wired : ℕ} {after : List ℕ} {p : Change} → Sound image wired certificate
+          → placed (kind_number (Some kind)) (flow_of i a) ≡ true
+          → Followed certificate after a (kind_number (Some kind)) (listed successors) p
+          → Worked image wired (RunsAt image page a) certificate after p
+      followed {wired} s q g =
+          by (λ links. λ m. lawful s q (rw l at links)) (g image wired s (reach s) (every_leads s)).0
 
-        pub visits_ended : Visited image certificate after page a p []
-        visits_ended wired s = (by (λ links. λ m. lawful s q links) (f image wired s (reach s) (every_leads s)).0, tt)
+      edge_to : {after : List ℕ} → Kept certificate after → (t : Successor) → LeadsTo image a (kind_number (Some kind)) t
+          → HasKind after t → EdgeTo image after a t
+      edge_to {after} kept t leads k =
+          let least = (kind_bounds kind).0 in
+          let e : kind_at after a ≡ kind_number (Some kind) = kept a (rw (← kind_is) least) ∙ sym kind_is in
+          record { kind_least = rw e least; leads = rw (e, k) leads }
 
-        edge_to : Kept certificate after → (t : Successor) → LeadsTo image a kind t → HasKind after t →
-            EdgeTo image after a t
-        unfolding kind_at
-        edge_to kept t leads k =
-            let least : 1 ≤ kind = omega arith in
-            let e : kind_at after a ≡ kind = kept a (rw (← kind_is) least) ∙ sym kind_is in
-            record { kind_least = rw e least; leads = rw (e, k) leads }
+      visited : {after : List ℕ} (p : Change) → placed (kind_number (Some kind)) (flow_of i a) ≡ true
+          → Followed certificate after a (kind_number (Some kind)) (listed successors) p
+          → Visited image certificate after page a (visit_by p successors)
+      visited (Ok changed) q g wired s =
+          let u = g image wired s (reach s) (every_leads s) in
+          (followed s q g, every_both (edge_to u.0.kept) (listed successors) (every_leads s) u.1)
+      visited (Err e) q g wired s = (followed s q g, tt)
 
-        pub visits : (p ≡ Impossible → ⊥)
-            → Visited image certificate after page a p (successors_of kind (flow_of i a) (forward_of a bytes))
-        visits n wired s =
-            let u = f image wired s (reach s) (every_leads s) in (
-              (visits_ended wired s).0,
-              every_both (edge_to u.0.kept) (successors_of kind (flow_of i a) (forward_of a bytes)) (every_leads s)
-                  (u.1 n),
-            )
+  -- .. as the program finds it
+  module _ {f : Flow} {n : ℕ} (d : done (goes f n) ≡ continuation_from a (decode_of (space_of image page) a)) where
+    pub visits_misplaced : {e : Impossible} → placed (kind_number (Some kind)) f ≡ false →
+        Visited image certificate certificate page a (Err e)
+    visits_misplaced p =
+        let c = continues a (decode_of (space_of image page) a) f n d in
+        misplaced_here c.decodes (rw c.flow_is at p)
+
+    pub visits : {after : List ℕ} (successors : Successors) (p : Change) → placed (kind_number (Some kind)) f ≡ true
+        → listed successors ≡ successors_of (kind_number (Some kind)) f n
+        → Followed certificate after a (kind_number (Some kind)) (listed successors) p
+        → Visited image certificate after page a (visit_by p successors)
+    visits successors p q l g =
+        let c = continues a (decode_of (space_of image page) a) f n d in
+        visited c.decodes successors (as_flow (kind_number (Some kind)) l c.flow_is c.next_is) p (rw c.flow_is at q) g

@@ -3,17 +3,17 @@ use Prim.Native.Nat.{ℕ, zero, suc, ◌+◌, ◌-◌, ◌/◌, ◌≤◌, ◌<�
 use native.Mathlib.Omega.{arith}
 use mathlib.Core.Path.{◌≡◌, refl, sym, ◌∙◌, subst}
 use mathlib.Core.Logic.{◌⊎◌, inl, inr, ◌≢◌}
-use mathlib.Core.Bool.{Bool, true, false, cond, ◌&&◌}
+use mathlib.Core.Bool.{Bool, true, false, true≢false, cond, ◌&&◌}
 use mathlib.Core.List.{List, [], ◌∷◌}
+use Rattle.std.specs.Prelude.{Result, Ok, Err, IsErr}
+use Rattle.maker.specs.declared.Impossible.{Impossible}
 use lib.Dec.{ltb, leb, eqb}
 use lib.ListN.{length, get_or, set, length-set}
 use lib.Seq.{get_or-set_same, get_or-set_other}
 use borrow.Author.Tests.{ltb-true, leb-true, eqb-true, eqb-false}
 use Rattle.certificate.specs.Marks.{mark_at, Marked, WellFormed, kind_of, kind_at, lowest}
 use Rattle.certificate.proofs.Facts.{mark_is, at_most_4096, well_formed_lem, kind_of_lem}
-use Rattle.maker.specs.declared.Change.{Change}
-use Rattle.maker.specs.declared.Change.TheVariants.{Same, Changed, Impossible}
-use Rattle.maker.specs.Making.{Forced, Sound, room, Told, Kept, Worked, joined}
+use Rattle.maker.specs.Making.{Forced, Sound, room, Change, Told, Kept, Worked, joined}
 
 pub room_set : (certificate : List ℕ) (i v : ℕ) → i < length certificate → get_or certificate i 0 < v → v ≤ 255
     → room (set certificate i v) < room certificate
@@ -91,6 +91,11 @@ sound_set image certificate wired j v s h f =
         let o = set_other certificate j v a (fits s) (eqb-false a (lowest certificate + j) p) in
         rw o (s.forced a (λ z. n (o ∙ z)))
 
+-- what the exit of a `?` returns
+pub impossible : {A : Type 0} (r : Result A Impossible) → IsErr r → r ≡ Err record {}
+impossible (Ok x) h = absurd (true≢false (sym h))
+impossible (Err e) h = refl
+
 module _ {image : List ℕ} {wired : ℕ} {P Q : List ℕ → Type 0} where
   -- one part of the work, then another
   pub then : {a b c : List ℕ} {p q : Change} → Worked image wired P a b p → Worked image wired Q b c q
@@ -104,19 +109,22 @@ module _ {image : List ℕ} {wired : ℕ} {P Q : List ℕ → Type 0} where
 
       go : (p q : Change) → Told image wired P a b p → Told image wired Q b c q
           → Told image wired (λ m. P m × Q m) a c (joined p q)
-      go Same Same t u = (u.0 ∙ t.0, (t.1, subst Q t.0 u.1))
-      go Same Changed t u = subst (λ m. room c < room m) t.0 u
-      go Same Impossible t u = u
-      go Changed Same t u = subst (λ m. room m < room a) (sym u.0) t
-      go Changed Changed t u = omega arith
-      go Changed Impossible t u = u
-      go Impossible q t u = t
+      go (Ok false) (Ok false) t u = (u.0 ∙ t.0, (t.1, subst Q t.0 u.1))
+      go (Ok false) (Ok true) t u = subst (λ m. room c < room m) t.0 u
+      go (Ok true) (Ok false) t u = subst (λ m. room m < room a) (sym u.0) t
+      go (Ok true) (Ok true) t u = omega arith
+      go (Ok first) (Err impossible) t u = u
+      go (Err impossible) q t u = t
+
+  -- where no certificate can meet the demands, any others can't be met either
+  pub stopped : {a b : List ℕ} {e : Impossible} → Worked image wired P a b (Err e) → Worked image wired Q a b (Err e)
+  stopped s = record { sound = s.sound; told = s.told; kept = s.kept }
 
   -- what holds of the marks, put otherwise
   pub by : {a b : List ℕ} {p : Change} → (P a → Q a) → Worked image wired P a b p → Worked image wired Q a b p
   by {a} {b} {p} f s = record { sound = s.sound; told = go p s.told; kept = s.kept }
     where
       go : (p : Change) → Told image wired P a b p → Told image wired Q a b p
-      go Same t = (t.0, f t.1)
-      go Changed t = t
-      go Impossible t = t
+      go (Ok false) t = (t.0, f t.1)
+      go (Ok true) t = t
+      go (Err impossible) t = t

@@ -1,16 +1,9 @@
 -- What the maker answers (document 02, W-202).
 use Rattle.std.specs.Prelude.{ℕ, ◌≡◌, ◌≢◌, List, [], ◌∷◌, length}
 use Rattle.certificate.specs.Check.{marks_in}
-use Rattle.isa.specs.Refusals.{Numbered, plain, numbered, Answer, done, refused}
+use Rattle.isa.specs.Refusals.{plain, Answer, done, refused}
 use Rattle.certificate.specs.Refusals.{Question, asks, FirstApplies, None, image_length, unknown_source}
-use Rattle.maker.specs.declared.Made.{Made}
-use Rattle.maker.specs.declared.Made.TheVariants.{Written, Refused}
 use Rattle.maker.specs.Least.{NoneAccepted, Least}
-
--- the program's answer by the papers' numbers: the levels of the certificate, or a refusal
-abbrev pub made_of : Made → Answer ℕ
-made_of (Written levels) = done levels
-made_of (Refused refusal) = refused (numbered refusal)
 
 -- "25 when the buffer isn't the image's length"
 abbrev pub buffer_length : (image buffer : List ℕ) → Question

@@ -1,16 +1,19 @@
 -- What holds while a certificate is made, for the contracts of the functions inside: every mark is forced, and each
 -- part of the work tells whether it changed the marks.
-use Rattle.std.specs.Prelude.{ℕ, ◌+◌, ◌-◌, ◌/◌, ◌%◌, ◌≤◌, ◌<◌, ◌≡◌, ◌≢◌, true, cond, List, [], ◌∷◌, ltb, length, get_or}
+use Rattle.std.specs.Prelude.{ℕ, ◌+◌, ◌-◌, ◌/◌, ◌%◌, ◌≤◌, ◌<◌, ◌≡◌, ◌≢◌, ◌⊎◌, Bool, true, false, cond, ◌||◌, List, [], ◌∷◌, ltb, length, get_or, IfOk, OnOk}
+use Rattle.std.specs.Prelude.{Result, Ok, Err}
 use Rattle.isa.specs.Sources.{is_named, vector_of, reset_vector}
 use Rattle.isa.specs.declared.Source.{Source}
-use Rattle.certificate.specs.declared.successors.Successor.{Successor}
 use Rattle.certificate.specs.Marks.{mark_at, Marked, WellFormed, kind_at, need_at}
+use Rattle.certificate.specs.Successors.{Successor, listed}
 use Rattle.certificate.specs.Links.{Link, Every}
 use Rattle.certificate.specs.Rules.{Runs, Lawful}
 use Rattle.certificate.specs.Check.{marks_in}
 use Rattle.isa.specs.Rom.{is_image, space_of}
-use Rattle.maker.specs.declared.Change.{Change}
-use Rattle.maker.specs.declared.Change.TheVariants.{Same, Changed, Impossible}
+use Rattle.maker.specs.declared.Impossible.{Impossible}
+use Rattle.maker.specs.declared.Visit.{Visit}
+use Rattle.maker.specs.declared.graph.Entry.{Entry}
+use Rattle.maker.specs.declared.graph.Link as noted
 use Rattle.maker.specs.Reach.{Leads, Reachable, UsesLevels}
 use Rattle.maker.specs.Least.{NoneAccepted}
 
@@ -32,13 +35,17 @@ unfoldable pub room : List ℕ → ℕ
 room [] = 0
 room (m ∷ certificate) = (255 - m) + room certificate
 
+-- whether a part of the work raised marks, or that no certificate can meet the demands
+abbrev pub Change : Type 0
+Change = Result Bool Impossible
+
 -- what a part of the work tells of the marks before and after: they are the same, and something holds of them; or some
 -- have risen; or no certificate is accepted
 abbrev pub Told :
     (image : List ℕ) → (wired : ℕ) → (Holds : List ℕ → Type 0) → (before after : List ℕ) → Change → Type 0
-Told image wired Holds before after Same = (after ≡ before) × Holds before
-Told image wired Holds before after Changed = room after < room before
-Told image wired Holds before after Impossible = NoneAccepted image wired
+Told image wired Holds before after (Ok false) = (after ≡ before) × Holds before
+Told image wired Holds before after (Ok true) = room after < room before
+Told image wired Holds before after (Err impossible) = NoneAccepted image wired
 
 -- a kind that was marked stays
 abbrev pub Kept : (before after : List ℕ) → Type 0
@@ -53,11 +60,18 @@ pub record Worked (image : List ℕ) (wired : ℕ) (Holds : List ℕ → Type 0)
 
 -- one part of the work, then another
 abbrev pub joined : Change → Change → Change
-joined Same second = second
-joined Changed Same = Changed
-joined Changed Changed = Changed
-joined Changed Impossible = Impossible
-joined Impossible second = Impossible
+joined (Ok first) (Ok second) = Ok (first || second)
+joined (Ok first) (Err impossible) = Err impossible
+joined (Err impossible) second = Err impossible
+
+-- an address has no mark, or its mark stands at a place
+abbrev pub Outside : (certificate : List ℕ) → (a : ℕ) → Type 0
+Outside certificate a = (4096 ≤ a) ⊎ (a + length certificate < 4096)
+
+pub record IsPlace (certificate : List ℕ) (a at : ℕ) : Type 0 where
+  pub low : a < 4096
+  pub high : 4096 ≤ a + length certificate
+  pub at_is : at ≡ a + length certificate - 4096
 
 -- an address has a kind, and at least a need
 pub record Meets (a kind need : ℕ) (certificate : List ℕ) : Type 0 where
@@ -69,13 +83,11 @@ abbrev pub Demanded : (before after : List ℕ) → (a kind need : ℕ) → Chan
 Demanded before after a kind need p =
     (image : List ℕ) (wired : ℕ) → Sound image wired before → Reachable image wired a kind →
     UsesLevels image a kind need
-    → Worked image wired (Meets a kind need) before after p × ((p ≡ Impossible → ⊥) → Meets a kind need after)
+    → Worked image wired (Meets a kind need) before after p × OnOk p (Meets a kind need after)
 
--- a successor of code: its kind is one of the four, and it takes at most one level
-pub record Small (s : Successor) : Type 0 where
-  pub kind_least : 1 ≤ s.kind
-  pub kind_most : s.kind ≤ 4
-  pub levels_most : s.levels ≤ 1
+-- a successor of code takes at most one level
+abbrev pub Small : Successor → Type 0
+Small s = s.levels ≤ 1
 
 -- the instruction at a leads to a successor
 abbrev pub LeadsTo : (image : List ℕ) → (a kind : ℕ) → Successor → Type 0
@@ -91,7 +103,7 @@ Followed before after a kind successors p =
     (image : List ℕ) (wired : ℕ) → Sound image wired before → Reachable image wired a kind
     → Every (LeadsTo image a kind) successors
     → Worked image wired (λ marks. Every (Link marks a) successors) before after p
-    × ((p ≡ Impossible → ⊥) → Every (HasKind after) successors)
+    × OnOk p (Every (HasKind after) successors)
 
 -- an edge of the program, between addresses that have kinds
 pub record Edge (image certificate : List ℕ) (from to levels : ℕ) : Type 0 where
@@ -114,21 +126,27 @@ pub record FirstEdge (from edge : ℕ) : Type 0 where
   pub numbered : edge + 1 < 40992
 
 -- where it leads, as noted: twice the address, and the levels, plus 1; 0 where it is not noted
-abbrev pub link_at : (edges : List ℕ) → (e : ℕ) → ℕ
-link_at edges e = get_or edges e 0 % 0x10000
+abbrev pub link_at : (edges : List Entry) → (e : ℕ) → ℕ
+link_at edges e = (get_or edges e (record { link = 0; earlier = 0 })).link
 
 -- nothing is noted
-abbrev pub NoEdges : List ℕ → Type 0
-NoEdges edges = (e : ℕ) → get_or edges e 0 ≡ 0
+abbrev pub NoEdges : List Entry → Type 0
+NoEdges edges = (e : ℕ) → link_at edges e ≡ 0
+
+-- a link is noted
+pub record IsLink (edges : List Entry) (e : ℕ) (l : noted.Link) : Type 0 where
+  pub noted : link_at edges e ≢ 0
+  pub to_is : (link_at edges e - 1) / 2 ≡ l.to
+  pub levels_are : (link_at edges e - 1) % 2 ≡ l.levels
 
 -- every link that is noted is an edge of the program
-pub record Known (image certificate edges : List ℕ) : Type 0 where
+pub record Known (image certificate : List ℕ) (edges : List Entry) : Type 0 where
   pub edge :
       (e : ℕ) → link_at edges e ≢ 0 →
       Edge image certificate (leaves e) ((link_at edges e - 1) / 2) ((link_at edges e - 1) % 2)
 
 -- edges are noted
-abbrev pub Recorded : (before after : List ℕ) → (from : ℕ) → List Successor → Type 0
+abbrev pub Recorded : (before after : List Entry) → (from : ℕ) → List Successor → Type 0
 Recorded before after from successors =
     (image certificate : List ℕ) → Known image certificate before → Every (EdgeTo image certificate from) successors
     → Known image certificate after
@@ -142,11 +160,17 @@ abbrev pub RunsAt : (image : List ℕ) → (page a : ℕ) → (certificate : Lis
 RunsAt image page a certificate = Marked certificate a → WellFormed (mark_at certificate a)
     × Runs (space_of image page) certificate a
 
+-- what a visit did to the marks
+abbrev pub change_of : Result Visit Impossible → Change
+change_of (Ok visit) = Ok visit.changed
+change_of (Err impossible) = Err impossible
+
 -- an address is visited with a page in place, and edges lead from it to the successors
-abbrev pub Visited : (image before after : List ℕ) → (page a : ℕ) → Change → List Successor → Type 0
-Visited image before after page a p successors =
+abbrev pub Visited : (image before after : List ℕ) → (page a : ℕ) → Result Visit Impossible → Type 0
+Visited image before after page a p =
     (wired : ℕ) → Sound image wired before
-    → Worked image wired (RunsAt image page a) before after p × Every (EdgeTo image after a) successors
+    → Worked image wired (RunsAt image page a) before after (change_of p)
+    × IfOk p (λ visit. Every (EdgeTo image after a) (listed visit.successors))
 
 -- .. with every page
 abbrev pub VisitedEach : (image before after : List ℕ) → (a : ℕ) → Change → Type 0
@@ -154,16 +178,14 @@ VisitedEach image before after a p =
     (wired : ℕ) → Sound image wired before → Worked image wired (LawfulAt image a) before after p
 
 -- .. some addresses, and their edges noted
-abbrev pub Explored : (image before after edges edges' : List ℕ) → Change → Type 0
+abbrev pub Explored : (image before after : List ℕ) → (edges edges' : List Entry) → Change → Type 0
 Explored image before after edges edges' p =
     (wired : ℕ) → Sound image wired before → Known image before edges
     → Worked image wired (λ marks. Unit) before after p × Known image after edges'
 
 -- some needs are raised over the edges that are noted
-abbrev pub Raised : (edges before after : List ℕ) → Change → Type 0
-Raised edges before after p =
-    (image : List ℕ) (wired : ℕ) → Sound image wired before → Known image before edges
-    → Worked image wired (λ marks. Unit) before after p
+abbrev pub Raised : (before after : List ℕ) → (edges edges' : List Entry) → Change → Type 0
+Raised before after edges edges' p = (image : List ℕ) → Explored image before after edges edges' p
 
 -- some addresses are visited, in some order: which ones is not promised, since the check decides in the end
 abbrev pub Spread : (image before after : List ℕ) → Change → Type 0

@@ -3,35 +3,36 @@
 #![tactic(auto)]
 
 mod graph;
-mod join;
 pub mod make;
 mod marking;
 mod sources;
 mod spread;
 mod sweep;
 
+ghost use Rattle.std.specs.Prelude.{◌≡◌};
+ghost use Rattle.isa.specs.declared.Refusal.TheVariants.{NoCertificate};
+
 use certificate::successors::Successors;
 use isa::Refusal;
 
-// The maker's answer: the levels of the certificate that it wrote, or why there is none.
-#[derive(Drop)]
-pub enum Made {
-    Written(u8),
-    Refused(Refusal),
+// No certificate can meet the demands.
+#[derive(Clone, Copy, Debug, PartialEq, Eq)]
+pub struct Impossible;
+
+impl From<Impossible> for Refusal {
+    ghost from_gives = { λ _ refusal. refusal ≡ NoCertificate };
+
+    fn from(_impossible: Impossible) -> Refusal {
+        Refusal::NoCertificate
+    }
 }
 
-// What a part of the work did to the marks: nothing, since they meet its demands; it raised some; or it found that no
-// certificate can meet them.
-#[derive(Drop)]
-pub enum Change {
-    Same,
-    Changed,
-    Impossible,
-}
+// Whether a part of the work raised marks: where it did not, they meet its demands.
+pub type Change = Result<bool, Impossible>;
 
-// What came of a visit to an address, and where its instruction leads.
-#[derive(Drop)]
+// What a visit to an address did, and where its instruction leads.
+#[derive(Clone, Copy)]
 pub struct Visit {
-    pub change: Change,
+    pub changed: bool,
     pub successors: Successors,
 }

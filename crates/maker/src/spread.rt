@@ -1,19 +1,14 @@
 // Kinds spread along the program's paths, with every page in place, and then needs against them.
-ghost use Rattle.isa.specs.Table.{Timings};
+ghost use Rattle.std.specs.Prelude.{◌≡◌, ◌≤◌};
 ghost use Rattle.isa.specs.Rom.{IsImage};
 ghost use Rattle.maker.specs.Making.{NoEdges, Explored, Raised, Spread};
 
 use crate::Change;
-use crate::graph::{
-    ALL_EDGES, END, FOUND, RISEN, earlier_edge, find_vector, from_of, is_empty, last_edge, link_at,
-    note_edges, pop, push,
-};
-use crate::join::join;
+use crate::graph::{ADDRESSES, ALL_EDGES, FIRST_EDGES, Graph, from_of};
 use crate::marking::{raise_at, visit};
 use certificate::marks::{mark_at, need_at};
-use isa::Source;
 use isa::rom::spaces_in;
-use isa::sources::{RESET_VECTOR, vector_of};
+use isa::sources::{RESET_VECTOR, SOURCES, vector_of};
 
 // With how many pages in place an address is explored: all, where its instruction can have bytes in a page, below 800h
 // or, from FFEh on, after FFFh; else one, since it is the same with each.
@@ -26,198 +21,170 @@ fn pages_at(address: u16, spaces: u8) -> u8 {
 }
 
 // Visits an address with each of the first pages in place, and notes the edges that leave it.
-fn explore_at(
-    table: &[u8; 256],
+fn explore_at<const N: usize>(
     image: &[u8],
     pages: u8,
     certificate: &mut [u8],
-    edges: &mut [u32],
-    notes: &mut [u16; 8194],
+    graph: &mut Graph<N>,
     address: u16,
 ) -> Change
-    requires { Timings table.now × IsImage image.now }
-    ensures { Explored image.now certificate.old certificate.new
-        edges.old edges.new result }
+    requires { IsImage image.now }
+    ensures { Explored image.now certificate.old certificate.new graph.old.edges graph.new.edges result }
 {
-    let mut change = Change::Same;
-    let mut page: u8 = 0;
-    while page < pages {
-        let visited = visit(table, image, page, certificate, address);
-        let successors = visited.successors;
-        note_edges(edges, notes, address, page, successors);
-        let here = visited.change;
-        change = join(change, here);
-        page += 1;
+    let mut changed = false;
+    for page in 0..pages {
+        let visited = visit(image, page, certificate, address)?;
+        graph.note_edges(address, page, visited.successors);
+        changed |= visited.changed;
     }
-    change
+    Ok(changed)
 }
 
-// Explores the address that was found last. Where it needs a level it counts as risen, since those that lead to it need
-// one too.
-fn explore_one(
-    table: &[u8; 256],
+// Explores an address. Where it needs a level it counts as risen, since those that lead to it need one too.
+fn explore_one<const N: usize>(
     image: &[u8],
     spaces: u8,
     certificate: &mut [u8],
-    edges: &mut [u32],
-    notes: &mut [u16; 8194],
+    graph: &mut Graph<N>,
+    address: u16,
 ) -> Change
-    requires { Timings table.now × IsImage image.now }
-    ensures { Explored image.now certificate.old certificate.new
-        edges.old edges.new result }
+    requires { IsImage image.now }
+    ensures { Explored image.now certificate.old certificate.new graph.old.edges graph.new.edges result }
 {
-    let address = pop(notes, FOUND);
-    let pages = pages_at(address, spaces);
-    let change = explore_at(table, image, pages, certificate, edges, notes, address);
+    let changed = explore_at(
+        image,
+        pages_at(address, spaces),
+        certificate,
+        graph,
+        address,
+    )?;
     if 0 < need_at(certificate, address) {
-        push(notes, RISEN, address);
+        graph.risen.push(address);
     }
-    change
+    Ok(changed)
 }
 
-// Explores what is found, until nothing more is: each address once.
-fn explore(
-    table: &[u8; 256],
+// Explores what is found, until nothing more is: each address once, so all are explored before the count ends.
+fn explore<const N: usize>(
     image: &[u8],
     spaces: u8,
     certificate: &mut [u8],
-    edges: &mut [u32],
-    notes: &mut [u16; 8194],
+    graph: &mut Graph<N>,
 ) -> Change
-    requires { Timings table.now × IsImage image.now }
-    ensures { Explored image.now certificate.old certificate.new
-        edges.old edges.new result }
+    requires { IsImage image.now }
+    ensures { Explored image.now certificate.old certificate.new graph.old.edges graph.new.edges result }
 {
-    let mut change = Change::Same;
-    let mut left: u16 = 4096;
-    while 0 < left {
-        if is_empty(notes, FOUND) {
-            return change;
-        }
-        change = join(
-            change,
-            explore_one(table, image, spaces, certificate, edges, notes),
-        );
-        left -= 1;
+    let mut changed = false;
+    for _ in 0..ADDRESSES {
+        let Some(address) = graph.found.pop() else {
+            break;
+        };
+        changed |= explore_one(image, spaces, certificate, graph, address)?;
     }
-    change
+    Ok(changed)
 }
 
 // Raises the need of the address that an edge leaves to what the edge demands.
-fn raise_one(certificate: &mut [u8], edges: &[u32], notes: &mut [u16; 8194], edge: u16) -> Change
-    ensures { Raised edges.now certificate.old certificate.new result }
+fn raise_one<const N: usize>(certificate: &mut [u8], graph: &mut Graph<N>, edge: u16) -> Change
+    ensures { Raised certificate.old certificate.new graph.old.edges graph.new.edges result }
 {
-    let link = link_at(edges, edge);
-    if link == 0 {
-        return Change::Same;
-    }
+    let Some(link) = graph.link(edge) else {
+        return Ok(false);
+    };
     let from = from_of(edge);
-    let need = need_at(certificate, (link - 1) / 2) + ((link - 1) % 2) as u8;
-    let raised = raise_at(certificate, from, need);
-    if let Change::Changed = raised {
-        push(notes, RISEN, from);
+    let need = need_at(certificate, link.to) + link.levels;
+    let changed = raise_at(certificate, from, need)?;
+    if changed {
+        graph.risen.push(from);
     }
-    raised
+    Ok(changed)
 }
 
 // Raises the needs of all addresses that lead to one, by the list of the edges into it.
-fn raise_into(certificate: &mut [u8], edges: &[u32], notes: &mut [u16; 8194], to: u16) -> Change
-    ensures { Raised edges.now certificate.old certificate.new result }
+fn raise_into<const N: usize>(certificate: &mut [u8], graph: &mut Graph<N>, to: u16) -> Change
+    ensures { Raised certificate.old certificate.new graph.old.edges graph.new.edges result }
 {
-    let mut change = Change::Same;
-    let mut noted = last_edge(notes, to);
-    let mut left: u16 = ALL_EDGES;
-    while 0 < left {
-        if noted == 0 || noted == END {
-            return change;
-        }
-        let edge = noted - 1;
-        change = join(change, raise_one(certificate, edges, notes, edge));
-        noted = earlier_edge(edges, edge);
-        left -= 1;
+    let mut changed = false;
+    let mut next = graph.last_edge(to);
+    for _ in 0..ALL_EDGES {
+        let Some(edge) = next else {
+            break;
+        };
+        changed |= raise_one(certificate, graph, edge)?;
+        next = graph.earlier_edge(edge);
     }
-    change
+    Ok(changed)
 }
 
 // Raises needs until none rises any more. Each address is taken at most seven times: as it was found, and after each of
 // six rises.
-fn raise(certificate: &mut [u8], edges: &[u32], notes: &mut [u16; 8194]) -> Change
-    ensures { Raised edges.now certificate.old certificate.new result }
+fn raise<const N: usize>(certificate: &mut [u8], graph: &mut Graph<N>) -> Change
+    ensures { Raised certificate.old certificate.new graph.old.edges graph.new.edges result }
 {
-    let mut change = Change::Same;
-    let mut left: u16 = 28672;
-    while 0 < left {
-        if is_empty(notes, RISEN) {
-            return change;
-        }
-        let to = pop(notes, RISEN);
-        change = join(change, raise_into(certificate, edges, notes, to));
-        left -= 1;
+    let mut changed = false;
+    for _ in 0..7 * ADDRESSES {
+        let Some(to) = graph.risen.pop() else {
+            break;
+        };
+        changed |= raise_into(certificate, graph, to)?;
     }
-    change
+    Ok(changed)
 }
 
 // Finds a vector that has a mark.
-fn find_marked(certificate: &[u8], notes: &mut [u16; 8194], vector: u16) {
+fn find_marked<const N: usize>(certificate: &[u8], graph: &mut Graph<N>, vector: u16)
+    ensures { graph.new.edges ≡ graph.old.edges }
+{
     if mark_at(certificate, vector) != 0 {
-        find_vector(notes, vector);
+        graph.find_vector(vector);
     }
 }
 
 // Finds the vectors that have marks.
-fn find_vectors(certificate: &[u8], notes: &mut [u16; 8194]) {
-    find_marked(certificate, notes, vector_of(Source::Fourth));
-    find_marked(certificate, notes, vector_of(Source::Third));
-    find_marked(certificate, notes, vector_of(Source::Second));
-    find_marked(certificate, notes, vector_of(Source::First));
-    find_marked(certificate, notes, vector_of(Source::Nmi));
-    find_marked(certificate, notes, RESET_VECTOR);
+fn find_vectors<const N: usize>(certificate: &[u8], graph: &mut Graph<N>)
+    ensures { graph.new.edges ≡ graph.old.edges }
+{
+    for source in SOURCES {
+        find_marked(certificate, graph, vector_of(source));
+    }
+    find_marked(certificate, graph, RESET_VECTOR);
 }
 
-// Spreads the marks of the vectors over the program, with a number of pages, by edges of which none is noted yet.
-fn spread_by(
-    table: &[u8; 256],
+// Spreads the marks of the vectors over the program, with a number of pages, by a graph in which no edge is noted yet.
+fn spread_by<const N: usize>(
     image: &[u8],
     spaces: u8,
     certificate: &mut [u8],
-    edges: &mut [u32],
+    graph: &mut Graph<N>,
 ) -> Change
-    requires { Timings table.now × IsImage image.now × NoEdges edges.old }
+    requires { IsImage image.now × NoEdges graph.old.edges }
     ensures { Spread image.now certificate.old certificate.new result }
 {
-    let mut notes = [0u16; 8194];
-    find_vectors(certificate, &mut notes);
-    let explored = explore(table, image, spaces, certificate, edges, &mut notes);
-    join(explored, raise(certificate, edges, &mut notes))
+    find_vectors(certificate, graph);
+    let explored = explore(image, spaces, certificate, graph)?;
+    let raised = raise(certificate, graph)?;
+    Ok(explored | raised)
 }
 
-// .. with one page, or none.
-fn spread_unpaged(table: &[u8; 256], image: &[u8], certificate: &mut [u8]) -> Change
-    requires { Timings table.now × IsImage image.now }
+// .. by a new graph: a function of its own, so that nothing but a graph of this size is cleared.
+fn spread_with<const N: usize>(image: &[u8], spaces: u8, certificate: &mut [u8]) -> Change
+    requires { IsImage image.now × (N ≤ 40992) }
     ensures { Spread image.now certificate.old certificate.new result }
 {
-    let mut edges = [0u32; 8192];
-    spread_by(table, image, 1, certificate, &mut edges)
+    let mut graph = Graph::<N>::new();
+    spread_by(image, spaces, certificate, &mut graph)
 }
 
-// .. with more pages: there are more edges, which take longer to clear.
-fn spread_paged(table: &[u8; 256], image: &[u8], spaces: u8, certificate: &mut [u8]) -> Change
-    requires { Timings table.now × IsImage image.now }
-    ensures { Spread image.now certificate.old certificate.new result }
-{
-    let mut edges = [0u32; 40992];
-    spread_by(table, image, spaces, certificate, &mut edges)
-}
-
-// Spreads the marks of the vectors over the program.
-pub fn spread(table: &[u8; 256], image: &[u8], certificate: &mut [u8]) -> Change
-    requires { Timings table.now × IsImage image.now }
+// Spreads the marks of the vectors over the program. With one page, or none, there are fewer edges, which are cleared
+// sooner.
+pub fn spread(image: &[u8], certificate: &mut [u8]) -> Change
+    requires { IsImage image.now }
     ensures { Spread image.now certificate.old certificate.new result }
 {
     let spaces = spaces_in(image.len());
     if spaces == 1 {
-        spread_unpaged(table, image, certificate)
+        spread_with::<FIRST_EDGES>(image, spaces, certificate)
     } else {
-        spread_paged(table, image, spaces, certificate)
+        spread_with::<ALL_EDGES>(image, spaces, certificate)
     }
 }

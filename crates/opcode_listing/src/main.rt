@@ -2,7 +2,6 @@
 // instruction in the manual's notation. It is there to be held against the manual's map and pages.
 #![tactic(auto)]
 
-use isa::Decoded;
 use isa::decode::decode;
 use listing::Line;
 use listing::instruction::instruction;
@@ -35,23 +34,21 @@ fn code(image: &[u8; 4096], length: u8, cycles: u8) -> Line {
 }
 
 fn put_line(rt: &impl Print, line: Line) -> io::Result<()> {
-    let letters = line.letters;
-    let count = line.length();
-    put(rt, &letters[..count])
+    put(rt, line.bytes())
 }
 
 fn list_opcode(rt: &impl Print, opcode: u8) -> io::Result<()> {
     let image = image_with(opcode);
     match decode(&image, 0, 0x100) {
-        Decoded::Valid {
-            instruction: decoded,
-            length,
-            cycles,
-        } => put_line(
+        Ok(decoded) => put_line(
             rt,
-            instruction(code(&image, length, cycles), decoded, 0x100),
+            instruction(
+                code(&image, decoded.length, decoded.cycles),
+                decoded.instruction,
+                0x100,
+            ),
         )?,
-        Decoded::Refused(refusal) => {
+        Err(refusal) => {
             put_line(
                 rt,
                 Line::new().byte(opcode).word(b"             undefined, "),

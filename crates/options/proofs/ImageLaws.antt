@@ -3,7 +3,7 @@ use Prim.Native.Nat.{ℕ, ◌+◌, ◌-◌, ◌≤◌}
 use native.Mathlib.Omega.{arith}
 use mathlib.Core.Path.{◌≡◌, refl}
 use mathlib.Core.Bool.{Bool, true, false, cond}
-use mathlib.Core.List.{List, [], ◌∷◌, ◌++◌, append-nil}
+use mathlib.Core.List.{List, [], ◌++◌, append-nil}
 use lib.ListN.{length, take, drop, drop_of_length-le, length-drop}
 use lib.Seq.{take_all}
 use lib.Dec.{eqb}
@@ -11,19 +11,12 @@ use borrow.Author.Tests.{eqb-true, eqb-false}
 use borrow.Rule.Slice.PartMut.{put_mid, mid_of, Post-is}
 use Rattle.isa.specs.Rom.{is_image, spaces_in}
 use Rattle.isa.proofs.Halves.{Sized, sized}
-use Rattle.intel_hex.specs.declared.HexAnswer.{HexAnswer}
+use Rattle.std.specs.Prelude.{None, Some, Result}
+use Rattle.intel_hex.specs.declared.HexError.{HexError}
 use Rattle.intel_hex.specs.Read.{answer_of, image_after, outcome_of, Reads}
 use Rattle.options.specs.declared.image.Rom.TheVariants as rom
-use Rattle.options.specs.declared.image.Asked.{Asked}
 use Rattle.options.specs.declared.image.Asked.TheVariants as asked
-use Rattle.options.specs.declared.image.ImageRead.{ImageRead}
-use Rattle.options.specs.Image.{bytes_of, got, hex_got, is_hex, sized_by, sized_by_lowest, size_of}
-
--- a file without bytes is not HEX
-pub nothing_is_hex : (file : List ℕ) → length file ≡ 0 → is_hex file false ≡ false
-unfolding is_hex
-nothing_is_hex [] e = refl
-nothing_is_hex (x ∷ file) e = absurd (omega arith)
+use Rattle.options.specs.Image.{bytes_of, Found, got, hex_got, sized_by, sized_by_lowest, size_of}
 
 module _ (space : List ℕ) (start : ℕ) (fits : start ≤ length space) where
   -- the last bytes of a space, as they are lent
@@ -41,16 +34,16 @@ module _ (space : List ℕ) (start : ℕ) (fits : start ≤ length space) where
 
   -- a file copied there, which fills them
   pub part_filled :
-      (file new : List ℕ) → start + length file ≡ length space
-      → new ≡ file ++ drop (length file) (mid_of start (length space - start) space)
-      → put_mid start (length space - start) space new ≡ take start space ++ file
-  part_filled file new e copied =
-      let none : drop (length file) (drop start space) ≡ [] =
-      drop_of_length-le (drop start space) {i = length file} (omega (arith, part_length)) in
-      rw (part_back new, copied, part, none, append-nil file)
+      (file new : List ℕ) → new ≡ file → put_mid start (length space - start) space new ≡ take start space ++ file
+  part_filled file new e = rw (part_back new, e)
+
+  pub part_fits :
+      (file : List ℕ) → start + length file ≡ length space
+      → length (mid_of start (length space - start) space) ≡ length file
+  part_fits file e = rw part (omega (arith, part_length))
 
   -- a HEX file read there
-  module _ (size : ℕ) (e : length space - start ≡ size) (file : List ℕ) (fill : ℕ) (after : List ℕ) (answer : HexAnswer)
+  module _ (size : ℕ) (e : length space - start ≡ size) (file : List ℕ) (fill : ℕ) (after : List ℕ) (answer : Result ℕ HexError)
       (reads : Reads file fill (mid_of start (length space - start) space) after answer) where
     pub part_answer : answer ≡ answer_of (outcome_of file size)
     part_answer = rw (part, part_length, e) at reads.answer
@@ -64,11 +57,11 @@ module _ (space : List ℕ) (start : ℕ) (fits : start ≤ length space) where
         rw (part_back after, i)
 
 module _ (space : List ℕ) (whole : length space ≡ 20480) where
-  module _ (file : List ℕ) (fill : ℕ) (after : List ℕ) (answer : HexAnswer) (r : ImageRead) where
+  module _ (file : List ℕ) (fill : ℕ) (after : List ℕ) (answer : Result ℕ HexError) (r : Found) where
     -- a HEX file read as 2K, as 4K, and by the lowest address that it names
     pub small_read :
         Reads file fill (mid_of 18432 (length space - 18432) space) after answer → r ≡ sized_by rom.Small answer
-        → got r (put_mid 18432 (length space - 18432) space after) ≡ hex_got file asked.Small fill space
+        → got r (put_mid 18432 (length space - 18432) space after) ≡ hex_got file (Some asked.Small) fill space
     unfolding hex_got
     small_read reads e =
         rw (
@@ -79,7 +72,7 @@ module _ (space : List ℕ) (whole : length space ≡ 20480) where
 
     pub large_read :
         Reads file fill (mid_of 16384 (length space - 16384) space) after answer → r ≡ sized_by rom.Large answer
-        → got r (put_mid 16384 (length space - 16384) space after) ≡ hex_got file asked.Large fill space
+        → got r (put_mid 16384 (length space - 16384) space after) ≡ hex_got file (Some asked.Large) fill space
     unfolding hex_got
     large_read reads e =
         rw (
@@ -90,7 +83,7 @@ module _ (space : List ℕ) (whole : length space ≡ 20480) where
 
     pub lowest_read :
         Reads file fill (mid_of 16384 (length space - 16384) space) after answer → r ≡ sized_by_lowest answer
-        → got r (put_mid 16384 (length space - 16384) space after) ≡ hex_got file asked.Nothing fill space
+        → got r (put_mid 16384 (length space - 16384) space after) ≡ hex_got file None fill space
     unfolding hex_got
     lowest_read reads e =
         rw (
@@ -111,15 +104,3 @@ size_bytes n is = by_tests (eqb n 2048) (eqb n 4096) refl refl
     by_tests false false p q =
         let size : Sized n = sized n is in
         omega (arith, size.whole, size.least, eqb-false n 2048 p)
-
--- a size that is none is as if none were asked for
-pub as_none :
-    (file : List ℕ) (fill : ℕ) (space : List ℕ) (a : Asked)
-    → (a ≡ asked.Small → ⊥)
-    → (a ≡ asked.Large → ⊥)
-    → hex_got file asked.Nothing fill space ≡ hex_got file a fill space
-unfolding hex_got
-as_none file fill space asked.Small no_small no_large = absurd (no_small refl)
-as_none file fill space asked.Large no_small no_large = absurd (no_large refl)
-as_none file fill space asked.Nothing no_small no_large = refl
-as_none file fill space asked.Wrong no_small no_large = refl

@@ -1,9 +1,7 @@
 -- Numbers on the command line.
-use Rattle.std.specs.Prelude.{ℕ, ◌+◌, ◌-◌, ◌*◌, Bool, true, ◌&&◌, cond, List, [], ◌∷◌, eqb, leb, length, get_or}
+use Rattle.std.specs.Prelude.{ℕ, ◌+◌, ◌-◌, ◌*◌, Bool, true, ◌&&◌, List, [], ◌∷◌, eqb, leb, length, get_or, Option, None, Some}
 use Rattle.isa.specs.Refusals.{unless}
 use Rattle.intel_hex.specs.Digits.{digit_of}
-use Rattle.options.specs.declared.numbers.Parsed.{Parsed}
-use Rattle.options.specs.declared.numbers.Parsed.TheVariants as parsed
 
 -- every letter is one of `0` to `9`
 unfoldable pub are_decimal : (text : List ℕ) → Bool
@@ -16,24 +14,23 @@ value_after value [] = value
 value_after value (c ∷ rest) = value_after (value * 10 + (c - 0x30)) rest
 
 -- a value up to 65,535 of decimal digits
-unfoldable pub parsed_after : (value : ℕ) → (digits : List ℕ) → Parsed
+unfoldable pub parsed_after : (value : ℕ) → (digits : List ℕ) → Option ℕ
 parsed_after value digits =
-    unless (are_decimal digits) parsed.Wrong
-    (unless (leb (value_after value digits) 65535) parsed.Wrong
-    (parsed.Number (value_after value digits)))
+    unless (are_decimal digits) None
+    (unless (leb (value_after value digits) 65535) None
+    (Some (value_after value digits)))
 
 -- a decimal number has a digit
-unfoldable pub decimal_named : (text : List ℕ) → Parsed
-decimal_named text = unless (leb 1 (length text)) parsed.Wrong (parsed_after 0 text)
+unfoldable pub decimal_named : (text : List ℕ) → Option ℕ
+decimal_named text = unless (leb 1 (length text)) None (parsed_after 0 text)
 
--- the byte of two hexadecimal digits; a digit's value is 16 where it is none
-abbrev pub byte_of : (high low : ℕ) → Parsed
-byte_of high low =
-    cond (eqb high 16) parsed.Wrong
-    (cond (eqb low 16) parsed.Wrong
-    (parsed.Number (high * 16 + low)))
+-- the byte of two hexadecimal digits
+abbrev pub byte_of : (high low : Option ℕ) → Option ℕ
+byte_of None low = None
+byte_of (Some high) None = None
+byte_of (Some high) (Some low) = Some (high * 16 + low)
 
 -- a byte in two hexadecimal digits
-unfoldable pub byte_named : (text : List ℕ) → Parsed
+unfoldable pub byte_named : (text : List ℕ) → Option ℕ
 byte_named text =
-    unless (eqb (length text) 2) parsed.Wrong (byte_of (digit_of (get_or text 0 0)) (digit_of (get_or text 1 0)))
+    unless (eqb (length text) 2) None (byte_of (digit_of (get_or text 0 0)) (digit_of (get_or text 1 0)))

@@ -1,28 +1,20 @@
 -- Sources by name, as `--wired` and `--request` have them.
-use Rattle.std.specs.Prelude.{ℕ, suc, cond, List, [], ◌∷◌, eqb, ltb, length, take, drop}
+use Rattle.std.specs.Prelude.{ℕ, suc, cond, List, [], ◌∷◌, ◌==◌, eqb, take, drop, codes, Option, None, Some, position}
 use Rattle.std.specs.Int.Bits.{bit_or}
-use Rattle.slices.specs.Bytes.{index_of}
-use Rattle.isa.specs.Refusals.{unless}
 use Rattle.intel_hex.specs.Lines.{before}
-use Rattle.listing.specs.Words.{ascii}
-use Rattle.options.specs.declared.numbers.Parsed.{Parsed}
-use Rattle.options.specs.declared.numbers.Parsed.TheVariants as parsed
-use Rattle.options.specs.declared.wired.Wired.{Wired}
-use Rattle.options.specs.declared.wired.Wired.TheVariants as wired
-use Rattle.options.specs.declared.wired.Request.{Request}
-use Rattle.options.specs.declared.wired.Request.TheVariants as request
 use Rattle.options.specs.Words.{look_up, named, same}
 use Rattle.options.specs.Numbers.{decimal_named}
 
--- the bit of a source in the wired byte: bit 0 for NMI, bits 1 to 4 for sources 1 to 4; 0 for a word that is no source
-unfoldable pub bit_named : (word : List ℕ) → ℕ
+-- the bit of a source in the wired byte: bit 0 for NMI, bits 1 to 4 for sources 1 to 4; none for a word that is no
+-- source
+unfoldable pub bit_named : (word : List ℕ) → Option ℕ
 bit_named =
-    look_up 0
-    (named (ascii "nmi") 1
-    ∷ named (ascii "1") 2
-    ∷ named (ascii "2") 4
-    ∷ named (ascii "3") 8
-    ∷ named (ascii "4") 16
+    look_up
+    (named (codes "nmi") 1
+    ∷ named (codes "1") 2
+    ∷ named (codes "2") 4
+    ∷ named (codes "3") 8
+    ∷ named (codes "4") 16
     ∷ [])
 
 -- the parts of a text, with a letter between them
@@ -30,24 +22,31 @@ unfoldable pub parts_of : (letter : ℕ) → (text : List ℕ) → List (List �
 parts_of letter [] = [] ∷ []
 parts_of letter (c ∷ rest) = cond (eqb c letter) ([] ∷ parts_of letter rest) (before c (parts_of letter rest))
 
+-- a byte with a source's bit, and the bits of the names after it
+abbrev pub with_bit : (byte : ℕ) → (bit : Option ℕ) → (next : ℕ → Option ℕ) → Option ℕ
+with_bit byte None next = None
+with_bit byte (Some bit) next = next (bit_or byte bit)
+
 -- a byte, and the bits of names; every one must be that of a source
-unfoldable pub wired_after : (byte : ℕ) → (names : List (List ℕ)) → Wired
-wired_after byte [] = wired.Byte byte
-wired_after byte (name ∷ names) =
-    cond (eqb (bit_named name) 0) wired.Wrong (wired_after (bit_or byte (bit_named name)) names)
+unfoldable pub wired_after : (byte : ℕ) → (names : List (List ℕ)) → Option ℕ
+wired_after byte [] = Some byte
+wired_after byte (name ∷ names) = with_bit byte (bit_named name) (λ after. wired_after after names)
 
 -- the wired byte of `none`, or of names with commas between them
-unfoldable pub wired_named : (text : List ℕ) → Wired
-wired_named text = cond (same text (ascii "none")) (wired.Byte 0) (wired_after 0 (parts_of 0x2C text))
+unfoldable pub wired_named : (text : List ℕ) → Option ℕ
+wired_named text = cond (same text (codes "none")) (Some 0) (wired_after 0 (parts_of 0x2C text))
 
 -- a step and a source's bit
-abbrev pub request_of : Parsed → (bit : ℕ) → Request
-request_of (parsed.Number step) bit = cond (eqb bit 0) request.Wrong (request.At step bit)
-request_of parsed.Wrong bit = request.Wrong
+abbrev pub request_of : (step bit : Option ℕ) → Option (ℕ × ℕ)
+request_of (Some step) (Some bit) = Some (step, bit)
+request_of (Some step) None = None
+request_of None bit = None
+
+-- .. on both sides of a letter
+abbrev pub request_at : (text : List ℕ) → (middle : Option ℕ) → Option (ℕ × ℕ)
+request_at text None = None
+request_at text (Some middle) = request_of (decimal_named (take middle text)) (bit_named (drop (suc middle) text))
 
 -- a request, as `3=nmi`: the step, from 0, and the source, on both sides of the first `=`
-unfoldable pub request_named : (text : List ℕ) → Request
-request_named text =
-    let middle = index_of 0x3D text in
-    unless (ltb middle (length text)) request.Wrong
-    (request_of (decimal_named (take middle text)) (bit_named (drop (suc middle) text)))
+unfoldable pub request_named : (text : List ℕ) → Option (ℕ × ℕ)
+request_named text = request_at text (position (λ c. c == 0x3D) text)

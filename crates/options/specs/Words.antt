@@ -1,19 +1,16 @@
 -- The words of a command line: commands and options by their names.
-use Rattle.std.specs.Prelude.{ℕ, ◌≡◌, Bool, true, false, cond, ◌&&◌, List, [], ◌∷◌, eqb}
-use Rattle.isa.specs.Refusals.{unless}
-use Rattle.listing.specs.Words.{ascii}
-use Rattle.options.specs.Places as place
+use Rattle.std.specs.Prelude.{ℕ, ◌≡◌, Bool, true, cond, List, [], ◌∷◌, eqb, codes, Option, None, Some}
+use Rattle.std.specs.Str.{bytes_eq}
+use Rattle.options.specs.declared.places.Place.{Place}
+use Rattle.options.specs.declared.places.Place.TheVariants as place
 use Rattle.options.specs.declared.Command.{Command}
 use Rattle.options.specs.declared.Command.TheVariants as command
 use Rattle.options.specs.declared.words.Word.{Word}
 use Rattle.options.specs.declared.words.Word.TheVariants as word
 
 -- two words are the same, letter by letter
-unfoldable pub same : (a b : List ℕ) → Bool
-same [] [] = true
-same [] (y ∷ b) = false
-same (x ∷ a) [] = false
-same (x ∷ a) (y ∷ b) = eqb x y && same a b
+abbrev pub same : (a b : List ℕ) → Bool
+same = bytes_eq
 
 -- words are the same exactly where they are equal
 -- proved by same_is_equal, proofs/WordLaws
@@ -25,56 +22,59 @@ pub record SameIsEqual : Type 0 where
 pub data Named (A : Type 0) : Type 0 where
   named : (name : List ℕ) → A → Named A
 
--- what a word stands for in a table of names, or else nothing
-abbrev pub look_up : {A : Type 0} → (nothing : A) → List (Named A) → (word : List ℕ) → A
-look_up nothing [] w = nothing
-look_up nothing (named name meaning ∷ rest) w = cond (same w name) meaning (look_up nothing rest w)
+-- what a word stands for in a table of names
+abbrev pub look_up : {A : Type 0} → List (Named A) → (word : List ℕ) → Option A
+look_up [] w = None
+look_up (named name meaning ∷ rest) w = cond (same w name) (Some meaning) (look_up rest w)
 
 -- the commands by name; every other word is none
-unfoldable pub command_named : (word : List ℕ) → Command
+unfoldable pub command_named : (word : List ℕ) → Option Command
 command_named =
-    look_up command.Unknown
-    (named (ascii "check") command.Check
-    ∷ named (ascii "certify") command.Certify
-    ∷ named (ascii "list") command.List
-    ∷ named (ascii "trace") command.Trace
-    ∷ named (ascii "size") command.Size
-    ∷ named (ascii "play") command.Play
-    ∷ named (ascii "--help") command.Help
-    ∷ named (ascii "--version") command.Version
+    look_up
+    (named (codes "check") command.Check
+    ∷ named (codes "certify") command.Certify
+    ∷ named (codes "list") command.List
+    ∷ named (codes "trace") command.Trace
+    ∷ named (codes "size") command.Size
+    ∷ named (codes "play") command.Play
+    ∷ named (codes "--help") command.Help
+    ∷ named (codes "--version") command.Version
     ∷ [])
 
--- the options with a value, by their places; 0 for a word that is none
-unfoldable pub valued_named : (word : List ℕ) → ℕ
+-- the options with a value, by their places; none for a word that is none
+unfoldable pub valued_named : (word : List ℕ) → Option Place
 valued_named =
-    look_up 0
-    (named (ascii "--wired") place.wired
-    ∷ named (ascii "--marks") place.marks
-    ∷ named (ascii "-o") place.output
-    ∷ named (ascii "--steps") place.steps
-    ∷ named (ascii "--request") place.request
-    ∷ named (ascii "--count") place.count
-    ∷ named (ascii "--rom") place.rom
-    ∷ named (ascii "--fill") place.fill
+    look_up
+    (named (codes "--wired") place.Wired
+    ∷ named (codes "--marks") place.Marks
+    ∷ named (codes "-o") place.Output
+    ∷ named (codes "--steps") place.Steps
+    ∷ named (codes "--request") place.Request
+    ∷ named (codes "--count") place.Count
+    ∷ named (codes "--rom") place.Rom
+    ∷ named (codes "--fill") place.Fill
     ∷ [])
 
 -- .. and those without
-unfoldable pub flag_named : (word : List ℕ) → ℕ
+unfoldable pub flag_named : (word : List ℕ) → Option Place
 flag_named =
-    look_up 0
-    (named (ascii "--raw") place.raw
-    ∷ named (ascii "--quiet") place.quiet
-    ∷ named (ascii "--help") place.help
+    look_up
+    (named (codes "--raw") place.Raw
+    ∷ named (codes "--quiet") place.Quiet
+    ∷ named (codes "--help") place.Help
     ∷ [])
 
 -- a word that is no option: a file's name, unless it is empty or begins with a hyphen
-abbrev pub other_word : (word : List ℕ) → Word
-other_word [] = word.Unknown
-other_word (letter ∷ rest) = cond (eqb letter 0x2D) word.Unknown word.File
+abbrev pub other_word : (word : List ℕ) → Option Word
+other_word [] = None
+other_word (letter ∷ rest) = cond (eqb letter 0x2D) None (Some word.File)
+
+-- an option's place, with a value or without one, or else another word
+abbrev pub word_by : (valued flag : Option Place) → (other : Option Word) → Option Word
+word_by (Some p) flag other = Some (word.Valued p)
+word_by None (Some p) other = Some (word.Flag p)
+word_by None None other = other
 
 -- what a word after the command's name is
-unfoldable pub word_for : (word : List ℕ) → Word
-word_for w =
-    unless (eqb (valued_named w) 0) (word.Valued (valued_named w))
-    (unless (eqb (flag_named w) 0) (word.Flag (flag_named w))
-    (other_word w))
+unfoldable pub word_for : (word : List ℕ) → Option Word
+word_for w = word_by (valued_named w) (flag_named w) (other_word w)

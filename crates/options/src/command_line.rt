@@ -1,19 +1,16 @@
 // The command line, word by word: which argument gives what, or what is wrong with it.
-ghost use Rattle.std.specs.Prelude.{◌<◌, ◌≡◌, [], ◌∷◌};
-ghost use Rattle.options.specs.CommandLine.{after_word, bad_value_of, common_options, has_option, is_among, lack_of};
-ghost use Rattle.options.specs.CommandLine.{missing_of, more_files, more_needed, noted, noted_file, noted_option};
-ghost use Rattle.options.specs.CommandLine.{step};
+ghost use Rattle.std.specs.Prelude.{◌≡◌, [], ◌∷◌};
+ghost use Rattle.options.specs.declared.places.Place.TheVariants.{Image};
+ghost use Rattle.options.specs.CommandLine.{after_word, bad_value_of, has_option, lack_of, missing_of};
+ghost use Rattle.options.specs.CommandLine.{more_files, more_needed, noted, noted_file, noted_option, step};
 
 use crate::Command;
-use crate::words::{
-    AWAITED, COUNT, FILL, HELP, IMAGE, MARKS, OUTPUT, PLACES, QUIET, RAW, RECORD, REQUEST, ROM,
-    STEPS, WIRED, Word, word_of,
-};
+use crate::places::{Place, Places};
+use crate::words::{Word, word_of};
 
 // What is wrong with a command line: by the number of an argument, or by the place of an option.
-#[derive(Drop)]
+#[derive(Clone, Copy, Debug, PartialEq, Eq)]
 pub enum Usage {
-    Fine,
     NoCommand,
     UnknownCommand,
     // By the argument.
@@ -21,181 +18,154 @@ pub enum Usage {
     TooManyFiles(usize),
     TooLong(usize),
     // By the place.
-    Unfit(usize),
-    Twice(usize),
-    NoValue(usize),
-    Missing(usize),
+    Unfit(Place),
+    Twice(Place),
+    NoValue(Place),
+    Missing(Place),
     // By both.
-    BadValue { place: usize, argument: usize },
-}
-
-// Whether every command that reads an image has an option.
-fn is_common(place: usize) -> bool
-    ensures { result ≡ is_among place common_options }
-{
-    if place == ROM {
-        return true;
-    }
-    if place == FILL {
-        return true;
-    }
-    if place == RAW {
-        return true;
-    }
-    place == QUIET || place == HELP
+    BadValue {
+        place: Place,
+        argument: Option<usize>,
+    },
 }
 
 // Whether a command has an option.
-pub fn takes(command: Command, place: usize) -> bool
+#[tactic(auto, unfolding(crate::specs::CommandLine::has_option))]
+pub fn takes(command: Command, place: Place) -> bool
     ensures { result ≡ has_option command place }
 {
-    if is_common(place) {
-        return true;
-    }
-    match command {
-        Command::Check => place == WIRED || place == MARKS,
-        Command::Certify => place == WIRED || place == OUTPUT,
-        Command::List => place == WIRED || place == MARKS,
-        Command::Trace => place == STEPS || place == REQUEST,
-        Command::Size => place == MARKS || place == COUNT,
-        _ => false,
+    match place {
+        Place::Rom | Place::Fill | Place::Raw | Place::Quiet | Place::Help => true,
+        Place::Wired => matches!(command, Command::Check | Command::Certify | Command::List),
+        Place::Marks => matches!(command, Command::Check | Command::List | Command::Size),
+        Place::Output => matches!(command, Command::Certify),
+        Place::Steps | Place::Request => matches!(command, Command::Trace),
+        Place::Count => matches!(command, Command::Size),
+        Place::Image | Place::Record => false,
     }
 }
 
 // Notes that an argument gives a place. Only requests may be given more than once.
-fn note(places: &mut [usize; PLACES], place: usize, argument: usize) -> Usage
+#[tactic(auto, unfolding(crate::specs::CommandLine::noted))]
+fn note(places: &mut Places, place: Place, argument: usize) -> Result<(), Usage>
     ensures { step result places.new ≡ noted places.old place argument }
 {
-    if PLACES <= place {
-        return Usage::UnknownOption(argument);
+    if place != Place::Request && places.has(place) {
+        return Err(Usage::Twice(place));
     }
-    if place == REQUEST {
-        places[place] = argument;
-        return Usage::Fine;
-    }
-    if places[place] != 0 {
-        return Usage::Twice(place);
-    }
-    places[place] = argument;
-    Usage::Fine
+    places.give(place, argument);
+    Ok(())
 }
 
 // Notes a file's name: the image, then, to play, the record.
-fn note_file(places: &mut [usize; PLACES], command: Command, argument: usize) -> Usage
-    ensures { step result places.new ≡ noted_file places.old (1 ∷ more_files command) argument }
+fn note_file(places: &mut Places, command: Command, argument: usize) -> Result<(), Usage>
+    ensures { step result places.new ≡ noted_file places.old (Image ∷ more_files command) argument }
 {
-    if places[IMAGE] == 0 {
-        places[IMAGE] = argument;
-        return Usage::Fine;
-    }
-    if let Command::Play = command {
-        if places[RECORD] == 0 {
-            places[RECORD] = argument;
-            return Usage::Fine;
-        }
-    }
-    Usage::TooManyFiles(argument)
+    let file = if !places.has(Place::Image) {
+        Place::Image
+    } else if command == Command::Play && !places.has(Place::Record) {
+        Place::Record
+    } else {
+        return Err(Usage::TooManyFiles(argument));
+    };
+    places.give(file, argument);
+    Ok(())
 }
 
 // Notes an option, of which the command must know; one with a value awaits it.
+#[tactic(auto, unfolding(crate::specs::CommandLine::noted_option))]
 fn note_option(
-    places: &mut [usize; PLACES],
+    places: &mut Places,
     command: Command,
-    place: usize,
+    place: Place,
     argument: usize,
     has_value: bool,
-) -> Usage
+) -> Result<(), Usage>
     ensures { step result places.new
         ≡ noted_option places.old command place argument has_value }
 {
     if !takes(command, place) {
-        return Usage::Unfit(place);
+        return Err(Usage::Unfit(place));
     }
     if has_value {
-        places[AWAITED] = place;
-        return Usage::Fine;
+        places.awaited = Some(place);
+        return Ok(());
     }
     note(places, place, argument)
 }
 
 // Takes the next word of the command line.
+#[tactic(auto, unfolding(crate::specs::CommandLine::after_word))]
 pub fn take_word(
-    places: &mut [usize; PLACES],
+    places: &mut Places,
     command: Command,
     word: &[u8],
     argument: usize,
-) -> Usage
+) -> Result<(), Usage>
     ensures { step result places.new
         ≡ after_word places.old command word.now argument }
 {
-    let awaited = places[AWAITED];
-    if awaited != 0 {
-        places[AWAITED] = 0;
+    if let Some(awaited) = places.awaited {
+        places.awaited = None;
         return note(places, awaited, argument);
     }
     match word_of(word) {
-        Word::Flag(place) => note_option(places, command, place, argument, false),
-        Word::Valued(place) => note_option(places, command, place, argument, true),
-        Word::Unknown => Usage::UnknownOption(argument),
-        Word::File => note_file(places, command, argument),
+        Some(Word::Flag(place)) => note_option(places, command, place, argument, false),
+        Some(Word::Valued(place)) => note_option(places, command, place, argument, true),
+        Some(Word::File) => note_file(places, command, argument),
+        None => Err(Usage::UnknownOption(argument)),
     }
 }
 
 // Whether a place that is needed is not given.
-fn missing(places: &[usize; PLACES], place: usize) -> Usage
-    requires { place < 16 }
+fn missing(places: &Places, place: Place) -> Result<(), Usage>
     ensures { result ≡ missing_of places.now (place ∷ []) }
 {
-    if places[place] == 0 {
-        return Usage::Missing(place);
+    if places.has(place) {
+        Ok(())
+    } else {
+        Err(Usage::Missing(place))
     }
-    Usage::Fine
 }
 
 // What a command line lacks of what its command needs. The sources that are wired are never assumed.
-fn needs(places: &[usize; PLACES], command: Command) -> Usage
-    ensures { result ≡ missing_of places.now (1 ∷ more_needed command) }
+fn needs(places: &Places, command: Command) -> Result<(), Usage>
+    ensures { result ≡ missing_of places.now (Image ∷ more_needed command) }
 {
-    if places[IMAGE] == 0 {
-        return Usage::Missing(IMAGE);
-    }
+    missing(places, Place::Image)?;
     match command {
-        Command::Check => missing(places, WIRED),
+        Command::Check => missing(places, Place::Wired),
         Command::Certify => {
-            if places[WIRED] == 0 {
-                return Usage::Missing(WIRED);
-            }
-            missing(places, OUTPUT)
+            missing(places, Place::Wired)?;
+            missing(places, Place::Output)
         }
-        Command::Trace => missing(places, STEPS),
-        Command::Size => missing(places, COUNT),
-        Command::Play => missing(places, RECORD),
-        _ => Usage::Fine,
+        Command::Trace => missing(places, Place::Steps),
+        Command::Size => missing(places, Place::Count),
+        Command::Play => missing(places, Place::Record),
+        Command::List | Command::Help | Command::Version => Ok(()),
     }
 }
 
 // What the whole command line lacks, once all words are taken.
-pub fn lacks(places: &[usize; PLACES], command: Command) -> Usage
+#[tactic(auto, unfolding(crate::specs::CommandLine::lack_of))]
+pub fn lacks(places: &Places, command: Command) -> Result<(), Usage>
     ensures { result ≡ lack_of places.now command }
 {
-    if places[HELP] != 0 {
-        return Usage::Fine;
+    if places.has(Place::Help) {
+        return Ok(());
     }
-    if places[AWAITED] != 0 {
-        return Usage::NoValue(places[AWAITED]);
+    if let Some(awaited) = places.awaited {
+        return Err(Usage::NoValue(awaited));
     }
     needs(places, command)
 }
 
 // That the value of an option is none that it can have.
-pub fn bad_value(places: &[usize; PLACES], place: usize) -> Usage
+pub fn bad_value(places: &Places, place: Place) -> Usage
     ensures { result ≡ bad_value_of places.now place }
 {
-    if PLACES <= place {
-        return Usage::UnknownOption(place);
-    }
     Usage::BadValue {
         place,
-        argument: places[place],
+        argument: places.argument(place),
     }
 }

@@ -1,11 +1,11 @@
 // The image that a file holds: Intel HEX, which begins with a colon, or raw bytes.
 ghost use Rattle.std.specs.Prelude.{◌≡◌, true, length};
 ghost use Rattle.isa.specs.Rom.{is_image};
-ghost use Rattle.options.specs.Image.{bytes_of, got, hex_got, image_got, is_hex, may_be, raw_got, size_of};
-ghost use Rattle.options.specs.Image.{sized_by, sized_by_lowest, size_named};
+ghost use Rattle.options.specs.Image.{bytes_of, error_of, got, hex_got, image_got, is_hex, may_be, raw_got, size_of};
+ghost use Rattle.options.specs.Image.{sized_for, size_named};
 
-use crate::words::is;
-use intel_hex::{Fault, HexAnswer};
+use intel_hex::read::read;
+use intel_hex::{HexError, LineFault};
 use isa::rom::{HALF_SPACE, PROGRAM_SPACE, is_image_length, spaces_in};
 
 // The bytes of the longest image: nine pages and the fixed half.
@@ -17,35 +17,39 @@ const SMALL: usize = 18432;
 const LARGE: usize = 16384;
 
 // The sizes: 2K, from 800h to FFFh; 4K; and paged, with how many pages there are to choose from, two or more.
-#[derive(Clone, Copy)]
+#[derive(Clone, Copy, Debug, PartialEq, Eq)]
 pub enum Rom {
     Small,
     Large,
     Paged(u8),
 }
 
-// What `--rom` says.
-#[derive(Drop)]
+// What `--rom` asks for.
+#[derive(Clone, Copy, Debug, PartialEq, Eq)]
 pub enum Asked {
     Small,
     Large,
-    Nothing,
-    Wrong,
 }
 
 // By what the size was chosen: the option, the raw file's own size, or the lowest address that the HEX file names.
-#[derive(Clone, Copy)]
+#[derive(Clone, Copy, Debug, PartialEq, Eq)]
 pub enum ChosenBy {
     Option,
     Size,
     Lowest(u16),
 }
 
-// What came of a file. An image stands in the last bytes of its space.
-#[derive(Clone, Copy)]
-pub enum ImageRead {
-    Whole { rom: Rom, by: ChosenBy },
-    Fault { line: usize, fault: Fault },
+// The image that a file holds. It stands in the last bytes of its space.
+#[derive(Clone, Copy, Debug, PartialEq, Eq)]
+pub struct ImageFound {
+    pub rom: Rom,
+    pub by: ChosenBy,
+}
+
+// Why a file holds none.
+#[derive(Clone, Copy, Debug, PartialEq, Eq)]
+pub enum ImageError {
+    Fault(LineFault),
     // A raw file has not 1 to 10 halves of 2048 bytes.
     NoSize,
     // A raw file's size is not that which was asked for.
@@ -54,110 +58,96 @@ pub enum ImageRead {
     Unnamed,
 }
 
+impl From<HexError> for ImageError {
+    ghost from_gives = { λ hex e. e ≡ error_of hex };
+
+    fn from(error: HexError) -> ImageError {
+        match error {
+            HexError::Line(fault) => ImageError::Fault(fault),
+            HexError::ImageLength => ImageError::NoSize,
+        }
+    }
+}
+
 // Whether a file is Intel HEX.
+#[tactic(auto, unfolding(crate::specs::Image::is_hex))]
 pub fn is_hex(file: &[u8], raw: bool) -> bool
     ensures { result ≡ is_hex file.now raw }
 {
-    if raw {
-        return false;
-    }
-    if file.len() == 0 {
-        return false;
-    }
-    file[0] == b':'
+    !raw && matches!(file, [b':', ..])
 }
 
-// A HEX file's image, of a size that was asked for.
-fn sized(answer: HexAnswer, rom: Rom) -> ImageRead
-    ensures { result ≡ sized_by rom answer }
+// The image of a HEX file, of the size for the lowest address that it names: 2K from 800h on, else 4K.
+#[tactic(auto, unfolding(crate::specs::Image::sized_for))]
+fn by_lowest(lowest: u16) -> Result<ImageFound, ImageError>
+    ensures { result ≡ sized_for lowest }
 {
-    match answer {
-        HexAnswer::Read { lowest: _ } => ImageRead::Whole {
-            rom,
-            by: ChosenBy::Option,
-        },
-        HexAnswer::Refused { line, fault } => ImageRead::Fault { line, fault },
-        HexAnswer::ImageLength => ImageRead::NoSize,
+    if PROGRAM_SPACE <= usize::from(lowest) {
+        return Err(ImageError::Unnamed);
     }
-}
-
-// A HEX file's image, of the size for the lowest address that it names: 2K from 800h on, else 4K.
-fn by_lowest(answer: HexAnswer) -> ImageRead
-    ensures { result ≡ sized_by_lowest answer }
-{
-    match answer {
-        HexAnswer::Read { lowest } => {
-            let by = ChosenBy::Lowest(lowest);
-            if PROGRAM_SPACE <= lowest as usize {
-                return ImageRead::Unnamed;
-            }
-            if HALF_SPACE <= lowest as usize {
-                return ImageRead::Whole {
-                    rom: Rom::Small,
-                    by,
-                };
-            }
-            ImageRead::Whole {
-                rom: Rom::Large,
-                by,
-            }
-        }
-        HexAnswer::Refused { line, fault } => ImageRead::Fault { line, fault },
-        HexAnswer::ImageLength => ImageRead::NoSize,
-    }
+    let rom = if HALF_SPACE <= usize::from(lowest) {
+        Rom::Small
+    } else {
+        Rom::Large
+    };
+    Ok(ImageFound {
+        rom,
+        by: ChosenBy::Lowest(lowest),
+    })
 }
 
 // A HEX file, read into the last bytes of the space, as many as the size has that is asked for.
-fn hex_image(file: &[u8], asked: Asked, fill: u8, space: &mut [u8]) -> ImageRead
+fn hex_image(
+    file: &[u8],
+    asked: Option<Asked>,
+    fill: u8,
+    space: &mut [u8],
+) -> Result<ImageFound, ImageError>
     requires { length space.old ≡ 20480 }
     ensures { got result space.new
         ≡ hex_got file.now asked fill space.old }
 {
     match asked {
-        Asked::Small => sized(
-            intel_hex::read::read(file, fill, &mut space[SMALL..]),
-            Rom::Small,
-        ),
-        Asked::Large => sized(
-            intel_hex::read::read(file, fill, &mut space[LARGE..]),
-            Rom::Large,
-        ),
-        _ => by_lowest(intel_hex::read::read(file, fill, &mut space[LARGE..])),
+        Some(Asked::Small) => {
+            read(file, fill, &mut space[SMALL..])?;
+            Ok(ImageFound {
+                rom: Rom::Small,
+                by: ChosenBy::Option,
+            })
+        }
+        Some(Asked::Large) => {
+            read(file, fill, &mut space[LARGE..])?;
+            Ok(ImageFound {
+                rom: Rom::Large,
+                by: ChosenBy::Option,
+            })
+        }
+        None => by_lowest(read(file, fill, &mut space[LARGE..])?),
     }
 }
 
 // Whether a size may be that which is asked for. No word asks for pages.
-fn may_be(asked: Asked, rom: Rom) -> bool
+fn may_be(asked: Option<Asked>, rom: Rom) -> bool
     ensures { result ≡ may_be asked rom }
 {
     match asked {
-        Asked::Small => match rom {
-            Rom::Small => true,
-            Rom::Large => false,
-            Rom::Paged(_) => false,
-        },
-        Asked::Large => match rom {
-            Rom::Small => false,
-            Rom::Large => true,
-            Rom::Paged(_) => false,
-        },
-        Asked::Nothing => true,
-        Asked::Wrong => true,
+        Some(Asked::Small) => rom == Rom::Small,
+        Some(Asked::Large) => rom == Rom::Large,
+        None => true,
     }
 }
 
 // The size of an image of so many bytes.
+#[tactic(auto, unfolding(crate::specs::Image::size_of))]
 fn size_of(length: usize) -> Rom
     requires { is_image length ≡ true }
     ensures { result ≡ size_of length }
 {
-    if length == HALF_SPACE {
-        return Rom::Small;
+    match length {
+        HALF_SPACE => Rom::Small,
+        PROGRAM_SPACE => Rom::Large,
+        _ => Rom::Paged(spaces_in(length)),
     }
-    if length == PROGRAM_SPACE {
-        return Rom::Large;
-    }
-    Rom::Paged(spaces_in(length))
 }
 
 // How many bytes an image has.
@@ -167,54 +157,62 @@ pub fn bytes_of(rom: Rom) -> usize
     match rom {
         Rom::Small => HALF_SPACE,
         Rom::Large => PROGRAM_SPACE,
-        Rom::Paged(pages) => (pages as usize + 1) * HALF_SPACE,
+        Rom::Paged(pages) => (usize::from(pages) + 1) * HALF_SPACE,
     }
 }
 
 // A raw file, in the last bytes of the space.
-fn raw_image(file: &[u8], asked: Asked, space: &mut [u8]) -> ImageRead
+#[tactic(auto, unfolding(crate::specs::Image::raw_got))]
+fn raw_image(file: &[u8], asked: Option<Asked>, space: &mut [u8]) -> Result<ImageFound, ImageError>
     requires { length space.old ≡ 20480 }
     ensures { got result space.new
         ≡ raw_got file.now asked space.old }
 {
     let length = file.len();
     if !is_image_length(length) {
-        return ImageRead::NoSize;
+        return Err(ImageError::NoSize);
     }
     let rom = size_of(length);
     if !may_be(asked, rom) {
-        return ImageRead::OtherSize;
+        return Err(ImageError::OtherSize);
     }
-    slices::copy(file, &mut space[SPACE - length..]);
-    ImageRead::Whole {
+    space[SPACE - length..].copy_from_slice(file);
+    Ok(ImageFound {
         rom,
         by: ChosenBy::Size,
-    }
+    })
 }
 
-// The image of a file's bytes.
-pub fn image_of(file: &[u8], asked: Asked, fill: u8, raw: bool, space: &mut [u8]) -> ImageRead
+// The image of a file's bytes; where no size is asked for, of that for the lowest address.
+#[tactic(auto, unfolding(crate::specs::Image::image_got))]
+pub fn image_of(
+    file: &[u8],
+    asked: Option<Asked>,
+    fill: u8,
+    raw: bool,
+    space: &mut [u8],
+) -> Result<ImageFound, ImageError>
     ensures { got result space.new
         ≡ image_got file.now asked fill raw space.old }
 {
     if space.len() != SPACE {
-        return ImageRead::NoSize;
+        return Err(ImageError::NoSize);
     }
     if is_hex(file, raw) {
-        return hex_image(file, asked, fill, space);
+        hex_image(file, asked, fill, space)
+    } else {
+        raw_image(file, asked, space)
     }
-    raw_image(file, asked, space)
 }
 
-// What `--rom` asks for.
-pub fn asked_of(word: &[u8]) -> Asked
+// What `--rom` asks for by a word.
+#[tactic(auto, unfolding(crate::specs::Image::size_named))]
+pub fn asked_of(word: &[u8]) -> Option<Asked>
     ensures { result ≡ size_named word.now }
 {
-    if is(word, b"2K") {
-        return Asked::Small;
+    match word {
+        b"2K" => Some(Asked::Small),
+        b"4K" => Some(Asked::Large),
+        _ => None,
     }
-    if is(word, b"4K") {
-        return Asked::Large;
-    }
-    Asked::Wrong
 }

@@ -5,11 +5,12 @@
 pub mod command_line;
 pub mod image;
 pub mod numbers;
+pub mod places;
 pub mod wired;
 pub mod words;
 
 // What the user asked for.
-#[derive(Clone, Copy)]
+#[derive(Clone, Copy, Debug, PartialEq, Eq)]
 pub enum Command {
     Check,
     Certify,
@@ -19,5 +20,4 @@ pub enum Command {
     Play,
     Help,
     Version,
-    Unknown,
 }

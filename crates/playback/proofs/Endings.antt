@@ -142,7 +142,7 @@ ends_by_entry image all recording entries reads p plays = by_size (is_image (len
         (i : Bool) → is_image (length image) ≡ i →
         unless i (refused (plain 1)) (played_by image (entries_in recording)) ≡ done p →
         EndsOrStops p.machine entries p.entries p.ending
-    by_size false size plays = let z : ◌≡◌ {A = ℕ} 0 1 = cc in absurd (omega arith)
+    by_size false size plays = cc
     by_size true size plays =
         let whole = sym (ap (played_by image) reads) ∙ plays in
         let same : play_from image 0 0 fresh_of entries ≡ p = cc in

@@ -5,16 +5,12 @@ use mathlib.Core.Path.{◌≡◌, refl, ◌∙◌}
 use mathlib.Core.Bool.{Bool, true, false, cond}
 use mathlib.Core.List.{List}
 use lib.Dec.{leb, eqb}
-use lib.ListN.{length, take, drop, get_or}
+use lib.ListN.{length, drop, get_or}
 use borrow.Author.Tests.{eqb-true, eqb-false, leb-true, leb-false, eq-eqb, ne_eqb, le-leb, lt-leb}
-use Rattle.isa.specs.Refusals.{Numbered, plain, numbered, Answer, done, refused, unless}
-use Rattle.isa.specs.declared.Refusal.{Refusal}
-use Rattle.playback.specs.declared.header.Body.{Body}
-use Rattle.playback.specs.declared.header.Body.TheVariants.{From, Refused}
-use Rattle.playback.specs.Record.{count_of, body_of, long_count_of, long_body_of, body_in, BodyFound}
+use Rattle.isa.specs.Refusals.{Numbered, plain, Answer, done, refused, unless}
+use Rattle.playback.specs.Record.{count_of, body_of, long_count_of, long_body_of, body_in}
 use Rattle.playback.specs.Refusals.{BodyAt, HeaderRefused}
 use Rattle.playback.specs.Refusals as why
-use Rattle.playback.proofs.Reading.{to_end}
 
 module _ (recording : List ℕ) where
   -- the first byte tells the version
@@ -175,29 +171,3 @@ module _ (recording : List ℕ) where
         le-leb 65536 (long_count_of recording) (omega (arith, many)),
         lt-leb (long_count_of recording) 1048576 many,
       )
-
--- where the body begins, as a slice
-pub record BodyStarts (recording : List ℕ) (start : ℕ) : Type 0 where
-  pub fits : start ≤ length recording
-  pub short : length recording ≤ 0xFFFFFF
-  pub is : body_in recording ≡ done (drop start recording)
-  -- the part of the slice from there on
-  pub part : take (length recording - start) (drop start recording) ≡ drop start recording
-
-pub starts_at :
-    (recording : List ℕ) (r : Body) (start : ℕ) → BodyFound recording r → r ≡ From start → BodyStarts recording start
-unfolding BodyFound
-starts_at recording r start found same =
-    let f = rw same at found in
-    record {
-      fits = f.0;
-      short = f.1;
-      is = f.2;
-      part = to_end recording start f.0;
-    }
-
-pub starts_nowhere :
-    (recording : List ℕ) (r : Body) (reason : Refusal) → BodyFound recording r → r ≡ Refused reason →
-    body_in recording ≡ refused (numbered reason)
-unfolding BodyFound
-starts_nowhere recording r reason found same = rw same at found

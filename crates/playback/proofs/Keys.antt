@@ -1,6 +1,7 @@
 -- Playing is pressing keys: `KeysPlayed`.
 use Prim.Native.Nat.{ℕ, suc, ◌+◌}
 use native.Mathlib.Omega.{arith}
+use native.Mathlib.Nat.{add-zero}
 use mathlib.Core.Path.{◌≡◌, refl, sym, ap, ◌∙◌}
 use mathlib.Core.Bool.{Bool, true, false, not, ◌&&◌}
 use mathlib.Core.List.{List, [], ◌∷◌}
@@ -23,9 +24,6 @@ use Rattle.playback.specs.Play.{Playing, playing_as, play_from}
 use Rattle.playback.specs.Keys.{step_left, Presses, KeysPlayed}
 use Rattle.playback.specs.Keys as press
 use Rattle.playback.proofs.Playing.{Next, goes_on_lem, ends_by}
-
-no_cycles : (cycles : ℕ) → cycles + 0 ≡ cycles
-no_cycles cycles = omega arith
 
 -- a step that is refused or stops leaves the machine as it was
 pub step_keeps :
@@ -54,8 +52,8 @@ store_only m address value reason is =
     by_tests true w true f true g is =
         let same : plain 10 ≡ reason = cc in
         rw (← same) (why.window_address w (leb-true 0x40 address f) (ltb-true address 0x80 g))
-    by_tests true w false f high g is = let z : ◌≡◌ {A = ℕ} 0 1 = cc in absurd (omega arith)
-    by_tests true w true f false g is = let z : ◌≡◌ {A = ℕ} 0 1 = cc in absurd (omega arith)
+    by_tests true w false f high g is = cc
+    by_tests true w true f false g is = cc
 
 -- a host store that is refused leaves the machine as it was
 pub store_keeps :
@@ -69,7 +67,7 @@ module _ (image : List ℕ) where
       (rest : List Entry) (n cycles : ℕ) (held : Machine) →
       play_from image (n + 1) cycles held rest ≡ play_from image (n + 1) (cycles + 0) held rest
   none_spent rest n cycles held =
-      ap (λ (c : ℕ). play_from image (n + 1) c held rest) (sym (no_cycles cycles))
+      ap (λ (c : ℕ). play_from image (n + 1) c held rest) (sym (add-zero cycles))
 
   -- the rest is pressed on any machine
   abbrev Rest : (rest : List Entry) → Type 0
@@ -93,7 +91,7 @@ module _ (image : List ℕ) where
       (Next image n cycles m (Store address value) rest (without_cycles a))
   unfolding leaves
   by_store n cycles m address value rest more (done tt) is =
-      rw (no_cycles cycles)
+      rw (add-zero cycles)
       (press.store_done n cycles address value m (host_store_of m address value).machine rest _
       (ap (host_stored (host_store_of m address value).machine) (sym is)) (more (n + 1) cycles _))
   by_store n cycles m address value rest more (refused why) is =
@@ -107,7 +105,7 @@ module _ (image : List ℕ) where
   pressed (Store address value ∷ rest) n cycles m =
       by_store n cycles m address value rest (pressed rest) (host_store_of m address value).ending refl
   pressed (Reset ∷ rest) n cycles m =
-      rw (no_cycles cycles)
+      rw (add-zero cycles)
       (press.reset_done n cycles m (reset_of m) rest _ refl (pressed rest (n + 1) cycles (reset_of m)))
 
   only :

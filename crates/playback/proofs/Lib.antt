@@ -9,10 +9,10 @@ pub mod Endings
 pub mod Safety
 pub mod Cases
 pub mod Presses
-pub mod Turns
-pub mod Counted
 pub mod Cycles
+pub mod Gathering
 pub mod Rows
+pub mod Held
 pub mod OnePage
 pub mod NoTrace
 pub mod UnderWindow

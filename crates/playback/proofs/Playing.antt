@@ -1,8 +1,8 @@
 -- Laws of playing: one entry more, an entry that ends it, and the end of the entries.
 use Prim.Native.Nat.{ℕ, ◌+◌}
 use mathlib.Core.Path.{◌≡◌, refl, sym, ap, ◌∙◌}
-use mathlib.Core.Bool.{true, false, false≢true}
-use mathlib.Core.List.{List, [], ◌∷◌}
+use mathlib.Core.Bool.{true, false≢true}
+use mathlib.Core.List.{List, ◌∷◌}
 use Rattle.isa.specs.Refusals.{Numbered, Answer, done, refused}
 use Rattle.machine.specs.declared.Machine.{Machine}
 use Rattle.machine.specs.Step as stepping
@@ -10,7 +10,7 @@ use Rattle.bench.specs.Calls.{leaves}
 use Rattle.playback.specs.declared.Entry.{Entry}
 use Rattle.playback.specs.Entries.{then_read, is_read}
 use Rattle.playback.specs.Play.{call_of, entry_answer, Playing, playing_as, unless_ended, play_from, press_of}
-use Rattle.playback.specs.Turn.{played_from}
+use Rattle.playback.specs.Row.{played_from}
 
 -- the playing of an entry and the rest, by the entry's answer
 abbrev pub Next : (image : List ℕ) → (n cycles : ℕ) → Machine → Entry → List Entry → Answer ℕ → Playing

@@ -1,6 +1,5 @@
--- A key that was pressed, as the press of an entry: by `Turn`'s premises on each key.
+-- A key that was pressed, as the press of an entry: by what each key promises.
 use Prim.Native.Nat.{ℕ}
-use native.Mathlib.Omega.{arith}
 use mathlib.Core.Path.{◌≡◌, refl, sym, ap, ◌∙◌}
 use mathlib.Core.List.{List}
 use Rattle.isa.specs.Refusals.{Numbered, Answer, Ended, done, refused}
@@ -45,9 +44,9 @@ module _ (image : List ℕ) (m m' : Machine) where
       by_ending :
           (a : Ended) → (host_store_of m address value).ending ≡ a → without_cycles a ≡ refused why →
           (host_store_of m address value).machine ≡ m
-      by_ending (done tt) is refuses = let z : ◌≡◌ {A = ℕ} 0 1 = cc in absurd (omega arith)
+      by_ending (done tt) is refuses = cc
       by_ending (refused other) is refuses =
           sym (ap (λ (s : HostStore). s.machine) (store_keeps m address value other is))
   press_keeps Reset why left =
       let is = ap (λ (s : stepping.Step). s.answer) (sym left) in
-      let z : ◌≡◌ {A = ℕ} 0 1 = cc in absurd (omega arith)
+      cc

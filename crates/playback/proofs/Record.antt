@@ -1,5 +1,5 @@
 -- Records are read back: a body by its entries, and a record by its body.
-use Prim.Native.Nat.{ℕ, ◌+◌, ◌/◌, ◌%◌, ◌≤◌}
+use Prim.Native.Nat.{ℕ, ◌/◌, ◌%◌, ◌≤◌}
 use native.Mathlib.Omega.{arith}
 use mathlib.Core.Path.{◌≡◌, refl, sym, ap, ◌∙◌}
 use mathlib.Core.Bool.{Bool, true, false}
@@ -24,7 +24,7 @@ pub written_nowhere :
     (body : List ℕ) (n : Numbered) → entries_of body ≡ refused n → (entries : List Entry) → body_bytes entries ≡ body → ⊥
 written_nowhere body n is entries writes =
     let reads = sym (ap entries_of writes) ∙ read_written entries in
-    let z : ◌≡◌ {A = ℕ} 0 1 = cc in omega arith
+    cc
 
 -- .. and one that is the writing of none is refused
 pub nowhere_read :
@@ -98,7 +98,7 @@ pub read_from : (recording : List ℕ) (entries : List Entry) → entries_in rec
 read_from recording entries reads = go (body_in recording) (headed recording) reads
   where
     go : (a : Answer (List ℕ)) → Headed recording a → read_body a ≡ done entries → ReadFrom recording entries
-    go _ (header.refusing n why) reads = let z : ◌≡◌ {A = ℕ} 0 1 = cc in absurd (omega arith)
+    go _ (header.refusing n why) reads = cc
     go _ (header.starting start after) reads =
         record { start = start; after = after; writes = written_read (drop start recording) entries reads }
 

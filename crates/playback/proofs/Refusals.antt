@@ -1,6 +1,5 @@
 -- When a record is not played: the image, the header, the entries.
 use Prim.Native.Nat.{ℕ}
-use native.Mathlib.Omega.{arith}
 use mathlib.Core.Path.{◌≡◌, refl}
 use mathlib.Core.Bool.{Bool, true, false}
 use mathlib.Core.List.{List}
@@ -60,7 +59,7 @@ module _ (image recording : List ℕ) where
 
   only_by : (a : Answer Playing) → Outcome a → (n : Numbered) → a ≡ refused n → PlayRefused image recording n
   only_by _ (refusing k says) n is = let same : k ≡ n = cc in rw same at says
-  only_by _ (playing start after entries writes) n is = let z : ◌≡◌ {A = ℕ} 0 1 = cc in absurd (omega arith)
+  only_by _ (playing start after entries writes) n is = cc
 
   else_by :
       (a : Answer Playing) → Outcome a → play_of image recording ≡ a → ((n : Numbered) →
@@ -83,8 +82,8 @@ has_entries image recording p plays = go (is_image (length image)) (entries_in r
         (i : Bool) (a : Answer (List Entry)) → entries_in recording ≡ a →
         unless i (refused (plain 1)) (played_by image a) ≡ done p → HasEntries recording
     go true (done entries) reads plays = record { entries = entries; reads = reads }
-    go true (refused n) reads plays = let z : ◌≡◌ {A = ℕ} 0 1 = cc in absurd (omega arith)
-    go false a reads plays = let z : ◌≡◌ {A = ℕ} 0 1 = cc in absurd (omega arith)
+    go true (refused n) reads plays = cc
+    go false a reads plays = cc
 
 pub play_refusals : PlayRefusals
 play_refusals = record {

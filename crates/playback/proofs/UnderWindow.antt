@@ -96,8 +96,8 @@ module _ (image : List ℕ) where
   by_reading true (done entries) p e a under =
       let is : play_from image 0 0 fresh_of entries ≡ p = cc in
       rw (← is) (sym (kept entries 0 0 fresh_of a under) ∙ fresh a under)
-  by_reading true (refused why) p e a under = let z : ◌≡◌ {A = ℕ} 0 1 = cc in absurd (omega arith)
-  by_reading false read p e a under = let z : ◌≡◌ {A = ℕ} 0 1 = cc in absurd (omega arith)
+  by_reading true (refused why) p e a under = cc
+  by_reading false read p e a under = cc
 
 pub played_alike : PlayedAlike
 unfolding play_of

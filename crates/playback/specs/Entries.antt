@@ -1,11 +1,9 @@
 -- The entries of a record's body, their bytes, and the reading of them (document 02, W-206). The claim is
 -- `RecordsReadBack`, in Record.
-use Rattle.std.specs.Prelude.{ℕ, zero, suc, ◌≤◌, ◌<◌, ◌≡◌, Bool, true, false, List, [], ◌∷◌, ◌++◌, length, drop}
+use Rattle.std.specs.Prelude.{ℕ, zero, suc, ◌≤◌, ◌<◌, ◌≡◌, Bool, true, false, List, [], ◌∷◌, ◌++◌, length, drop, Option, Some, None}
 use Rattle.isa.specs.Refusals.{plain, Answer, done, refused}
 use Rattle.playback.specs.declared.Entry.{Entry}
 use Rattle.playback.specs.declared.Entry.TheVariants.{Step, Store, Reset}
-use Rattle.playback.specs.declared.entries.Leading.{Leading}
-use Rattle.playback.specs.declared.entries.Leading.TheVariants as leading
 
 -- "0 and a request byte is a step, 1 with address and value is a host store, 2 is a reset"
 abbrev pub entry_bytes : Entry → List ℕ
@@ -49,8 +47,14 @@ is_read (refused r) = false
 unfoldable pub is_body : (body : List ℕ) → Bool
 is_body body = is_read (entries_of body)
 
--- a body begins with an entry of so many bytes, and the rest of it is read after that; or it begins with none
-unfoldable pub Leads : (body : List ℕ) → Leading → Type 0
-Leads body (leading.Entry e size) =
-    (0 < size) × (size ≤ length body) × (entries_of body ≡ then_read e (entries_of (drop size body)))
-Leads body leading.Nothing = entries_of body ≡ no_entry
+-- a body begins with an entry, which has so many bytes, and the rest of it is read after that
+pub record First (body : List ℕ) (e : Entry) (size : ℕ) : Type 0 where
+  pub is : size ≡ length (entry_bytes e)
+  pub some : 0 < size
+  pub fits : size ≤ length body
+  pub reads : entries_of body ≡ then_read e (entries_of (drop size body))
+
+-- a body begins with an entry; or it is empty or begins with none
+abbrev pub Leads : (body : List ℕ) → Option (Entry × ℕ) → Type 0
+Leads body (Some (e, size)) = First body e size
+Leads body None = 0 < length body → entries_of body ≡ no_entry

@@ -11,4 +11,4 @@ pub mod OnePage
 pub mod NoTrace
 pub mod UnderWindow
 -- for the contracts of functions inside; no claim uses them
-pub mod Turn
+pub mod Row

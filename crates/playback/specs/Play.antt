@@ -1,9 +1,10 @@
 -- Playing a record (document 02, W-206): its entries are calls as demand 3 counts them.
-use Rattle.std.specs.Prelude.{ℕ, ◌+◌, List, [], ◌∷◌, length}
-use Rattle.isa.specs.Refusals.{plain, numbered, Answer, Ended, done, refused, unless}
+use Rattle.std.specs.Prelude.{ℕ, ◌+◌, List, [], ◌∷◌, length, Result, Ok, Err}
+use Rattle.isa.specs.Refusals.{plain, numbered, Answer, Ended, done, refused, answered, unless}
+use Rattle.isa.specs.declared.Refusal.{Refusal}
 use Rattle.isa.specs.Rom.{is_image}
 use Rattle.machine.specs.declared.Machine.{Machine}
-use Rattle.machine.specs.State.{fresh_of, ended_of, host_store_of}
+use Rattle.machine.specs.State.{fresh_of, host_store_of}
 use Rattle.machine.specs.Step.{step_of}
 use Rattle.machine.specs.Step as stepping
 use Rattle.bench.specs.Calls.{Call, leaves}
@@ -11,8 +12,6 @@ use Rattle.bench.specs.Calls as call
 use Rattle.playback.specs.declared.Entry.{Entry}
 use Rattle.playback.specs.declared.Entry.TheVariants.{Step, Store, Reset}
 use Rattle.playback.specs.declared.Played.{Played}
-use Rattle.playback.specs.declared.PlayAnswer.{PlayAnswer}
-use Rattle.playback.specs.declared.PlayAnswer.TheVariants as answer
 use Rattle.playback.specs.Record.{entries_in}
 
 -- an entry as a call
@@ -73,14 +72,13 @@ play_read image read = unless (is_image (length image)) (refused (plain 1)) (pla
 unfoldable pub play_of : (image recording : List ℕ) → Answer Playing
 play_of image recording = play_read image (entries_in recording)
 
--- the program's answer by the papers' numbers
-abbrev pub play_answer_of : Machine → PlayAnswer → Answer Playing
-play_answer_of m (answer.Ended report) =
-    done (playing_as m report.entries report.cycles (ended_of report.ending))
-play_answer_of m (answer.Refused r) = refused (numbered r)
+-- the program's playing and its answer, by the papers' numbers
+abbrev pub playing_of : Played → Playing
+playing_of p = playing_as p.machine p.entries p.cycles (answered p.ending)
 
-abbrev pub played_of : Played → Answer Playing
-played_of r = play_answer_of r.machine r.answer
+abbrev pub played_of : Result Played Refusal → Answer Playing
+played_of (Ok p) = done (playing_of p)
+played_of (Err r) = refused (numbered r)
 
 -- What the functions inside the crate promise; no claim uses it.
 

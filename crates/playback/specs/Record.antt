@@ -1,10 +1,9 @@
 -- A record: its header and its body (document 02, W-206 and W-207). The claim is `RecordsReadBack`, at the end.
-use Rattle.std.specs.Prelude.{ℕ, ◌+◌, ◌*◌, ◌-◌, ◌/◌, ◌%◌, ◌≤◌, ◌≡◌, cond, List, [], ◌∷◌, ◌++◌, leb, eqb, length, drop, get_or}
+use Rattle.std.specs.Prelude.{ℕ, ◌+◌, ◌*◌, ◌-◌, ◌/◌, ◌%◌, ◌≤◌, ◌≡◌, cond, List, [], ◌∷◌, ◌++◌, leb, eqb, length, drop, get_or, Result, Ok, Err}
 use Rattle.isa.specs.Refusals.{Numbered, plain, numbered, Answer, done, refused, unless}
+use Rattle.isa.specs.declared.Refusal.{Refusal}
 use Rattle.isa.specs.RoundTrip.{Bytes}
 use Rattle.playback.specs.declared.Entry.{Entry}
-use Rattle.playback.specs.declared.header.Body.{Body}
-use Rattle.playback.specs.declared.header.Body.TheVariants.{From, Refused}
 use Rattle.playback.specs.Entries.{body_bytes, entries_of}
 
 -- Version 1's header, as W-206 has it. `OldRecordsPlayAsBefore` (Versions) compares the reader of both versions with
@@ -92,7 +91,11 @@ pub record RecordsReadBack : Type 0 where
 -- What the functions inside the crate promise; no claim uses it.
 
 -- the body begins there, and is short enough that the cycles of its entries have 32 bits
-unfoldable pub BodyFound : (recording : List ℕ) → Body → Type 0
-BodyFound recording (From start) =
-    (start ≤ length recording) × (length recording ≤ 0xFFFFFF) × (body_in recording ≡ done (drop start recording))
-BodyFound recording (Refused reason) = body_in recording ≡ refused (numbered reason)
+pub record BodyStarts (recording : List ℕ) (start : ℕ) : Type 0 where
+  pub fits : start ≤ length recording
+  pub short : length recording ≤ 0xFFFFFF
+  pub is : body_in recording ≡ done (drop start recording)
+
+abbrev pub BodyFound : (recording : List ℕ) → Result ℕ Refusal → Type 0
+BodyFound recording (Ok start) = BodyStarts recording start
+BodyFound recording (Err reason) = body_in recording ≡ refused (numbered reason)

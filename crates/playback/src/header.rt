@@ -27,7 +27,7 @@ fn count_of(recording: &[u8]) -> usize
     requires { 3 ≤ length recording.now }
     ensures { result ≡ count_of recording.now }
 {
-    recording[1] as usize * 256 + recording[2] as usize
+    u16::from_be_bytes([recording[1], recording[2]]) as usize
 }
 
 // The same with the fourth byte, the lowest.
@@ -35,54 +35,47 @@ fn long_count_of(recording: &[u8]) -> usize
     requires { 4 ≤ length recording.now }
     ensures { result ≡ long_count_of recording.now }
 {
-    count_of(recording) * 256 + recording[3] as usize
-}
-
-// Where a record's body begins, or why it has none.
-#[derive(Drop)]
-pub enum Body {
-    From(usize),
-    Refused(Refusal),
+    u32::from_be_bytes([0, recording[1], recording[2], recording[3]]) as usize
 }
 
 // Finds the body of a record of LONG_VERSION. Refuses with 28 one under four bytes, a wrong count and a count below the
-// least, then with 30 a count above the greatest.
-fn find_long_body(recording: &[u8]) -> Body
+// least, then with 30 a count above the greatest. It is no instance of `find_body`: limits and refusals differ.
+fn find_long_body(recording: &[u8]) -> Result<usize, Refusal>
     requires { (3 ≤ length recording.now) × (get_or recording.now 0 0 ≡ 2) }
     ensures { BodyFound recording.now result }
 {
     if recording.len() < LONG_HEADER_BYTES {
-        return Body::Refused(Refusal::RecordLength);
+        return Err(Refusal::RecordLength);
     }
     let count = long_count_of(recording);
     if recording.len() - LONG_HEADER_BYTES != count {
-        return Body::Refused(Refusal::RecordLength);
+        return Err(Refusal::RecordLength);
     }
     if count < LEAST_LONG {
-        return Body::Refused(Refusal::RecordLength);
+        return Err(Refusal::RecordLength);
     }
     if count > MOST_LONG {
-        return Body::Refused(Refusal::RecordTooLong);
+        return Err(Refusal::RecordTooLong);
     }
-    Body::From(LONG_HEADER_BYTES)
+    Ok(LONG_HEADER_BYTES)
 }
 
 // Finds the body, by the version. Refuses with 28 a record under three bytes, then with 27 a version that is neither of
 // the two, then with 28 a wrong count; one of LONG_VERSION as `find_long_body` does.
-pub fn find_body(recording: &[u8]) -> Body
+pub fn find_body(recording: &[u8]) -> Result<usize, Refusal>
     ensures { BodyFound recording.now result }
 {
     if recording.len() < HEADER_BYTES {
-        return Body::Refused(Refusal::RecordLength);
+        return Err(Refusal::RecordLength);
     }
     if recording[0] == LONG_VERSION {
         return find_long_body(recording);
     }
     if recording[0] != VERSION {
-        return Body::Refused(Refusal::RecordVersion);
+        return Err(Refusal::RecordVersion);
     }
     if recording.len() - HEADER_BYTES != count_of(recording) {
-        return Body::Refused(Refusal::RecordLength);
+        return Err(Refusal::RecordLength);
     }
-    Body::From(HEADER_BYTES)
+    Ok(HEADER_BYTES)
 }

@@ -5,13 +5,13 @@
 mod entries;
 mod header;
 pub mod play;
-mod turn;
+mod row;
 
 use isa::Refusal;
-use machine::{Ending, Machine};
+use machine::Machine;
 
 // An entry of a record: a step with its request byte, a host store of a value at an address, or a reset.
-#[derive(Drop)]
+#[derive(Clone, Copy, Debug, PartialEq, Eq)]
 pub enum Entry {
     Step(u8),
     // Address and value.
@@ -19,25 +19,12 @@ pub enum Entry {
     Reset,
 }
 
-// How far a playing came: the entries played, which is also the number of the entry that ended it, their cycles, and
-// how it ended.
-#[derive(Drop)]
-pub struct PlayReport {
-    pub entries: u32,
-    pub cycles: u32,
-    pub ending: Ending,
-}
-
-// A playing's answer: how far it came, or why nothing was played.
-#[derive(Drop)]
-pub enum PlayAnswer {
-    Ended(PlayReport),
-    Refused(Refusal),
-}
-
-// The machine as the playing left it, and the answer.
-#[derive(Drop)]
+// The machine as a playing left it, and how far it came: the entries played, which is also the number of the entry that
+// ended it, their cycles, and how it ended.
+#[derive(Clone, Copy, Debug, PartialEq, Eq)]
 pub struct Played {
     pub machine: Machine,
-    pub answer: PlayAnswer,
+    pub entries: u32,
+    pub cycles: u32,
+    pub ending: Result<(), Refusal>,
 }

@@ -1,3 +1,2 @@
 pub mod FirstLine
 pub mod PartsAddUp
-pub mod PageLaws

@@ -1,12 +1,22 @@
 -- The exit status: "0 accepted or done, 1 refused or stopped, 2 usage, input or output error (a failed write of the
 -- answer included)".
-use Rattle.std.specs.Prelude.{ℕ, ◌≡◌, ◌⊎◌, Bool, cond, List}
+use Rattle.std.specs.Prelude.{ℕ, ◌≡◌, ◌⊎◌, List, Result, Ok, Err}
+use Rattle.reports.specs.declared.Status.{Status}
+use Rattle.reports.specs.declared.Status.TheVariants as status
+use Rattle.reports.specs.declared.output.NotWritten.{NotWritten}
 use Rattle.isa.specs.Refusals.{done, refused}
 use Rattle.certificate.specs.Check.{Verdict, accepted, check_of}
 
+-- the number of a status
+abbrev pub code_of : Status → ℕ
+code_of status.Done = 0
+code_of status.Refused = 1
+code_of status.Failed = 2
+
 -- that of the answer, but 2 where not all of it could be written
-abbrev pub exit_status : (status : ℕ) → (is-written : Bool) → ℕ
-exit_status status is-written = cond is-written status 2
+abbrev pub exit_status : (status : ℕ) → Result (Unit {0}) NotWritten → ℕ
+exit_status status (Ok written) = status
+exit_status status (Err not_written) = 2
 
 -- "0 accepted .., 1 refused"
 abbrev pub status_of : Verdict → ℕ

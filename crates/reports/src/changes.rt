@@ -2,7 +2,6 @@
 use crate::machine_lines::{data_name, mode_name};
 use alu::Flags;
 use control::Control;
-use control::modes::mode_number;
 use listing::Line;
 use machine::{FlagPairs, Machine};
 
@@ -16,12 +15,10 @@ fn byte_change(line: Line, address: u8, value: u8) -> Line {
 // The data bytes that differ.
 fn byte_changes(line: Line, before: &[u8; 256], after: &[u8; 256]) -> Line {
     let mut text = line;
-    let mut i = 0usize;
-    while i < 256 {
-        if before[i] != after[i] {
-            text = byte_change(text, i as u8, after[i]);
+    for (address, (old, new)) in (0..=255u8).zip(before.iter().zip(after)) {
+        if old != new {
+            text = byte_change(text, address, *new);
         }
-        i += 1;
     }
     text
 }
@@ -45,24 +42,16 @@ fn pair_changes(line: Line, before: Flags, after: Flags) -> Line {
 
 // The flags that differ. A step changes one pair at most.
 fn flag_changes(line: Line, before: FlagPairs, after: FlagPairs) -> Line {
-    let normal_before = before.normal;
-    let normal_after = after.normal;
-    let interrupt_before = before.interrupt;
-    let interrupt_after = after.interrupt;
-    let nmi_before = before.nmi;
-    let nmi_after = after.nmi;
-    let line = pair_changes(line, normal_before, normal_after);
-    let line = pair_changes(line, interrupt_before, interrupt_after);
-    pair_changes(line, nmi_before, nmi_after)
+    let line = pair_changes(line, before.normal, after.normal);
+    let line = pair_changes(line, before.interrupt, after.interrupt);
+    pair_changes(line, before.nmi, after.nmi)
 }
 
 fn control_changes(line: Line, before: Control, after: Control) -> Line {
-    let old = before.mode;
-    let new = after.mode;
-    let line = if mode_number(old) == mode_number(new) {
+    let line = if before.mode == after.mode {
         line
     } else {
-        mode_name(line.word(b"; mode "), new)
+        mode_name(line.word(b"; mode "), after.mode)
     };
     if before.asleep == after.asleep {
         return line;
@@ -76,13 +65,7 @@ fn control_changes(line: Line, before: Control, after: Control) -> Line {
 
 // All that a step changed but the PC and the levels, which each line has.
 pub fn changes(line: Line, before: Machine, after: Machine) -> Line {
-    let old_bytes = before.bytes;
-    let new_bytes = after.bytes;
-    let old_flags = before.flags;
-    let new_flags = after.flags;
-    let old_control = before.control;
-    let new_control = after.control;
-    let line = byte_changes(line, &old_bytes, &new_bytes);
-    let line = flag_changes(line, old_flags, new_flags);
-    control_changes(line, old_control, new_control)
+    let line = byte_changes(line, &before.bytes, &after.bytes);
+    let line = flag_changes(line, before.flags, after.flags);
+    control_changes(line, before.control, after.control)
 }

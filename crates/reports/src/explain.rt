@@ -1,15 +1,14 @@
 // Why an answer was a refusal, in words: the instruction, where it leads, and what would have to hold.
 use crate::levels::put_levels;
 use crate::machine_lines::counted;
-use crate::output::put;
-use certificate::marks::{MOST_LEVELS, kind_of, mark_at, need_at, need_of};
+use crate::output::{Written, put};
+use certificate::marks::{MOST_LEVELS, kind_at, mark_at, need_at};
 use certificate::successors::{Successor, Successors, successors_of};
+use isa::Refusal;
 use isa::decode::decode;
 use isa::flow_at::flow_at;
-use isa::rom::{RomByte, fixed_of, page_of};
+use isa::rom::Space;
 use isa::sources::RESET_VECTOR;
-use isa::table::timings;
-use isa::{Continuation, Decoded, Refusal};
 use listing::Line;
 use listing::instruction::instruction;
 use listing::kinds::kind_name;
@@ -17,16 +16,10 @@ use listing::pages::{choices_in, paged_address, rom_in};
 
 // `CALL 890h at 881`, or, where there are several pages, `CALL 890h at 2:3F0`.
 fn instruction_at(image: &[u8], bank: u8, address: u16) -> Line {
-    let Decoded::Valid {
-        instruction: decoded,
-        length: _,
-        cycles: _,
-    } = decode(image, bank, address)
-    else {
-        let begun = Line::new().word(b"what stands at ");
-        return paged_address(begun, image.len(), bank, address);
+    let begun = match decode(image, bank, address) {
+        Ok(decoded) => instruction(Line::new(), decoded.instruction, address).word(b" at "),
+        Err(_) => Line::new().word(b"what stands at "),
     };
-    let begun = instruction(Line::new(), decoded, address).word(b" at ");
     paged_address(begun, image.len(), bank, address)
 }
 
@@ -40,7 +33,7 @@ fn mark_text(line: Line, mark: u8) -> Line {
 
 // The successor whose kind is wrong, the first of two before the second.
 fn wrong_kind(certificate: &[u8], first: Successor, second: Successor) -> Successor {
-    if kind_of(mark_at(certificate, first.address)) != first.kind {
+    if kind_at(certificate, first.address) != Some(first.kind) {
         return first;
     }
     second
@@ -48,7 +41,7 @@ fn wrong_kind(certificate: &[u8], first: Successor, second: Successor) -> Succes
 
 // The levels that a successor asks for.
 fn asked(certificate: &[u8], successor: Successor) -> u32 {
-    need_at(certificate, successor.address) as u32 + successor.levels as u32
+    u32::from(need_at(certificate, successor.address)) + u32::from(successor.levels)
 }
 
 // The successor that asks for more levels.
@@ -67,29 +60,27 @@ fn put_wrong_kind(
     certificate: &[u8],
     at: u16,
     to: Successor,
-    is_written: bool,
-) -> bool {
+) -> Written {
     let there = to.address;
     let begun = instruction_at(image, bank, at).word(b" leads to ");
     let led = paged_address(begun, image.len(), bank, there);
-    let RomByte::Byte(_) = rom_in(image, bank, there) else {
-        return put(rt, led.word(b", which is outside ROM"), is_written);
-    };
-    let is_put = put(
+    if rom_in(image, bank, there).is_none() {
+        return put(rt, led.word(b", which is outside ROM"));
+    }
+    put(
         rt,
         mark_text(led.word(b", which is "), mark_at(certificate, there)),
-        is_written,
-    );
+    )?;
     let wanted = Line::new().word(b"there must be a mark of kind ");
-    put(rt, kind_name(wanted, to.kind % 16 * 16), is_put)
+    put(rt, kind_name(wanted, u8::from(to.kind) * 16))
 }
 
 // 17 where no mark would do: the need of a subroutine that calls itself has no bound.
-fn put_bottomless(rt: &HostRuntime, image: &[u8], bank: u8, at: u16, is_written: bool) -> bool {
+fn put_bottomless(rt: &HostRuntime, image: &[u8], bank: u8, at: u16) -> Written {
     let line = instruction_at(image, bank, at).word(
         b" leads deeper than six levels, or into a subroutine that calls itself",
     );
-    put(rt, line, is_written)
+    put(rt, line)
 }
 
 // 17: the levels that the instruction needs, and those that its mark allows.
@@ -100,118 +91,92 @@ fn put_shallow(
     certificate: &[u8],
     at: u16,
     to: Successor,
-    is_written: bool,
-) -> bool {
-    if (MOST_LEVELS as u32) < asked(certificate, to) {
-        return put_bottomless(rt, image, bank, at, is_written);
+) -> Written {
+    if u32::from(MOST_LEVELS) < asked(certificate, to) {
+        return put_bottomless(rt, image, bank, at);
     }
     let line = instruction_at(image, bank, at).word(b" needs ");
     let line = counted(line, asked(certificate, to), b"further level").word(b"; its mark allows ");
-    let need = need_of(mark_at(certificate, at));
-    let is_put = put(rt, line.decimal(need as u32), is_written);
+    put(rt, line.decimal(u32::from(need_at(certificate, at))))?;
     let there = to.address;
     let cause = Line::new().word(b"it leads to ");
     let cause = paged_address(cause, image.len(), bank, there).word(b", which is ");
-    put(rt, mark_text(cause, mark_at(certificate, there)), is_put)
+    put(rt, mark_text(cause, mark_at(certificate, there)))
 }
 
 // The successors of the marked instruction at an address.
 fn successors_at(image: &[u8], bank: u8, certificate: &[u8], address: u16) -> Successors {
-    let table = timings();
-    let kind = kind_of(mark_at(certificate, address));
-    match flow_at(&table, page_of(image, bank), fixed_of(image), address) {
-        Continuation::Valid { flow, next } => successors_of(kind, flow, next),
-        Continuation::Refused(_) => Successors::None,
+    let Some(kind) = kind_at(certificate, address) else {
+        return Successors::None;
+    };
+    match flow_at(Space::of(image, bank), address) {
+        Ok(continuation) => successors_of(kind, continuation.flow, continuation.next),
+        Err(_) => Successors::None,
     }
 }
 
+// 16. `put_need` is not one function with it: it chooses another of two successors, and writes another text.
 fn put_successor_kind(
     rt: &HostRuntime,
     image: &[u8],
     bank: u8,
     certificate: &[u8],
     at: u16,
-    is_written: bool,
-) -> bool {
+) -> Written {
     match successors_at(image, bank, certificate, at) {
-        Successors::None => is_written,
-        Successors::One(one) => put_wrong_kind(rt, image, bank, certificate, at, one, is_written),
+        Successors::None => Ok(()),
+        Successors::One(one) => put_wrong_kind(rt, image, bank, certificate, at, one),
         Successors::Two(first, second) => {
             let wrong = wrong_kind(certificate, first, second);
-            put_wrong_kind(rt, image, bank, certificate, at, wrong, is_written)
+            put_wrong_kind(rt, image, bank, certificate, at, wrong)
         }
     }
 }
 
-fn put_need(
-    rt: &HostRuntime,
-    image: &[u8],
-    bank: u8,
-    certificate: &[u8],
-    at: u16,
-    is_written: bool,
-) -> bool {
+// 17.
+fn put_need(rt: &HostRuntime, image: &[u8], bank: u8, certificate: &[u8], at: u16) -> Written {
     match successors_at(image, bank, certificate, at) {
-        Successors::None => is_written,
-        Successors::One(one) => put_shallow(rt, image, bank, certificate, at, one, is_written),
+        Successors::None => Ok(()),
+        Successors::One(one) => put_shallow(rt, image, bank, certificate, at, one),
         Successors::Two(first, second) => {
             let deep = deeper(certificate, first, second);
-            put_shallow(rt, image, bank, certificate, at, deep, is_written)
+            put_shallow(rt, image, bank, certificate, at, deep)
         }
     }
 }
 
 // 15: the code that RET or RETI stands in, and where each may stand.
-fn put_misplaced(
-    rt: &HostRuntime,
-    image: &[u8],
-    bank: u8,
-    certificate: &[u8],
-    at: u16,
-    is_written: bool,
-) -> bool {
+fn put_misplaced(rt: &HostRuntime, image: &[u8], bank: u8, certificate: &[u8], at: u16) -> Written {
     let line = instruction_at(image, bank, at).word(b" stands in code of kind ");
-    let is_put = put(rt, mark_text(line, mark_at(certificate, at)), is_written);
-    put(
+    put(rt, mark_text(line, mark_at(certificate, at)))?;
+    put_words(
         rt,
-        Line::new().word(b"RET stands only in subroutines, RETI only in start-up and service code"),
-        is_put,
+        b"RET stands only in subroutines, RETI only in start-up and service code",
     )
 }
 
 // 18: the vector, and the kind that it must have.
-fn put_vector(rt: &HostRuntime, certificate: &[u8], vector: u16, is_written: bool) -> bool {
+fn put_vector(rt: &HostRuntime, certificate: &[u8], vector: u16) -> Written {
     let named = Line::new()
         .word(b"the vector ")
         .address(vector)
         .word(b" is ");
-    let is_put = put(
-        rt,
-        mark_text(named, mark_at(certificate, vector)),
-        is_written,
-    );
+    put(rt, mark_text(named, mark_at(certificate, vector)))?;
     if vector == RESET_VECTOR {
-        return put(
-            rt,
-            Line::new().word(b"reset begins there: it must be start-up code"),
-            is_put,
-        );
+        put_words(rt, b"reset begins there: it must be start-up code")
+    } else {
+        put_words(rt, b"a wired source begins there: it must be service code")
     }
-    put(
-        rt,
-        Line::new().word(b"a wired source begins there: it must be service code"),
-        is_put,
-    )
 }
 
 // 5: the byte that is no opcode.
-fn put_undefined(rt: &HostRuntime, image: &[u8], bank: u8, at: u16, is_written: bool) -> bool {
-    let RomByte::Byte(byte) = rom_in(image, bank, at) else {
-        return is_written;
+fn put_undefined(rt: &HostRuntime, image: &[u8], bank: u8, at: u16) -> Written {
+    let Some(byte) = rom_in(image, bank, at) else {
+        return Ok(());
     };
     let line = Line::new().word(b"the byte ").byte(byte).word(b" at ");
     let line = paged_address(line, image.len(), bank, at);
-    put(rt, line.word(b" is no instruction"), is_written)
+    put(rt, line.word(b" is no instruction"))
 }
 
 // Words for the address of an instruction, before and after it.
@@ -222,88 +187,53 @@ fn put_located(
     bank: u8,
     at: u16,
     after: &[u8],
-    is_written: bool,
-) -> bool {
+) -> Written {
     let line = paged_address(Line::new().word(before), length, bank, at);
-    put(rt, line.word(after), is_written)
+    put(rt, line.word(after))
 }
 
-fn put_words(rt: &HostRuntime, words: &[u8], is_written: bool) -> bool {
-    put(rt, Line::new().word(words), is_written)
+fn put_words(rt: &HostRuntime, words: &[u8]) -> Written {
+    put(rt, Line::new().word(words))
 }
 
 // 13: how many marks there must be.
-fn put_marks_wanted(rt: &HostRuntime, length: usize, is_written: bool) -> bool {
+fn put_marks_wanted(rt: &HostRuntime, length: usize) -> Written {
     if 1 < choices_in(length) {
-        return put_words(
-            rt,
-            b"there must be 4096 marks, one for each address",
-            is_written,
-        );
+        return put_words(rt, b"there must be 4096 marks, one for each address");
     }
-    put_words(
-        rt,
-        b"there must be one mark for each byte of the image",
-        is_written,
-    )
+    put_words(rt, b"there must be one mark for each byte of the image")
 }
 
 // 14: the mark stands for its address with every page.
-fn put_malformed(rt: &HostRuntime, at: u16, is_written: bool) -> bool {
+fn put_malformed(rt: &HostRuntime, at: u16) -> Written {
     let line = Line::new().word(b"the mark at ").address(at);
     put(
         rt,
         line.word(b" is malformed: its kind is 1 to 4, its need 0 to 6, or it is 00"),
-        is_written,
     )
 }
 
 // Refusals of operations on a machine and of records: what was refused, in words.
-fn put_plain(rt: &HostRuntime, length: usize, refusal: Refusal, is_written: bool) -> bool {
+fn put_plain(rt: &HostRuntime, length: usize, refusal: Refusal) -> Written {
     match refusal {
-        Refusal::ImageLength => put_words(
-            rt,
-            b"an image has 1 to 10 halves of 2048 bytes",
-            is_written,
-        ),
-        Refusal::WindowAddress => put_words(
-            rt,
-            b"a host store to 40h-7Fh, the ROM window",
-            is_written,
-        ),
-        Refusal::UnknownSource => put_words(rt, b"a request byte has only bits 0 to 4", is_written),
-        Refusal::CertificateLength => put_marks_wanted(rt, length, is_written),
-        Refusal::NoSleep => put_words(
-            rt,
-            b"the program does not sleep within 65535 steps",
-            is_written,
-        ),
-        Refusal::RecordVersion => put_words(
-            rt,
-            b"a record's first byte is 1 or 2, its version",
-            is_written,
-        ),
+        Refusal::ImageLength => put_words(rt, b"an image has 1 to 10 halves of 2048 bytes"),
+        Refusal::WindowAddress => put_words(rt, b"a host store to 40h-7Fh, the ROM window"),
+        Refusal::UnknownSource => put_words(rt, b"a request byte has only bits 0 to 4"),
+        Refusal::CertificateLength => put_marks_wanted(rt, length),
+        Refusal::NoSleep => put_words(rt, b"the program does not sleep within 65535 steps"),
+        Refusal::RecordVersion => put_words(rt, b"a record's first byte is 1 or 2, its version"),
         Refusal::RecordLength => put_words(
             rt,
             b"the record's length is not what its version and count say",
-            is_written,
         ),
-        Refusal::RecordEntry => put_words(
-            rt,
-            b"an entry of an unknown kind, or one that is cut",
-            is_written,
-        ),
-        Refusal::RecordTooLong => put_words(
-            rt,
-            b"a record has at most 1048576 bytes of entries",
-            is_written,
-        ),
-        _ => is_written,
+        Refusal::RecordEntry => put_words(rt, b"an entry of an unknown kind, or one that is cut"),
+        Refusal::RecordTooLong => put_words(rt, b"a record has at most 1048576 bytes of entries"),
+        _ => Ok(()),
     }
 }
 
 // A step that stopped: 6 and 7.
-fn put_stop(rt: &HostRuntime, length: usize, bank: u8, refusal: Refusal, is_written: bool) -> bool {
+fn put_stop(rt: &HostRuntime, length: usize, bank: u8, refusal: Refusal) -> Written {
     match refusal {
         Refusal::StackFull(at) => put_located(
             rt,
@@ -312,7 +242,6 @@ fn put_stop(rt: &HostRuntime, length: usize, bank: u8, refusal: Refusal, is_writ
             bank,
             at,
             b": the seventh",
-            is_written,
         ),
         Refusal::StackEmpty(at) => put_located(
             rt,
@@ -321,9 +250,8 @@ fn put_stop(rt: &HostRuntime, length: usize, bank: u8, refusal: Refusal, is_writ
             bank,
             at,
             b"",
-            is_written,
         ),
-        _ => put_plain(rt, length, refusal, is_written),
+        _ => put_plain(rt, length, refusal),
     }
 }
 
@@ -335,8 +263,7 @@ fn put_rule(
     certificate: &[u8],
     wired: u8,
     refusal: Refusal,
-    is_written: bool,
-) -> bool {
+) -> Written {
     match refusal {
         Refusal::OutsideRom(at) => put_located(
             rt,
@@ -345,38 +272,30 @@ fn put_rule(
             bank,
             at,
             b" is not wholly in ROM",
-            is_written,
         ),
-        Refusal::UndefinedOpcode(at) => put_undefined(rt, image, bank, at, is_written),
-        Refusal::MalformedMark(at) => put_malformed(rt, at, is_written),
-        Refusal::MisplacedReturn(at) => put_misplaced(rt, image, bank, certificate, at, is_written),
-        Refusal::SuccessorKind(at) => put_successor_kind(
-            rt,
-            image,
-            bank,
-            certificate,
-            at,
-            is_written,
-        ),
-        Refusal::NeedTooSmall(at) => put_need(rt, image, bank, certificate, at, is_written),
-        Refusal::VectorKind(vector) => put_vector(rt, certificate, vector, is_written),
-        Refusal::TooManyLevels => put_levels(rt, certificate, wired, is_written),
-        _ => put_stop(rt, image.len(), bank, refusal, is_written),
+        Refusal::UndefinedOpcode(at) => put_undefined(rt, image, bank, at),
+        Refusal::MalformedMark(at) => put_malformed(rt, at),
+        Refusal::MisplacedReturn(at) => put_misplaced(rt, image, bank, certificate, at),
+        Refusal::SuccessorKind(at) => put_successor_kind(rt, image, bank, certificate, at),
+        Refusal::NeedTooSmall(at) => put_need(rt, image, bank, certificate, at),
+        Refusal::VectorKind(vector) => put_vector(rt, certificate, vector),
+        Refusal::TooManyLevels => put_levels(rt, certificate, wired),
+        _ => put_stop(rt, image.len(), bank, refusal),
     }
 }
 
 // Whether a refusal is of an instruction, which the page in place may change; a mark and a vector stand for all pages.
 fn is_of_instruction(refusal: Refusal) -> bool {
-    match refusal {
-        Refusal::OutsideRom(_) => true,
-        Refusal::UndefinedOpcode(_) => true,
-        Refusal::StackFull(_) => true,
-        Refusal::StackEmpty(_) => true,
-        Refusal::MisplacedReturn(_) => true,
-        Refusal::SuccessorKind(_) => true,
-        Refusal::NeedTooSmall(_) => true,
-        _ => false,
-    }
+    matches!(
+        refusal,
+        Refusal::OutsideRom(_)
+            | Refusal::UndefinedOpcode(_)
+            | Refusal::StackFull(_)
+            | Refusal::StackEmpty(_)
+            | Refusal::MisplacedReturn(_)
+            | Refusal::SuccessorKind(_)
+            | Refusal::NeedTooSmall(_)
+    )
 }
 
 // Why the check refused, or why a step stopped, with a bank byte; and the page in place, where there are several.
@@ -387,18 +306,14 @@ pub fn put_reason(
     certificate: &[u8],
     wired: u8,
     refusal: Refusal,
-    is_written: bool,
-) -> bool {
-    let told = put_rule(rt, image, bank, certificate, wired, refusal, is_written);
+) -> Written {
+    put_rule(rt, image, bank, certificate, wired, refusal)?;
     let pages = choices_in(image.len());
-    if pages <= 1 {
-        return told;
-    }
-    if !is_of_instruction(refusal) {
-        return told;
+    if pages <= 1 || !is_of_instruction(refusal) {
+        return Ok(());
     }
     let line = Line::new()
         .word(b"with page ")
-        .decimal(bank as u32 % pages as u32);
-    put(rt, line.word(b" in place"), told)
+        .decimal(u32::from(bank % pages));
+    put(rt, line.word(b" in place"))
 }

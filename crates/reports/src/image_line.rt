@@ -1,16 +1,16 @@
 // The line of an image: its size, by what it was chosen, and its checksum.
-use crate::output::put;
+use crate::output::{Written, put};
 use listing::Line;
-use options::image::{ChosenBy, Rom};
+use options::image::{ChosenBy, ImageFound, Rom};
 
 fn size_text(line: Line, rom: Rom) -> Line {
     match rom {
         Rom::Small => line.word(b"2K, 800 to FFF"),
         Rom::Large => line.word(b"4K, 000 to FFF"),
         Rom::Paged(pages) => line
-            .decimal((pages as u32 + 1) * 2)
+            .decimal((u32::from(pages) + 1) * 2)
             .word(b"K, ")
-            .decimal(pages as u32)
+            .decimal(u32::from(pages))
             .word(b" pages and the fixed half"),
     }
 }
@@ -30,25 +30,17 @@ fn choice_text(line: Line, by: ChosenBy, fill: u8) -> Line {
 
 // A checksum in eight hexadecimal digits.
 fn checksum_text(line: Line, checksum: u32) -> Line {
-    let high = (checksum / 65536) as u16;
-    let low = (checksum % 65536) as u16;
+    let [first, second, third, fourth] = checksum.to_be_bytes();
     line.word(b"; CRC-32 ")
-        .byte((high / 256) as u8)
-        .byte((high % 256) as u8)
-        .byte((low / 256) as u8)
-        .byte((low % 256) as u8)
+        .byte(first)
+        .byte(second)
+        .byte(third)
+        .byte(fourth)
 }
 
 // Writes the line of an image.
-pub fn put_image(
-    rt: &HostRuntime,
-    rom: Rom,
-    by: ChosenBy,
-    fill: u8,
-    checksum: u32,
-    is_written: bool,
-) -> bool {
-    let sized = size_text(Line::new().word(b"image: "), rom);
-    let chosen = choice_text(sized, by, fill);
-    put(rt, checksum_text(chosen, checksum), is_written)
+pub fn put_image(rt: &HostRuntime, found: ImageFound, fill: u8, checksum: u32) -> Written {
+    let sized = size_text(Line::new().word(b"image: "), found.rom);
+    let chosen = choice_text(sized, found.by, fill);
+    put(rt, checksum_text(chosen, checksum))
 }

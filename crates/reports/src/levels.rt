@@ -1,7 +1,7 @@
 // The levels of a certificate, as they add up.
 ghost use Rattle.reports.specs.Levels.{Parts};
 
-use crate::output::put;
+use crate::output::{Written, put};
 use certificate::levels::{levels_for, source_levels};
 use certificate::marks::{MOST_LEVELS, need_at};
 use isa::Source;
@@ -9,7 +9,7 @@ use isa::sources::{RESET_VECTOR, names};
 use listing::Line;
 
 // Levels in start-up and main code, for the deepest service of sources 1 to 4, and for NMI's.
-#[derive(Drop)]
+#[derive(Clone, Copy, Debug, PartialEq, Eq)]
 pub struct Levels {
     pub start: u8,
     pub services: u8,
@@ -33,25 +33,25 @@ pub fn parts_of(certificate: &[u8], wired: u8) -> Levels
 // `= 2 of 6`, or that the chip has fewer.
 fn total(line: Line, sum: u32) -> Line {
     let line = line.word(b" = ").decimal(sum);
-    if sum <= MOST_LEVELS as u32 {
+    if sum <= u32::from(MOST_LEVELS) {
         return line.word(b" of 6");
     }
     line.word(b", and the chip has 6")
 }
 
 // The line that adds them up.
-pub fn put_levels(rt: &HostRuntime, certificate: &[u8], wired: u8, is_written: bool) -> bool {
+pub fn put_levels(rt: &HostRuntime, certificate: &[u8], wired: u8) -> Written {
     let parts = parts_of(certificate, wired);
     let line = Line::new()
         .word(b"levels: ")
-        .decimal(parts.start as u32)
+        .decimal(u32::from(parts.start))
         .word(b" (start-up and main code) + ")
-        .decimal(parts.services as u32)
+        .decimal(u32::from(parts.services))
         .word(b" (services) + ")
-        .decimal(parts.nmi as u32)
+        .decimal(u32::from(parts.nmi))
         .word(b" (NMI)");
-    let sum = parts.start as u32 + parts.services as u32 + parts.nmi as u32;
-    put(rt, total(line, sum), is_written)
+    let sum = u32::from(parts.start) + u32::from(parts.services) + u32::from(parts.nmi);
+    put(rt, total(line, sum))
 }
 
 // A wired source's name.
@@ -64,18 +64,14 @@ fn source_name(line: Line, wired: u8, source: Source, name: &[u8]) -> Line {
 }
 
 // The line of the wired sources.
-pub fn put_wired(rt: &HostRuntime, wired: u8, is_written: bool) -> bool {
+pub fn put_wired(rt: &HostRuntime, wired: u8) -> Written {
     let line = Line::new().word(b"wired:");
     if wired == 0 {
-        return put(rt, line.word(b" none"), is_written);
+        return put(rt, line.word(b" none"));
     }
     let line = source_name(line, wired, Source::Nmi, b"nmi");
     let line = source_name(line, wired, Source::First, b"1");
     let line = source_name(line, wired, Source::Second, b"2");
     let line = source_name(line, wired, Source::Third, b"3");
-    put(
-        rt,
-        source_name(line, wired, Source::Fourth, b"4"),
-        is_written,
-    )
+    put(rt, source_name(line, wired, Source::Fourth, b"4"))
 }

@@ -1,6 +1,9 @@
 // What the command `st62` writes: the answer's line, the reason in words, levels as they add up, machines and steps.
 #![tactic(auto)]
 
+ghost use Rattle.std.specs.Prelude.{◌≡◌};
+ghost use Rattle.reports.specs.Output.{code_of};
+
 pub mod answers;
 mod attempt;
 pub mod changes;
@@ -11,12 +14,22 @@ pub mod machine_lines;
 pub mod output;
 mod page_found;
 
-// The program's exit status.
-// Accepted, or done.
-pub const DONE: u8 = 0;
+// How the program ends.
+#[derive(Clone, Copy, Debug, PartialEq, Eq)]
+pub enum Status {
+    // Accepted, or done.
+    Done,
+    // Refused, or stopped.
+    Refused,
+    // Wrong usage, or input or output that failed.
+    Failed,
+}
 
-// Refused, or stopped.
-pub const REFUSED: u8 = 1;
+// The exit status.
+impl From<Status> for u8 {
+    ghost from_gives = { λ status code. code ≡ code_of status };
 
-// Wrong usage, or input or output that failed.
-pub const FAILED: u8 = 2;
+    fn from(status: Status) -> u8 {
+        status as u8
+    }
+}

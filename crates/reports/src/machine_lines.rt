@@ -1,8 +1,8 @@
 // A machine in words: its mode, flags, registers and bytes.
-use crate::output::put;
+use crate::output::{Written, put};
 use alu::Flags;
 use control::Mode;
-use data::{Origin, OriginRead};
+use data::Origin;
 use listing::Line;
 use listing::pages::paged_address;
 use machine::{FlagPairs, Machine};
@@ -37,10 +37,10 @@ fn origin_name(line: Line, length: usize, bank: u8, origin: Origin) -> Line {
 }
 
 // Where the data operand came from that a step read, a dash where it read none.
-pub fn read_name(line: Line, length: usize, bank: u8, read: OriginRead) -> Line {
+pub fn read_name(line: Line, length: usize, bank: u8, read: Option<Origin>) -> Line {
     match read {
-        OriginRead::Nothing => line.letter(b'-'),
-        OriginRead::From(origin) => origin_name(line, length, bank, origin),
+        None => line.letter(b'-'),
+        Some(origin) => origin_name(line, length, bank, origin),
     }
 }
 
@@ -70,86 +70,71 @@ fn flags_text(line: Line, name: &[u8], flags: Flags) -> Line {
     digit(zero.word(b" C "), flags.carry)
 }
 
-fn put_flags(rt: &HostRuntime, pairs: FlagPairs, is_written: bool) -> bool {
-    let normal = pairs.normal;
-    let interrupt = pairs.interrupt;
-    let nmi = pairs.nmi;
-    let line = flags_text(Line::new(), b"flags: normal", normal);
-    let line = flags_text(line, b", interrupt", interrupt);
-    put(rt, flags_text(line, b", NMI", nmi), is_written)
+fn put_flags(rt: &HostRuntime, pairs: FlagPairs) -> Written {
+    let line = flags_text(Line::new(), b"flags: normal", pairs.normal);
+    let line = flags_text(line, b", interrupt", pairs.interrupt);
+    put(rt, flags_text(line, b", NMI", pairs.nmi))
 }
 
 // The return addresses in use, the top first. They have no page: the bank byte picks it when they are returned to.
 fn stack_text(line: Line, stack: &[u16; 6], levels: u8) -> Line {
     let mut text = line;
-    let mut i = 6usize;
-    while 0 < i {
-        i -= 1;
-        if i < levels as usize {
-            text = text.letter(b' ').address(stack[i]);
-        }
+    for address in stack.iter().take(usize::from(levels)).rev() {
+        text = text.letter(b' ').address(*address);
     }
     text
 }
 
 // The bytes of data space that are not 0, with their names.
-fn data_text(bytes: &[u8; 256], row: usize) -> Line {
+fn data_text(bytes: &[u8; 256], row: u8) -> Line {
     let mut text = Line::new().word(b"data:");
-    let mut i = 0usize;
-    while i < 16 {
+    for i in 0..16u8 {
         let address = row % 16 * 16 + i;
-        let value = bytes[address];
+        let value = bytes[usize::from(address)];
         if value != 0 {
-            text = data_name(text.letter(b' '), address as u8)
+            text = data_name(text.letter(b' '), address)
                 .letter(b' ')
                 .byte(value);
         }
-        i += 1;
     }
     text
 }
 
-fn put_row(rt: &HostRuntime, bytes: &[u8; 256], row: usize, is_written: bool) -> bool {
+fn put_row(rt: &HostRuntime, bytes: &[u8; 256], row: u8) -> Written {
     let text = data_text(bytes, row);
-    if text.count <= 5 {
-        return is_written;
+    if text.length() <= 5 {
+        return Ok(());
     }
-    put(rt, text, is_written)
+    put(rt, text)
 }
 
-fn put_data(rt: &HostRuntime, bytes: &[u8; 256], is_written: bool) -> bool {
-    let mut is_written = is_written;
-    let mut row = 0usize;
-    while row < 16 {
-        is_written = put_row(rt, bytes, row, is_written);
-        row += 1;
+fn put_data(rt: &HostRuntime, bytes: &[u8; 256]) -> Written {
+    for row in 0..16 {
+        put_row(rt, bytes, row)?;
     }
-    is_written
+    Ok(())
 }
 
 // The byte that picks the page.
 pub fn bank_of(m: Machine) -> u8 {
-    let bytes = m.bytes;
-    bytes[0xCA]
+    m.bytes[0xCA]
 }
 
 // The machine of an image of so many bytes in lines: control, flags, and the data bytes that are not 0.
-pub fn put_machine(rt: &HostRuntime, length: usize, m: Machine, is_written: bool) -> bool {
+pub fn put_machine(rt: &HostRuntime, length: usize, m: Machine) -> Written {
     let c = m.control;
-    let mode = c.mode;
-    let stack = m.stack;
-    let pairs = m.flags;
-    let bytes = m.bytes;
     let line = paged_address(Line::new().word(b"PC "), length, bank_of(m), c.pc);
-    let line = mode_name(line.word(b", mode "), mode);
-    let line = if c.asleep {
-        line.word(b", asleep")
-    } else {
-        line
-    };
-    let is_put = put(rt, line, is_written);
-    let line = Line::new().word(b"levels: ").decimal(c.levels as u32);
-    let is_put = put(rt, stack_text(line, &stack, c.levels), is_put);
-    let is_put = put_flags(rt, pairs, is_put);
-    put_data(rt, &bytes, is_put)
+    let line = mode_name(line.word(b", mode "), c.mode);
+    put(
+        rt,
+        if c.asleep {
+            line.word(b", asleep")
+        } else {
+            line
+        },
+    )?;
+    let line = Line::new().word(b"levels: ").decimal(u32::from(c.levels));
+    put(rt, stack_text(line, &m.stack, c.levels))?;
+    put_flags(rt, m.flags)?;
+    put_data(rt, &m.bytes)
 }

@@ -1,65 +1,48 @@
 // Standard output and standard error.
 ghost use Rattle.std.specs.Prelude.{◌≡◌};
-ghost use Rattle.reports.specs.Output.{exit_status};
+ghost use Rattle.reports.specs.Output.{code_of, exit_status};
 
-use crate::FAILED;
-use listing::write::write;
-use listing::{Line, LineWritten, MOST};
+use crate::Status;
+use listing::Line;
 use std::io;
 
 // Where a text is written.
-#[derive(Clone, Copy)]
+#[derive(Clone, Copy, Debug, PartialEq, Eq)]
 pub enum Stream {
     Output,
     Error,
 }
 
-// Writes a text to standard output or standard error, unless something before it could not be written; whether all was
-// written.
-pub fn put_to(rt: &HostRuntime, stream: Stream, text: &[u8], is_written: bool) -> bool {
-    if !is_written {
-        return false;
-    }
+// A text could not be written. Of standard output, why has been said on standard error.
+#[derive(Clone, Copy, Debug, PartialEq, Eq)]
+pub struct NotWritten;
+
+pub type Written = Result<(), NotWritten>;
+
+// Writes a text to standard output or standard error.
+pub fn put_to(rt: &HostRuntime, stream: Stream, text: &[u8]) -> Written {
     match stream {
-        Stream::Output => put_text(rt, text, is_written),
-        Stream::Error => rt.stderr().write_all(text).is_ok(),
+        Stream::Output => put_text(rt, text),
+        Stream::Error => rt.stderr().write_all(text).map_err(|_| NotWritten),
     }
 }
 
-// Writes a text to standard output, unless something before it could not be written; whether all was written. Why the
-// first one could not is said on standard error.
-pub fn put_text(rt: &HostRuntime, text: &[u8], is_written: bool) -> bool {
-    if !is_written {
-        return false;
-    }
+// Writes a text to standard output. Why one could not be written is said on standard error.
+pub fn put_text(rt: &HostRuntime, text: &[u8]) -> Written {
     match rt.stdout().write_all(text) {
-        Ok(()) => true,
+        Ok(()) => Ok(()),
         Err(error) => {
             put_error(rt, b"st62: standard output: ");
             put_system_error(rt, &error);
-            false
+            Err(NotWritten)
         }
-    }
-}
-
-// Writes a line's letters, without an end.
-fn put_part(rt: &HostRuntime, line: Line, is_written: bool) -> bool {
-    let mut letters = [0u8; MOST];
-    match write(line, &mut letters) {
-        LineWritten::Done(count) => {
-            if MOST < count {
-                return false;
-            }
-            put_text(rt, &letters[..count], is_written)
-        }
-        LineWritten::Refused(_) => false,
     }
 }
 
 // Writes a line and its end.
-pub fn put(rt: &HostRuntime, line: Line, is_written: bool) -> bool {
-    let is_put = put_part(rt, line, is_written);
-    put_text(rt, b"\n", is_put)
+pub fn put(rt: &HostRuntime, line: Line) -> Written {
+    put_text(rt, line.bytes())?;
+    put_text(rt, b"\n")
 }
 
 // Writes a text to standard error. One that cannot be written is lost: there is nowhere to say so.
@@ -83,9 +66,12 @@ pub fn put_system_error(rt: &HostRuntime, error: &io::Error) {
     put_error(rt, b"\n");
 }
 
-// The exit status: that of the answer, unless not all of it could be written.
-pub fn finish(status: u8, is_written: bool) -> u8
-    ensures { result ≡ exit_status status is_written }
+// How the program ends: as the answer says, unless not all of it could be written.
+pub fn finish(status: Status, written: Written) -> Status
+    ensures { code_of result ≡ exit_status (code_of status) written }
 {
-    if is_written { status } else { FAILED }
+    match written {
+        Ok(()) => status,
+        Err(NotWritten) => Status::Failed,
+    }
 }

@@ -1,21 +1,22 @@
 // The program's arguments, and what each command is handed.
 ghost use Rattle.io.specs.Counts.{IsPrefixLen};
 
+use crate::failure::Failure;
 use crate::files::file_space;
 use crate::{certify, check, help, list, play, size, trace};
 use options::Command;
-use options::command_line::{Usage, lacks, take_word};
-use options::numbers::{Parsed, byte_of, decimal_of};
-use options::wired::{Request, Wired, request_of, wired_of};
-use options::words::{HELP, PLACES, command_of};
-use reports::FAILED;
+use options::command_line::{Usage, bad_value, lacks, take_word};
+use options::places::{Place, Places};
+use options::words::command_of;
+use reports::Status;
 use std::env::FillError;
 use std::rt::Env;
 
 // The longest word is a byte shorter, as the longest path is.
 pub const WORD: usize = 4096;
 
-// Puts an argument's bytes at the start of a word; how many they are, 0 where it is missing or too long.
+// Puts an argument's bytes at the start of a word; how many they are, 0 where it is missing or too long. No Option: an
+// empty word can be given too, and, as it names no command, value or file, both are refused as what is wrong is.
 pub fn word_at(rt: &HostRuntime, argument: usize, word: &mut [u8]) -> usize
     ensures { IsPrefixLen result word.new }
 {
@@ -36,79 +37,93 @@ pub fn argument_count(rt: &HostRuntime) -> usize {
     usize::MAX
 }
 
-// The command that the first argument names.
-fn command(rt: &HostRuntime) -> Command {
+// What an argument is read as.
+pub fn read_as<T, F: FnOnce(&[u8]) -> Option<T>>(
+    rt: &HostRuntime,
+    argument: usize,
+    parse: F,
+) -> Option<T>
+    requires { F.IsAlwaysCallable parse }
+{
     let mut word = [0u8; WORD];
-    match rt.arg(1, &mut word) {
-        Ok(length) => command_of(&word[..length]),
-        Err(_) => Command::Unknown,
-    }
+    let length = word_at(rt, argument, &mut word);
+    parse(&word[..length])
+}
+
+// The argument that gives a place, which is needed.
+pub fn argument_of(places: &Places, place: Place) -> Result<usize, Usage> {
+    places.argument(place).ok_or(Usage::Missing(place))
+}
+
+// The value that an argument gives an option, which has some value only.
+pub fn value_of<T: Drop, F: FnOnce(&[u8]) -> Option<T>>(
+    rt: &HostRuntime,
+    places: &Places,
+    place: Place,
+    parse: F,
+) -> Result<T, Usage>
+    requires { F.IsAlwaysCallable parse }
+{
+    let argument = argument_of(places, place)?;
+    read_as(rt, argument, parse).ok_or(bad_value(places, place))
 }
 
 // Reads one argument into its place.
 pub fn read_argument(
     rt: &HostRuntime,
-    places: &mut [usize; PLACES],
+    places: &mut Places,
     command: Command,
     argument: usize,
-) -> Usage {
+) -> Result<(), Usage> {
     let mut word = [0u8; WORD];
     match rt.arg(argument, &mut word) {
         Ok(length) => take_word(places, command, &word[..length], argument),
-        Err(_) => Usage::TooLong(argument),
+        Err(_) => Err(Usage::TooLong(argument)),
     }
 }
 
 // The words after the command's name.
 fn read_words(
     rt: &HostRuntime,
-    places: &mut [usize; PLACES],
+    places: &mut Places,
     command: Command,
     count: usize,
-) -> Usage {
-    let mut argument = 2;
-    while argument < count {
-        let usage = read_argument(rt, places, command, argument);
-        match usage {
-            Usage::Fine => {}
-            _ => {
-                return usage;
-            }
-        }
-        argument += 1;
+) -> Result<(), Usage> {
+    for argument in 2..count {
+        read_argument(rt, places, command, argument)?;
     }
     lacks(places, command)
 }
 
 // No word stands after `--help` or `--version`.
-fn read_none(count: usize) -> Usage {
+fn read_none(count: usize) -> Result<(), Usage> {
     if 2 < count {
-        return Usage::UnknownOption(2);
+        return Err(Usage::UnknownOption(2));
     }
-    Usage::Fine
+    Ok(())
 }
 
-// Reads all arguments into their places, or finds what is wrong with them.
-pub fn read_arguments(rt: &HostRuntime, places: &mut [usize; PLACES]) -> Usage {
+// Reads all arguments into their places, or finds what is wrong with them. The first names the command.
+pub fn read_arguments(rt: &HostRuntime, places: &mut Places) -> Result<Command, Usage> {
     let count = argument_count(rt);
     if count < 2 {
-        return Usage::NoCommand;
+        return Err(Usage::NoCommand);
     }
-    let command = command(rt);
+    let Some(command) = read_as(rt, 1, |word| command_of(word)) else {
+        return Err(Usage::UnknownCommand);
+    };
     match command {
-        Command::Unknown => Usage::UnknownCommand,
-        Command::Help => read_none(count),
-        Command::Version => read_none(count),
-        _ => read_words(rt, places, command, count),
+        Command::Help | Command::Version => read_none(count)?,
+        _ => read_words(rt, places, command, count)?,
     }
+    Ok(command)
 }
 
 // Runs the command, whose arguments stand in their places. There is room for one file, which is lent to whatever reads
 // one, so that the stack has it once.
-pub fn run(rt: &HostRuntime, places: &[usize; PLACES]) -> u8 {
-    let command = command(rt);
-    if places[HELP] != 0 {
-        return help::put_help(rt, command);
+pub fn run(rt: &HostRuntime, command: Command, places: &Places) -> Result<Status, Failure> {
+    if places.has(Place::Help) {
+        return Ok(help::put_help(rt, command));
     }
     let mut file = file_space();
     match command {
@@ -118,36 +133,7 @@ pub fn run(rt: &HostRuntime, places: &[usize; PLACES]) -> u8 {
         Command::Trace => trace::run(rt, places, &mut file),
         Command::Size => size::run(rt, places, &mut file),
         Command::Play => play::run(rt, places, &mut file),
-        Command::Help => help::put_help(rt, command),
-        Command::Version => help::put_version(rt),
-        Command::Unknown => FAILED,
+        Command::Help => Ok(help::put_help(rt, command)),
+        Command::Version => Ok(help::put_version(rt)),
     }
-}
-
-// The sources that an argument names.
-pub fn wired_argument(rt: &HostRuntime, argument: usize) -> Wired {
-    let mut word = [0u8; WORD];
-    let length = word_at(rt, argument, &mut word);
-    wired_of(&word[..length])
-}
-
-// The number that an argument has.
-pub fn number_argument(rt: &HostRuntime, argument: usize) -> Parsed {
-    let mut word = [0u8; WORD];
-    let length = word_at(rt, argument, &mut word);
-    decimal_of(&word[..length])
-}
-
-// The byte that an argument has.
-pub fn byte_argument(rt: &HostRuntime, argument: usize) -> Parsed {
-    let mut word = [0u8; WORD];
-    let length = word_at(rt, argument, &mut word);
-    byte_of(&word[..length])
-}
-
-// The request that an argument has.
-pub fn request_argument(rt: &HostRuntime, argument: usize) -> Request {
-    let mut word = [0u8; WORD];
-    let length = word_at(rt, argument, &mut word);
-    request_of(&word[..length])
 }

@@ -1,8 +1,9 @@
 // Files by the arguments that name them.
-ghost use Rattle.std.specs.Prelude.{◌≡◌, length};
+ghost use Rattle.std.specs.Prelude.{◌≡◌, length, IfOk};
 ghost use Rattle.io.specs.Counts.{IsPrefixLen};
 
 use crate::arguments::{WORD, word_at};
+use crate::failure::Said;
 use reports::output::{put_error, put_system_error};
 use std::fs::File;
 use std::io::{Read, Write};
@@ -42,23 +43,29 @@ fn put_too_long(rt: &HostRuntime, path: &[u8]) {
     put_error(rt, b"longer than any image or record\n");
 }
 
-// Reads until the file ends or the buffer is full.
-fn read_rest(rt: &HostRuntime, file: &mut File, path: &[u8], buffer: &mut [u8]) -> usize
-    ensures { IsPrefixLen result buffer.new }
+// Reads until the file ends; how many bytes it has, which are fewer than the buffer.
+// A loop: each turn goes on where the last read ended, which only that read tells.
+fn read_rest(
+    rt: &HostRuntime,
+    file: &mut File,
+    path: &[u8],
+    buffer: &mut [u8],
+) -> Result<usize, Said>
+    ensures { IfOk result (λ done. IsPrefixLen done buffer.new) }
 {
     let mut done = 0;
     while done < buffer.len() {
         match file.read(&mut buffer[done..]) {
             Err(error) => {
                 put_failure(rt, path, &error);
-                return buffer.len();
+                return Err(Said);
             }
-            Ok(0) => return done,
+            Ok(0) => return Ok(done),
             Ok(more) => done += more,
         }
     }
     put_too_long(rt, path);
-    buffer.len()
+    Err(Said)
 }
 
 // A path as the system's calls take it: text, or the error of one that is none.
@@ -73,17 +80,16 @@ fn open(rt: &HostRuntime, path: &[u8]) -> io::Result<File> {
     File::open(rt, path_of(path)?)
 }
 
-// Reads the file that an argument names. A buffer that is full means that it could not be read, or is too long; why has
-// been said on standard error.
-pub fn read_file(rt: &HostRuntime, argument: usize, buffer: &mut [u8]) -> usize
-    ensures { IsPrefixLen result buffer.new }
+// Reads the file that an argument names; how many bytes it has.
+pub fn read_file(rt: &HostRuntime, argument: usize, buffer: &mut [u8]) -> Result<usize, Said>
+    ensures { IfOk result (λ done. IsPrefixLen done buffer.new) }
 {
     let mut path = [0u8; WORD];
     let length = word_at(rt, argument, &mut path);
     match open(rt, &path[..length]) {
         Err(error) => {
             put_failure(rt, &path[..length], &error);
-            buffer.len()
+            Err(Said)
         }
         Ok(mut file) => read_rest(rt, &mut file, &path[..length], buffer),
     }
@@ -109,16 +115,16 @@ fn make_named(rt: &HostRuntime, path: &[u8], content: &[u8]) -> io::Result<()> {
     make_file(rt, path_of(path)?, content)
 }
 
-// Makes the file that an argument names; whether all was written. It takes no name that exists, so that it overwrites
+// Makes the file that an argument names. It takes no name that exists, so that it overwrites
 // neither the image nor an older certificate; a file that could not be written whole is removed.
-pub fn write_file(rt: &HostRuntime, argument: usize, content: &[u8]) -> bool {
+pub fn write_file(rt: &HostRuntime, argument: usize, content: &[u8]) -> Result<(), Said> {
     let mut path = [0u8; WORD];
     let length = word_at(rt, argument, &mut path);
     match make_named(rt, &path[..length], content) {
-        Ok(()) => true,
+        Ok(()) => Ok(()),
         Err(error) => {
             put_failure(rt, &path[..length], &error);
-            false
+            Err(Said)
         }
     }
 }

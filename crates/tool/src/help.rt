@@ -2,255 +2,205 @@
 use crate::arguments::{WORD, word_at};
 use options::Command;
 use options::command_line::Usage;
-use options::words::{
-    COUNT, FILL, HELP, IMAGE, MARKS, OUTPUT, QUIET, RAW, RECORD, REQUEST, ROM, STEPS, WIRED,
-};
-use reports::output::{Stream, finish, put_error, put_text, put_to};
-use reports::{DONE, FAILED};
+use options::places::Place;
+use reports::Status;
+use reports::output::{Stream, Written, finish, put_error, put_text, put_to};
 
 // Help on `check`.
-fn put_check(rt: &HostRuntime, is_written: bool) -> bool {
-    let is_written = put_text(
+fn put_check(rt: &HostRuntime) -> Written {
+    put_text(
         rt,
         b"usage: st62 check --wired SOURCES [--marks FILE] IMAGE\n",
-        is_written,
-    );
-    let is_written = put_text(
+    )?;
+    put_text(
         rt,
         b"Says whether the program ever needs a seventh level, and how many it uses at most.\n",
-        is_written,
-    );
-    let is_written = put_text(
+    )?;
+    put_text(
         rt,
         b"Without --marks the least certificate is made, and then checked.\n",
-        is_written,
-    );
-    let is_written = put_text(
+    )?;
+    put_text(
         rt,
         b"  --wired SOURCES  every source that the program can enable, and nmi if its pin\n",
-        is_written,
-    );
-    let is_written = put_text(
-        rt,
-        b"                   can move; never assumed\n",
-        is_written,
-    );
+    )?;
+    put_text(rt, b"                   can move; never assumed\n")?;
     put_text(
         rt,
         b"  --marks FILE     a certificate, Intel HEX or raw: a mark for each ROM address\n",
-        is_written,
     )
 }
 
 // Help on `certify`.
-fn put_certify(rt: &HostRuntime, is_written: bool) -> bool {
-    let is_written = put_text(
-        rt,
-        b"usage: st62 certify --wired SOURCES IMAGE -o FILE\n",
-        is_written,
-    );
-    let is_written = put_text(
+fn put_certify(rt: &HostRuntime) -> Written {
+    put_text(rt, b"usage: st62 certify --wired SOURCES IMAGE -o FILE\n")?;
+    put_text(
         rt,
         b"Writes the least certificate that is accepted, raw, or says why there is none.\n",
-        is_written,
-    );
-    let is_written = put_text(rt, b"  --wired SOURCES  as for check\n", is_written);
+    )?;
+    put_text(rt, b"  --wired SOURCES  as for check\n")?;
     put_text(
         rt,
         b"  -o FILE          a new file, made only where there is a certificate\n",
-        is_written,
     )
 }
 
 // Help on `list`.
-fn put_list(rt: &HostRuntime, is_written: bool) -> bool {
-    let is_written = put_text(
+fn put_list(rt: &HostRuntime) -> Written {
+    put_text(
         rt,
         b"usage: st62 list [--wired SOURCES | --marks FILE] IMAGE\n",
-        is_written,
-    );
-    let is_written = put_text(
+    )?;
+    put_text(
         rt,
         b"Lists what is marked: address, bytes, instruction, mark, kind, need; what lies\nbelow 800h page by page, as 2:3F0, where there are several.\n",
-        is_written,
-    );
+    )?;
     put_text(
         rt,
         b"Without --marks the marks are made for the SOURCES, none if not given; with\nboth, --wired says nothing.\n",
-        is_written,
     )
 }
 
 // Help on `trace`.
-fn put_trace(rt: &HostRuntime, is_written: bool) -> bool {
-    let is_written = put_text(
+fn put_trace(rt: &HostRuntime) -> Written {
+    put_text(
         rt,
         b"usage: st62 trace IMAGE --steps N [--request STEP=SOURCE]...\n",
-        is_written,
-    );
-    let is_written = put_text(
+    )?;
+    put_text(
         rt,
         b"Runs a fresh machine for N steps (at most 65535), one line for each.\n",
-        is_written,
-    );
+    )?;
     put_text(
         rt,
         b"  --request STEP=SOURCE  the source asks at that step, counted from 0\n",
-        is_written,
     )
 }
 
 // Help on `size`.
-fn put_size(rt: &HostRuntime, is_written: bool) -> bool {
-    let is_written = put_text(
-        rt,
-        b"usage: st62 size IMAGE [--marks FILE] --count N\n",
-        is_written,
-    );
-    let is_written = put_text(
+fn put_size(rt: &HostRuntime) -> Written {
+    put_text(rt, b"usage: st62 size IMAGE [--marks FILE] --count N\n")?;
+    put_text(
         rt,
         b"The width in millimetres that the gauge would show for the slide count N\n",
-        is_written,
-    );
+    )?;
     put_text(
         rt,
         b"(0 to 255), and the steps. Without --marks the certificate is made. Images of 2K\nand 4K only.\n",
-        is_written,
     )
 }
 
 // Help on `play`.
-fn put_play(rt: &HostRuntime, is_written: bool) -> bool {
-    let is_written = put_text(rt, b"usage: st62 play IMAGE RECORD\n", is_written);
-    let is_written = put_text(
-        rt,
-        b"Plays a session's record on a fresh machine, and shows the last machine, or the\n",
-        is_written,
-    );
+fn put_play(rt: &HostRuntime) -> Written {
+    put_text(rt, b"usage: st62 play IMAGE RECORD\n")?;
     put_text(
         rt,
-        b"entry that ended the playing, with its reason.\n",
-        is_written,
-    )
+        b"Plays a session's record on a fresh machine, and shows the last machine, or the\n",
+    )?;
+    put_text(rt, b"entry that ended the playing, with its reason.\n")
 }
 
 // All commands.
-fn put_commands(rt: &HostRuntime, stream: Stream, is_written: bool) -> bool {
-    let is_written = put_to(
+fn put_commands(rt: &HostRuntime, stream: Stream) -> Written {
+    put_to(
         rt,
         stream,
         b"usage: st62 check   --wired SOURCES [--marks FILE] IMAGE\n",
-        is_written,
-    );
-    let is_written = put_to(
+    )?;
+    put_to(
         rt,
         stream,
         b"       st62 certify --wired SOURCES IMAGE -o FILE\n",
-        is_written,
-    );
-    let is_written = put_to(
+    )?;
+    put_to(
         rt,
         stream,
         b"       st62 list    [--wired SOURCES | --marks FILE] IMAGE\n",
-        is_written,
-    );
-    let is_written = put_to(
+    )?;
+    put_to(
         rt,
         stream,
         b"       st62 trace   IMAGE --steps N [--request STEP=SOURCE]...\n",
-        is_written,
-    );
-    let is_written = put_to(
+    )?;
+    put_to(
         rt,
         stream,
         b"       st62 size    IMAGE [--marks FILE] --count N\n",
-        is_written,
-    );
-    let is_written = put_to(
-        rt,
-        stream,
-        b"       st62 play    IMAGE RECORD\n",
-        is_written,
-    );
+    )?;
+    put_to(rt, stream, b"       st62 play    IMAGE RECORD\n")?;
     put_to(
         rt,
         stream,
         b"       st62 --help | --version | COMMAND --help\n",
-        is_written,
     )
 }
 
 // What all commands have in common.
-fn put_common(rt: &HostRuntime, is_written: bool) -> bool {
-    let is_written = put_text(
+fn put_common(rt: &HostRuntime) -> Written {
+    put_text(
         rt,
         b"IMAGE is Intel HEX (it begins with a colon), 2K or 4K; or raw bytes, 2K, 4K, or\n6K to 20K: pages of 2K, then the fixed half.\n",
-        is_written,
-    );
-    let is_written = put_text(
+    )?;
+    put_text(
         rt,
         b"SOURCES are names with commas between them, of nmi, 1, 2, 3, 4; or none.\n",
-        is_written,
-    );
-    let is_written = put_text(
+    )?;
+    put_text(
         rt,
         b"  --rom 2K|4K   the size of a HEX file's image; else by the lowest address named\n",
-        is_written,
-    );
-    let is_written = put_text(
+    )?;
+    put_text(
         rt,
         b"  --fill HH     the byte where a HEX file names none, 00 if not given\n",
-        is_written,
-    );
-    let is_written = put_text(
+    )?;
+    put_text(
         rt,
         b"  --raw         IMAGE is raw, even if it begins with a colon\n",
-        is_written,
-    );
-    let is_written = put_text(
+    )?;
+    put_text(
         rt,
         b"  --quiet       only the answer: no reason, no line of the image\n",
-        is_written,
-    );
+    )?;
     put_text(
         rt,
         b"Exit status: 0 accepted or done, 1 refused or stopped, 2 usage, input or output.\n",
-        is_written,
     )
 }
 
 // Help on a command, or on all.
-pub fn put_help(rt: &HostRuntime, command: Command) -> u8 {
-    let begun = match command {
-        Command::Check => put_check(rt, true),
-        Command::Certify => put_certify(rt, true),
-        Command::List => put_list(rt, true),
-        Command::Trace => put_trace(rt, true),
-        Command::Size => put_size(rt, true),
-        Command::Play => put_play(rt, true),
-        _ => put_commands(rt, Stream::Output, true),
-    };
-    finish(DONE, put_common(rt, begun))
+pub fn put_help(rt: &HostRuntime, command: Command) -> Status {
+    finish(Status::Done, put_help_text(rt, command))
+}
+
+fn put_help_text(rt: &HostRuntime, command: Command) -> Written {
+    match command {
+        Command::Check => put_check(rt)?,
+        Command::Certify => put_certify(rt)?,
+        Command::List => put_list(rt)?,
+        Command::Trace => put_trace(rt)?,
+        Command::Size => put_size(rt)?,
+        Command::Play => put_play(rt)?,
+        Command::Help | Command::Version => put_commands(rt, Stream::Output)?,
+    }
+    put_common(rt)
 }
 
 // The version, the toolchain, and what is proved and what is not.
-fn put_about(rt: &HostRuntime, is_written: bool) -> bool {
-    let is_written = put_text(rt, b"st62 0.1\n", is_written);
-    let is_written = put_text(rt, b"built with rattle-kit-13f\n", is_written);
-    let is_written = put_text(
+fn put_about(rt: &HostRuntime) -> Written {
+    put_text(rt, b"st62 0.1\n")?;
+    put_text(rt, b"built with rattle-kit-13f\n")?;
+    put_text(
         rt,
         b"proved: Intel HEX and listing as defined; machine, check, maker, gauge, records by the papers; every function returns\n",
-        is_written,
-    );
+    )?;
     put_text(
         rt,
         b"not proved: wording, files, terminals, the C library's calls; the toolchain's prover and compiler are trusted\n",
-        is_written,
     )
 }
 
-pub fn put_version(rt: &HostRuntime) -> u8 {
-    finish(DONE, put_about(rt, true))
+pub fn put_version(rt: &HostRuntime) -> Status {
+    finish(Status::Done, put_about(rt))
 }
 
 // An argument that is wrong: `st62: WORD: reason`.
@@ -263,48 +213,48 @@ fn put_argument(rt: &HostRuntime, argument: usize, reason: &[u8]) {
 }
 
 // The name of an option, by its place.
-fn put_name(rt: &HostRuntime, place: usize) {
+fn put_name(rt: &HostRuntime, place: Place) {
     match place {
-        WIRED => put_error(rt, b"--wired"),
-        MARKS => put_error(rt, b"--marks"),
-        OUTPUT => put_error(rt, b"-o"),
-        STEPS => put_error(rt, b"--steps"),
-        REQUEST => put_error(rt, b"--request"),
-        COUNT => put_error(rt, b"--count"),
-        ROM => put_error(rt, b"--rom"),
-        FILL => put_error(rt, b"--fill"),
-        RAW => put_error(rt, b"--raw"),
-        QUIET => put_error(rt, b"--quiet"),
-        HELP => put_error(rt, b"--help"),
-        _ => put_error(rt, b"a file"),
+        Place::Wired => put_error(rt, b"--wired"),
+        Place::Marks => put_error(rt, b"--marks"),
+        Place::Output => put_error(rt, b"-o"),
+        Place::Steps => put_error(rt, b"--steps"),
+        Place::Request => put_error(rt, b"--request"),
+        Place::Count => put_error(rt, b"--count"),
+        Place::Rom => put_error(rt, b"--rom"),
+        Place::Fill => put_error(rt, b"--fill"),
+        Place::Raw => put_error(rt, b"--raw"),
+        Place::Quiet => put_error(rt, b"--quiet"),
+        Place::Help => put_error(rt, b"--help"),
+        Place::Image | Place::Record => put_error(rt, b"a file"),
     }
 }
 
 // What is wrong with an option: `st62: OPTION: reason`.
-fn put_option(rt: &HostRuntime, place: usize, reason: &[u8]) {
+fn put_option(rt: &HostRuntime, place: Place, reason: &[u8]) {
     put_error(rt, b"st62: ");
     put_name(rt, place);
     put_error(rt, reason);
 }
 
 // What an option's value can be.
-fn put_values(rt: &HostRuntime, place: usize) {
+fn put_values(rt: &HostRuntime, place: Place) {
     match place {
-        WIRED => put_error(
+        Place::Wired => put_error(
             rt,
             b": sources are nmi, 1, 2, 3, 4 with commas between them, or none\n",
         ),
-        STEPS => put_error(rt, b": 0 to 65535\n"),
-        REQUEST => put_error(rt, b": STEP=SOURCE, a step below --steps\n"),
-        COUNT => put_error(rt, b": 0 to 255\n"),
-        ROM => put_error(rt, b": 2K or 4K\n"),
-        FILL => put_error(rt, b": two hexadecimal digits\n"),
+        Place::Steps => put_error(rt, b": 0 to 65535\n"),
+        Place::Request => put_error(rt, b": STEP=SOURCE, a step below --steps\n"),
+        Place::Count => put_error(rt, b": 0 to 255\n"),
+        Place::Rom => put_error(rt, b": 2K or 4K\n"),
+        Place::Fill => put_error(rt, b": two hexadecimal digits\n"),
         _ => put_error(rt, b": no such value\n"),
     }
 }
 
 // An option's value that it cannot have: `st62: OPTION VALUE: what it can be`.
-fn put_bad_value(rt: &HostRuntime, place: usize, argument: usize) {
+fn put_bad_value(rt: &HostRuntime, place: Place, argument: usize) {
     let mut word = [0u8; WORD];
     let length = word_at(rt, argument, &mut word);
     put_option(rt, place, b" ");
@@ -313,24 +263,23 @@ fn put_bad_value(rt: &HostRuntime, place: usize, argument: usize) {
 }
 
 // What is missing.
-fn put_missing(rt: &HostRuntime, place: usize) {
+fn put_missing(rt: &HostRuntime, place: Place) {
     match place {
-        IMAGE => put_error(rt, b"st62: no image\n"),
-        RECORD => put_error(rt, b"st62: no record\n"),
-        WIRED => put_error(
+        Place::Image => put_error(rt, b"st62: no image\n"),
+        Place::Record => put_error(rt, b"st62: no record\n"),
+        Place::Wired => put_error(
             rt,
             b"st62: --wired is missing: the wired sources are never assumed\n",
         ),
-        OUTPUT => put_error(rt, b"st62: -o is missing\n"),
-        STEPS => put_error(rt, b"st62: --steps is missing\n"),
-        COUNT => put_error(rt, b"st62: --count is missing\n"),
+        Place::Output => put_error(rt, b"st62: -o is missing\n"),
+        Place::Steps => put_error(rt, b"st62: --steps is missing\n"),
+        Place::Count => put_error(rt, b"st62: --count is missing\n"),
         _ => put_error(rt, b"st62: an option is missing\n"),
     }
 }
 
 fn put_wrong(rt: &HostRuntime, usage: Usage) {
     match usage {
-        Usage::Fine => {}
         Usage::NoCommand => put_error(rt, b"st62: no command\n"),
         Usage::UnknownCommand => put_argument(rt, 1, b": unknown command\n"),
         Usage::UnknownOption(argument) => put_argument(rt, argument, b": unknown option\n"),
@@ -339,14 +288,21 @@ fn put_wrong(rt: &HostRuntime, usage: Usage) {
         Usage::Unfit(place) => put_option(rt, place, b": not an option of this command\n"),
         Usage::Twice(place) => put_option(rt, place, b": given twice\n"),
         Usage::NoValue(place) => put_option(rt, place, b": its value is missing\n"),
-        Usage::BadValue { place, argument } => put_bad_value(rt, place, argument),
-        Usage::Missing(place) => put_missing(rt, place),
+        Usage::BadValue {
+            place,
+            argument: Some(argument),
+        } => put_bad_value(rt, place, argument),
+        Usage::BadValue {
+            place,
+            argument: None,
+        }
+        | Usage::Missing(place) => put_missing(rt, place),
     }
 }
 
 // Says what is wrong with a command line, and how it is used.
-pub fn put_usage(rt: &HostRuntime, usage: Usage) -> u8 {
+pub fn put_usage(rt: &HostRuntime, usage: Usage) -> Status {
     put_wrong(rt, usage);
-    put_commands(rt, Stream::Error, true);
-    FAILED
+    let _ = put_commands(rt, Stream::Error);
+    Status::Failed
 }

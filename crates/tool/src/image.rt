@@ -1,34 +1,34 @@
 // The image that the arguments ask for, read from its file.
 ghost use Rattle.std.specs.Prelude.{◌≤◌};
 
-use crate::arguments::{WORD, byte_argument, word_at};
+use crate::arguments::{argument_of, value_of};
+use crate::failure::Failure;
 use crate::files::{put_file_error, read_file};
-use crate::help::put_usage;
 use certificate::check::marks_in;
-use intel_hex::Fault;
+use intel_hex::{Fault, LineFault};
 use isa::rom::PROGRAM_SPACE;
-use options::command_line::bad_value;
-use options::image::{Asked, ChosenBy, ImageRead, Rom, SPACE, asked_of, bytes_of, image_of};
-use options::numbers::Parsed;
-use options::words::{FILL, IMAGE, PLACES, QUIET, RAW, ROM};
+use options::command_line::Usage;
+use options::image::{Asked, ImageError, ImageFound, Rom, SPACE, asked_of, bytes_of, image_of};
+use options::numbers::byte_of;
+use options::places::{Place, Places};
 use reports::answers::Subject;
 use reports::output::put_error;
 
-fn asked_argument(rt: &HostRuntime, argument: usize) -> Asked {
-    if argument == 0 {
-        return Asked::Nothing;
+// What `--rom` asks for, if it is given.
+fn asked_for(rt: &HostRuntime, places: &Places) -> Result<Option<Asked>, Usage> {
+    if !places.has(Place::Rom) {
+        return Ok(None);
     }
-    let mut word = [0u8; WORD];
-    let length = word_at(rt, argument, &mut word);
-    asked_of(&word[..length])
+    let asked = value_of(rt, places, Place::Rom, |word| asked_of(word))?;
+    Ok(Some(asked))
 }
 
 // The byte that `--fill` gives, 00h where it is not given.
-fn fill_argument(rt: &HostRuntime, argument: usize) -> Parsed {
-    if argument == 0 {
-        return Parsed::Number(0);
+fn fill_of(rt: &HostRuntime, places: &Places) -> Result<u8, Usage> {
+    if !places.has(Place::Fill) {
+        return Ok(0);
     }
-    byte_argument(rt, argument)
+    value_of(rt, places, Place::Fill, |word| byte_of(word))
 }
 
 // Why a HEX file's line was refused.
@@ -47,72 +47,61 @@ fn put_fault_text(rt: &HostRuntime, fault: Fault) {
     }
 }
 
-// Says why a HEX file was refused: `st62: FILE: line N: reason`.
-pub fn put_fault(rt: &HostRuntime, argument: usize, number: usize, fault: Fault) {
-    put_file_error(rt, argument);
+// Ends the line of a HEX file that was refused: `line N: reason`.
+fn put_line_fault(rt: &HostRuntime, at: LineFault) {
     put_error(rt, b"line ");
-    let _ = rt.eprint(number);
+    let _ = rt.eprint(at.line);
     put_error(rt, b": ");
-    put_fault_text(rt, fault);
+    put_fault_text(rt, at.fault);
+}
+
+// Says why a HEX file was refused: `st62: FILE: line N: reason`.
+pub fn put_fault(rt: &HostRuntime, argument: usize, at: LineFault) {
+    put_file_error(rt, argument);
+    put_line_fault(rt, at);
 }
 
 // Says on standard error why there is no image.
-fn put_image_error(rt: &HostRuntime, argument: usize, read: ImageRead) {
-    match read {
-        ImageRead::Whole { rom: _, by: _ } => {}
-        ImageRead::Fault { line, fault } => put_fault(rt, argument, line, fault),
-        ImageRead::NoSize => {
-            put_file_error(rt, argument);
-            put_error(
-                rt,
-                b"neither Intel HEX, which begins with a colon, nor a raw image of 1 to 10 halves of 2048 bytes\n",
-            );
-        }
-        ImageRead::OtherSize => {
-            put_file_error(rt, argument);
+fn put_image_error(rt: &HostRuntime, argument: usize, error: ImageError) {
+    put_file_error(rt, argument);
+    match error {
+        ImageError::Fault(at) => put_line_fault(rt, at),
+        ImageError::NoSize => put_error(
+            rt,
+            b"neither Intel HEX, which begins with a colon, nor a raw image of 1 to 10 halves of 2048 bytes\n",
+        ),
+        ImageError::OtherSize => {
             put_error(rt, b"a raw image of another size than --rom says\n");
         }
-        ImageRead::Unnamed => {
-            put_file_error(rt, argument);
+        ImageError::Unnamed => {
             put_error(rt, b"it names no address: say --rom 2K or --rom 4K\n");
         }
     }
 }
 
-fn read_image(
-    rt: &HostRuntime,
-    places: &[usize; PLACES],
-    asked: Asked,
-    fill: u8,
-    file: &mut [u8],
-    space: &mut [u8],
-) -> ImageRead {
-    let length = read_file(rt, places[IMAGE], file);
-    if length == file.len() {
-        return ImageRead::NoSize;
-    }
-    let read = image_of(&file[..length], asked, fill, places[RAW] != 0, space);
-    put_image_error(rt, places[IMAGE], read);
-    read
+// An image that was read, and the byte where a HEX file names none.
+#[derive(Clone, Copy)]
+pub struct Loaded {
+    pub found: ImageFound,
+    pub fill: u8,
 }
 
-// Reads the image that the arguments ask for. Where there is none, why has been said on standard error.
+// Reads the image that the arguments ask for.
 pub fn load_image(
     rt: &HostRuntime,
-    places: &[usize; PLACES],
+    places: &Places,
     file: &mut [u8],
     space: &mut [u8],
-) -> ImageRead {
-    let asked = asked_argument(rt, places[ROM]);
-    if let Asked::Wrong = asked {
-        put_usage(rt, bad_value(places, ROM));
-        return ImageRead::NoSize;
-    }
-    match fill_argument(rt, places[FILL]) {
-        Parsed::Number(fill) => read_image(rt, places, asked, (fill % 256) as u8, file, space),
-        Parsed::Wrong => {
-            put_usage(rt, bad_value(places, FILL));
-            ImageRead::NoSize
+) -> Result<Loaded, Failure> {
+    let asked = asked_for(rt, places)?;
+    let fill = fill_of(rt, places)?;
+    let argument = argument_of(places, Place::Image)?;
+    let length = read_file(rt, argument, file)?;
+    match image_of(&file[..length], asked, fill, places.has(Place::Raw), space) {
+        Ok(found) => Ok(Loaded { found, fill }),
+        Err(error) => {
+            put_image_error(rt, argument, error);
+            Err(Failure::Said)
         }
     }
 }
@@ -139,25 +128,13 @@ pub fn marks_start(rom: Rom) -> usize
     PROGRAM_SPACE - marks
 }
 
-// What an answer on an image is about. The fill was looked at when the image was read.
-pub fn subject_of(
-    rt: &HostRuntime,
-    places: &[usize; PLACES],
-    rom: Rom,
-    by: ChosenBy,
-    wired: u8,
-    made: bool,
-) -> Subject {
-    let fill = match fill_argument(rt, places[FILL]) {
-        Parsed::Number(fill) => (fill % 256) as u8,
-        Parsed::Wrong => 0,
-    };
+// What an answer on an image is about.
+pub fn subject_of(places: &Places, image: Loaded, wired: u8, made: bool) -> Subject {
     Subject {
-        rom,
-        by,
-        fill,
+        found: image.found,
+        fill: image.fill,
         wired,
         made,
-        quiet: places[QUIET] != 0,
+        quiet: places.has(Place::Quiet),
     }
 }

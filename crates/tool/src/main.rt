@@ -5,6 +5,7 @@
 mod arguments;
 mod certify;
 mod check;
+mod failure;
 mod files;
 mod help;
 mod image;
@@ -14,21 +15,23 @@ mod play;
 mod size;
 mod trace;
 
-use arguments::read_arguments;
-use options::command_line::Usage;
-use options::words::PLACES;
+use failure::Failure;
+use options::places::Places;
+use reports::Status;
 use std::process::ExitCode;
 
-// Does what the arguments ask for, and answers the exit status.
-fn st62(rt: &HostRuntime) -> u8 {
-    let mut places = [0usize; PLACES];
-    let usage = read_arguments(rt, &mut places);
-    if let Usage::Fine = usage {
-        return arguments::run(rt, &places);
-    }
-    help::put_usage(rt, usage)
+// Does what the arguments ask for.
+fn st62(rt: &HostRuntime) -> Result<Status, Failure> {
+    let mut places = Places::new();
+    let command = arguments::read_arguments(rt, &mut places)?;
+    arguments::run(rt, command, &places)
 }
 
 fn main(rt: HostRuntime) -> ExitCode {
-    ExitCode::from(st62(&rt))
+    let status = match st62(&rt) {
+        Ok(status) => status,
+        Err(Failure::Usage(usage)) => help::put_usage(&rt, usage),
+        Err(Failure::Said) => Status::Failed,
+    };
+    ExitCode::from(u8::from(status))
 }

@@ -1,64 +1,71 @@
 // The certificate that a command works with: from a file, or made.
+use crate::failure::Said;
 use crate::files::read_file;
 use crate::image::put_fault;
-use intel_hex::HexAnswer;
+use intel_hex::HexError;
 use isa::Refusal;
-use maker::Made;
 use maker::make::make;
 use options::image::is_hex;
-use options::words::{MARKS, PLACES};
+use options::places::{Place, Places};
 
-#[derive(Drop)]
-pub enum Marks {
-    // They stand in the lent buffer, for the check to look at.
-    Ready,
+// Why there are no marks for the check to look at.
+#[derive(Clone, Copy, Debug, PartialEq, Eq)]
+pub enum NoMarks {
     Refused(Refusal),
-    // Why has been said on standard error.
+    // A file failed, and why has been said on standard error.
     Failed,
+}
+
+impl From<Refusal> for NoMarks {
+    fn from(refusal: Refusal) -> NoMarks {
+        NoMarks::Refused(refusal)
+    }
+}
+
+impl From<Said> for NoMarks {
+    fn from(_: Said) -> NoMarks {
+        NoMarks::Failed
+    }
 }
 
 // Marks of a file's bytes: Intel HEX, each at the address that it marks, or raw, one for each byte of the image. No
 // mark is 3Ah, so raw marks that may be accepted do not begin with a colon.
-fn marks_of(rt: &HostRuntime, file: &[u8], argument: usize, marks: &mut [u8]) -> Marks {
+fn marks_of(
+    rt: &HostRuntime,
+    file: &[u8],
+    argument: usize,
+    marks: &mut [u8],
+) -> Result<(), NoMarks> {
     if !is_hex(file, false) {
         if file.len() != marks.len() {
-            return Marks::Refused(Refusal::CertificateLength);
+            return Err(NoMarks::Refused(Refusal::CertificateLength));
         }
-        slices::copy(file, marks);
-        return Marks::Ready;
+        marks.copy_from_slice(file);
+        return Ok(());
     }
     match intel_hex::read::read(file, 0, marks) {
-        HexAnswer::Read { lowest: _ } => Marks::Ready,
-        HexAnswer::Refused { line, fault } => {
-            put_fault(rt, argument, line, fault);
-            Marks::Failed
+        Ok(_) => Ok(()),
+        Err(HexError::Line(at)) => {
+            put_fault(rt, argument, at);
+            Err(NoMarks::Failed)
         }
-        HexAnswer::ImageLength => Marks::Refused(Refusal::ImageLength),
+        Err(HexError::ImageLength) => Err(NoMarks::Refused(Refusal::ImageLength)),
     }
 }
 
-fn read_marks(rt: &HostRuntime, argument: usize, file: &mut [u8], marks: &mut [u8]) -> Marks {
-    let length = read_file(rt, argument, file);
-    if length == file.len() {
-        return Marks::Failed;
-    }
-    marks_of(rt, &file[..length], argument, marks)
-}
-
-// The marks that the arguments give, or else those that the maker makes.
+// Puts the marks that the arguments give, or else those that the maker makes, into a buffer.
 pub fn load_marks(
     rt: &HostRuntime,
-    places: &[usize; PLACES],
+    places: &Places,
     file: &mut [u8],
     image: &[u8],
     wired: u8,
     marks: &mut [u8],
-) -> Marks {
-    if places[MARKS] != 0 {
-        return read_marks(rt, places[MARKS], file, marks);
-    }
-    match make(image, wired, marks) {
-        Made::Written(_) => Marks::Ready,
-        Made::Refused(refusal) => Marks::Refused(refusal),
-    }
+) -> Result<(), NoMarks> {
+    let Some(argument) = places.argument(Place::Marks) else {
+        make(image, wired, marks)?;
+        return Ok(());
+    };
+    let length = read_file(rt, argument, file)?;
+    marks_of(rt, &file[..length], argument, marks)
 }

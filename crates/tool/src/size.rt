@@ -1,69 +1,77 @@
 // `st62 size`: the width that the gauge would show for a slide count.
-use crate::arguments::number_argument;
-use crate::help::put_usage;
+use crate::arguments::value_of;
+use crate::failure::Failure;
 use crate::image::{image_start, load_image, marks_start, subject_of};
-use crate::marks::{Marks, load_marks};
-use gauge::Sizing;
+use crate::marks::{NoMarks, load_marks};
+use gauge::Measured;
 use gauge::width::width;
 use isa::rom::PROGRAM_SPACE;
 use listing::Line;
 use options::command_line::bad_value;
-use options::image::{ImageRead, SPACE};
-use options::numbers::Parsed;
-use options::words::{COUNT, MARKS, PLACES};
+use options::image::SPACE;
+use options::numbers::decimal_of;
+use options::places::{Place, Places};
+use reports::Status;
 use reports::answers::{Subject, put_end, put_refusal};
 use reports::machine_lines::counted;
-use reports::output::{finish, put};
-use reports::{DONE, FAILED};
+use reports::output::{Written, finish, put};
 
 // Tenths of a millimetre as millimetres with one decimal, and the steps.
-fn put_width(rt: &HostRuntime, image: &[u8], subject: Subject, tenths: u16, steps: u16) -> u8 {
+fn put_width(rt: &HostRuntime, image: &[u8], subject: Subject, measured: Measured) -> Written {
     let line = Line::new()
-        .decimal((tenths / 10) as u32)
+        .decimal(u32::from(measured.width / 10))
         .letter(b'.')
-        .decimal((tenths % 10) as u32)
+        .decimal(u32::from(measured.width % 10))
         .word(b" mm, ");
-    let begun = put(rt, counted(line, steps as u32, b"step"), true);
-    finish(DONE, put_end(rt, image, subject, begun))
+    put(rt, counted(line, u32::from(measured.steps), b"step"))?;
+    put_end(rt, image, subject)
 }
 
-fn put_sizing(rt: &HostRuntime, image: &[u8], marks: &mut [u8], subject: Subject, count: u8) -> u8 {
+fn put_sizing(
+    rt: &HostRuntime,
+    image: &[u8],
+    marks: &mut [u8],
+    subject: Subject,
+    count: u8,
+) -> Status {
     match width(image, marks, count) {
-        Sizing::Measured { width, steps } => put_width(rt, image, subject, width, steps),
-        Sizing::Refused(refusal) => put_refusal(rt, image, marks, subject, refusal),
+        Ok(measured) => finish(Status::Done, put_width(rt, image, subject, measured)),
+        Err(refusal) => put_refusal(rt, image, marks, subject, refusal),
     }
 }
 
 // An image with pages is the gauge's to refuse, before marks are read or made.
 fn answer(
     rt: &HostRuntime,
-    places: &[usize; PLACES],
+    places: &Places,
     file: &mut [u8],
     image: &[u8],
     marks: &mut [u8],
     subject: Subject,
     count: u8,
-) -> u8 {
+) -> Status {
     if PROGRAM_SPACE < image.len() {
         return put_sizing(rt, image, marks, subject, count);
     }
     match load_marks(rt, places, file, image, 0, marks) {
-        Marks::Ready => put_sizing(rt, image, marks, subject, count),
-        Marks::Refused(refusal) => put_refusal(rt, image, marks, subject, refusal),
-        Marks::Failed => FAILED,
+        Ok(()) => put_sizing(rt, image, marks, subject, count),
+        Err(NoMarks::Refused(refusal)) => put_refusal(rt, image, marks, subject, refusal),
+        Err(NoMarks::Failed) => Status::Failed,
     }
 }
 
-fn size_image(rt: &HostRuntime, places: &[usize; PLACES], file: &mut [u8], count: u8) -> u8 {
+pub fn run(rt: &HostRuntime, places: &Places, file: &mut [u8]) -> Result<Status, Failure> {
+    let number = value_of(rt, places, Place::Count, |word| decimal_of(word))?;
+    let Ok(count) = u8::try_from(number) else {
+        return Err(Failure::Usage(bad_value(places, Place::Count)));
+    };
     let mut space = [0u8; SPACE];
     let mut marks = [0u8; 4096];
-    let ImageRead::Whole { rom, by } = load_image(rt, places, file, &mut space) else {
-        return FAILED;
-    };
-    let subject = subject_of(rt, places, rom, by, 0, places[MARKS] == 0);
-    let first = image_start(rom);
-    let first_mark = marks_start(rom);
-    answer(
+    let image = load_image(rt, places, file, &mut space)?;
+    let subject = subject_of(places, image, 0, !places.has(Place::Marks));
+    let first = image_start(image.found.rom);
+    let first_mark = marks_start(image.found.rom);
+    Ok(answer(
         rt,
         places,
         file,
@@ -71,17 +79,5 @@ fn size_image(rt: &HostRuntime, places: &[usize; PLACES], file: &mut [u8], count
         &mut marks[first_mark..],
         subject,
         count,
-    )
-}
-
-pub fn run(rt: &HostRuntime, places: &[usize; PLACES], file: &mut [u8]) -> u8 {
-    match number_argument(rt, places[COUNT]) {
-        Parsed::Number(count) => {
-            if 255 < count {
-                return put_usage(rt, bad_value(places, COUNT));
-            }
-            size_image(rt, places, file, count as u8)
-        }
-        Parsed::Wrong => put_usage(rt, bad_value(places, COUNT)),
-    }
+    ))
 }

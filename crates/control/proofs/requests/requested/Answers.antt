@@ -1,83 +1,29 @@
--- `requests::requested` meets its contract.
+-- `requests::requested` meets its contract: the sources from the index on give the result.
+use Rattle.std.proofs.Common.{◌≤◌, refl, sym, ◌∙◌, arith}
+use Rattle.std.proofs.lemmas.List.{at_drop_all}
 use Rattle.control.specs.Requests.{requested_of}
+use Rattle.control.proofs.FirstTaken.{sources, first_taken, first_at}
 use Rattle.control.proofs.requests.requested.Goals as goal
 
 pub returns-then-request-eq0 : goal.returns-then-request-eq0
 unfolding requested_of
 returns-then-request-eq0 c = rw c.if-request-eq0.true
 
+pub loop-source-init : goal.loop-source-init
+unfolding requested_of
+loop-source-init c = refl
+
 pub returns-then-is_taken : goal.returns-then-is_taken
-unfolding requested_of
 returns-then-is_taken c =
-    rw (
-      ← c.is_taken.ensures,
-      c.if-is_taken.true,
-    )
+    let e = sym c.if-is_taken.true ∙ c.is_taken.ensures in
+    sym (first_at _ _ _ sources _ _ c.loop-source-test.true e) ∙ c.loop-source.invariant
 
-pub returns-then-is_taken-2 : goal.returns-then-is_taken-2
-unfolding requested_of
-returns-then-is_taken-2 c =
-    rw (
-      ← c.is_taken.ensures,
-      c.if-is_taken.false,
-      ← c.is_taken-2.ensures,
-      c.if-is_taken-2.true,
-    )
-
-pub returns-then-is_taken-3 : goal.returns-then-is_taken-3
-unfolding requested_of
-returns-then-is_taken-3 c =
-    rw (
-      ← c.is_taken.ensures,
-      c.if-is_taken.false,
-      ← c.is_taken-2.ensures,
-      c.if-is_taken-2.false,
-      ← c.is_taken-3.ensures,
-      c.if-is_taken-3.true,
-    )
-
-pub returns-then-is_taken-4 : goal.returns-then-is_taken-4
-unfolding requested_of
-returns-then-is_taken-4 c =
-    rw (
-      ← c.is_taken.ensures,
-      c.if-is_taken.false,
-      ← c.is_taken-2.ensures,
-      c.if-is_taken-2.false,
-      ← c.is_taken-3.ensures,
-      c.if-is_taken-3.false,
-      ← c.is_taken-4.ensures,
-      c.if-is_taken-4.true,
-    )
-
-pub returns-then-is_taken-5 : goal.returns-then-is_taken-5
-unfolding requested_of
-returns-then-is_taken-5 c =
-    rw (
-      ← c.is_taken.ensures,
-      c.if-is_taken.false,
-      ← c.is_taken-2.ensures,
-      c.if-is_taken-2.false,
-      ← c.is_taken-3.ensures,
-      c.if-is_taken-3.false,
-      ← c.is_taken-4.ensures,
-      c.if-is_taken-4.false,
-      ← c.is_taken-5.ensures,
-      c.if-is_taken-5.true,
-    )
+pub loop-source-preserved : goal.loop-source-preserved
+loop-source-preserved c =
+    let e = sym c.if-is_taken.false ∙ c.is_taken.ensures in
+    sym (first_at _ _ _ sources _ _ c.loop-source-test.true e) ∙ c.loop-source.invariant
 
 pub returns : goal.returns
-unfolding requested_of
 returns c =
-    rw (
-      ← c.is_taken.ensures,
-      c.if-is_taken.false,
-      ← c.is_taken-2.ensures,
-      c.if-is_taken-2.false,
-      ← c.is_taken-3.ensures,
-      c.if-is_taken-3.false,
-      ← c.is_taken-4.ensures,
-      c.if-is_taken-4.false,
-      ← c.is_taken-5.ensures,
-      c.if-is_taken-5.false,
-    )
+    let past : 5 ≤ c.loop-source.source-index = omega arith in
+    sym (at_drop_all (first_taken c.args.mode c.args.enabled c.args.request) sources _ past) ∙ c.loop-source.invariant

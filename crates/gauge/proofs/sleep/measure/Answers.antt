@@ -14,12 +14,12 @@ first_sleep-slept-requires c =
     let loop = c.loop-i in
     let room : loop.i * 1285 + 1285 ≤ 65535 = omega arith in
     let finds = asleep_then c.args.image.now c.args.m c.requires (loop.i * 1285) room loop.held
-    loop.invariant.reached (ran_of c.run-ran.result) c.run-ran.ensures c.is_asleep.result c.is_asleep.ensures in
+    loop.invariant.reached (ran_of c.run.result) c.run.ensures in
     sleeps_within c.args.image.now c.args.m c.requires (loop.i * 1285) room loop.held
-    loop.invariant.reached (finds ∙ c.if-is_asleep.true)
+    loop.invariant.reached (finds ∙ c.if-after.true)
 
-pub returns-then-is_asleep : goal.returns-then-is_asleep
-returns-then-is_asleep c =
+pub returns-then-after : goal.returns-then-after
+returns-then-after c =
     let loop = c.loop-i in
     let room : loop.i * 1285 + 1285 ≤ 65535 = omega arith in
     found c.args.image.now c.args.m c.requires (loop.i * 1285) room loop.held
@@ -31,14 +31,14 @@ loop-i-preserved c =
     let loop = c.loop-i in
     let room : loop.i * 1285 + 1285 ≤ 65535 = omega arith in
     let finds = asleep_then c.args.image.now c.args.m c.requires (loop.i * 1285) room loop.held
-    loop.invariant.reached (ran_of c.run-ran.result) c.run-ran.ensures c.is_asleep.result c.is_asleep.ensures in
+    loop.invariant.reached (ran_of c.run.result) c.run.ensures in
     let next : loop.i * 1285 + 1285 ≡ (loop.i + 1) * 1285 = omega arith in
     record {
       reached =
           run_on c.args.image.now c.args.m c.requires (loop.i * 1285) room loop.held loop.invariant.reached
-          (ran_of c.run-ran.result) c.run-ran.ensures
+          (ran_of c.run.result) c.run.ensures
           ∙ ap (machine_after c.args.image.now c.args.m) next;
-      awake = ap (asleep_after c.args.image.now c.args.m) (sym next) ∙ finds ∙ c.if-is_asleep.false;
+      awake = ap (asleep_after c.args.image.now c.args.m) (sym next) ∙ finds ∙ c.if-after.false;
     }
 
 pub returns : goal.returns

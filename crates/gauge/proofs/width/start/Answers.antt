@@ -8,5 +8,5 @@ use Rattle.gauge.proofs.width.start.Goals as goal
 pub returns : goal.returns
 unfolding start_of
 returns c =
-    ap (λ (s : HostStore). s.machine) c.host_store-stored.ensures
+    ap (λ (s : HostStore). s.machine) c.host_store.ensures
     ∙ ap (λ (m : Machine). (host_store_of m 0xC0 c.args.count).machine) c.fresh.ensures

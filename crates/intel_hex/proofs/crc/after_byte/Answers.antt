@@ -1,18 +1,24 @@
--- `crc::after_byte` meets its contract. The loop's invariant: the bits from i on decide.
-use Prim.Native.Nat.{◌+◌, ◌-◌}
-use native.Mathlib.Omega.{arith}
-use mathlib.Core.Path.{◌≡◌, ◌∙◌}
-use Rattle.intel_hex.proofs.CrcLaws.{bit_more, no_bits}
+-- `crc::after_byte` meets its contract.
+use Rattle.std.proofs.Common.{ℕ, zero, suc, ◌≡◌, ◌+◌, ◌-◌, ◌<◌, ◌∙◌, arith, refl}
+use Rattle.intel_hex.specs.Crc.{after_bit, after_bits}
 use Rattle.intel_hex.proofs.crc.after_byte.Goals as goal
 
-pub loop-i-preserved : goal.loop-i-preserved
-loop-i-preserved c =
-    let loop = c.loop-i in
-    let less : 8 - (loop.i + 1) ≡ 8 - loop.i - 1 = omega arith in
-    (omega arith, rw (less, c.after_bit-r.ensures) (bit_more (8 - loop.i) loop.r (omega arith) ∙ loop.invariant.1))
+bit_more : (n register : ℕ) → 0 < n → after_bits (n - 1) (after_bit register) ≡ after_bits n register
+unfolding after_bits
+bit_more zero r h = absurd (omega arith)
+bit_more (suc n) r h = let one : suc n - 1 ≡ n = omega arith in rw one
+
+no_bits : (register : ℕ) → register ≡ after_bits 0 register
+unfolding after_bits
+no_bits r = refl
+
+pub loop-preserved : goal.loop-preserved
+loop-preserved c =
+    let less : 8 - (c.loop.counter + 1) ≡ 8 - c.loop.counter - 1 = omega arith in
+    rw (less, c.after_bit-r.ensures)
+    (bit_more (8 - c.loop.counter) c.loop.r (omega arith) ∙ c.loop.invariant)
 
 pub returns : goal.returns
 returns c =
-    let loop = c.loop-i in
-    let all : 8 - loop.i ≡ 0 = omega arith in
-    no_bits loop.r ∙ (rw all at loop.invariant.1)
+    let all : 8 - c.loop.counter ≡ 0 = omega arith in
+    no_bits c.loop.r ∙ (rw all at c.loop.invariant)

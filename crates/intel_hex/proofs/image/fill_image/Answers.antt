@@ -1,34 +1,17 @@
--- `image::fill_image` meets its contract. The loop's invariant: the first i bytes are written.
-use Prim.Native.Nat.{◌<◌}
-use native.Mathlib.Omega.{arith}
-use mathlib.Core.Path.{◌≡◌, sym, ◌∙◌}
-use lib.ListN.{length, get_or, length-set}
+-- `image::fill_image` meets its contract.
+use Rattle.std.proofs.Common.{◌≡◌, ◌<◌, ◌∙◌, sym, arith, length}
+use Rattle.std.proofs.Math.Seq.{ext_get_or}
 use Rattle.intel_hex.specs.Image.{filled}
-use Rattle.intel_hex.proofs.ImageLaws.{filled_length, filled_at, stored, stored_all}
+use Rattle.intel_hex.proofs.ImageLaws.{filled_length, filled_at}
 use Rattle.intel_hex.proofs.image.fill_image.Goals as goal
-
-pub loop-i-preserved : goal.loop-i-preserved
-loop-i-preserved c =
-    let args = c.args in
-    let loop = c.loop-i in
-    let size = length args.image.now in
-    let new = filled args.fill args.memory.now args.first size in
-    let less : loop.i < size = omega (arith, c.loop-i-test.true, loop.invariant.1) in
-    let here : c.value_of.result ≡ get_or new loop.i 0 =
-    c.value_of.ensures ∙ sym (filled_at args.fill args.memory.now args.first size loop.i less) in (
-      omega arith,
-      length-set loop.image loop.i c.value_of.result ∙ loop.invariant.1,
-      rw (here, loop.invariant.2)
-          (stored new args.image.now loop.i
-          (rw (filled_length args.fill args.memory.now args.first size) less) less),
-    )
 
 pub returns : goal.returns
 returns c =
     let args = c.args in
-    let loop = c.loop-i in
     let size = length args.image.now in
-    let all : loop.i ≡ size = omega (arith, loop.invariant.1) in
-    loop.invariant.2
-    ∙ stored_all (filled args.fill args.memory.now args.first size) args.image.now loop.i all
-    (all ∙ sym (filled_length args.fill args.memory.now args.first size))
+    let all : length c.loop-i.image ≡ length (filled args.fill args.memory.now args.first size) =
+    c.loop-i.auto.image ∙ sym (filled_length args.fill args.memory.now args.first size) in
+    ext_get_or 0 c.loop-i.image (filled args.fill args.memory.now args.first size) all
+    (λ k h.
+    let within : k < size = omega (arith, h, c.loop-i.auto.image) in
+    c.loop-i.invariant k (omega arith) ∙ sym (filled_at args.fill args.memory.now args.first size k within))

@@ -1,24 +1,18 @@
--- `image::lowest_of` meets its contract. The loop's invariant: the cells from i on decide.
-use Prim.Native.Nat.{◌+◌, ◌-◌}
-use native.Mathlib.Omega.{arith}
-use mathlib.Core.Path.{◌≡◌, sym, ◌∙◌}
-use Rattle.intel_hex.proofs.ImageLaws.{named_here, named_later, named_none}
+-- `image::lowest_of` meets its contract: where the first named cell is.
+use Rattle.std.proofs.Common.{ℕ, ap, rules, tests}
+use Rattle.std.specs.Prelude.{Option, is_some, unwrap_or}
+use Rattle.std.proofs.lemmas.Iterator.{YieldsList-from_slice}
+use Rattle.std.proofs.lemmas.Iterator.Search.{position_from_yields_List}
 use Rattle.intel_hex.proofs.image.lowest_of.Goals as goal
 
-pub returns-then-memory-i-lt256 : goal.returns-then-memory-i-lt256
-returns-then-memory-i-lt256 c =
-    let loop = c.loop-i in
-    named_here c.args.memory.now loop.i (4096 - loop.i) (omega arith) c.if-memory-i-lt256.true ∙ loop.invariant.1
+pub returns-in-Some : goal.returns-in-Some
+returns-in-Some c =
+    ap (λ (o : Option ℕ). unwrap_or o 4096)
+    (position_from_yields_List is_some _ _ _ c.in-Some.ensures.ran (YieldsList-from_slice c.args.memory.now cc)
+    (λ x b q k. search (rules, tests)))
 
-pub loop-i-preserved : goal.loop-i-preserved
-loop-i-preserved c =
-    let loop = c.loop-i in
-    let less : 4096 - (loop.i + 1) ≡ 4096 - loop.i - 1 = omega arith in
-    let later = named_later c.args.memory.now loop.i (4096 - loop.i) (omega arith) c.if-memory-i-lt256.false in
-    (omega arith, rw less (later ∙ loop.invariant.1))
-
-pub returns : goal.returns
-returns c =
-    let loop = c.loop-i in
-    let all : loop.i ≡ 4096 = omega arith in
-    sym (named_none c.args.memory.now 4096) ∙ (rw all at loop.invariant.1)
+pub returns-in-None : goal.returns-in-None
+returns-in-None c =
+    ap (λ (o : Option ℕ). unwrap_or o 4096)
+    (position_from_yields_List is_some _ _ _ c.in-None.ensures.ran (YieldsList-from_slice c.args.memory.now cc)
+    (λ x b q k. search (rules, tests)))

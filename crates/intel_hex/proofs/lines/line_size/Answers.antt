@@ -1,25 +1,22 @@
--- `lines::line_size` meets its contract. The loop's invariant: i, and the size from i on, make the size.
-use native.Mathlib.Omega.{arith}
-use mathlib.Core.Path.{ap}
-use lib.ListN.{drop_of_length-le}
-use Rattle.intel_hex.specs.Lines.{line_size}
-use Rattle.intel_hex.proofs.LineLaws.{size_ends, size_more, size_none}
+-- `lines::line_size` meets its contract: by where the line's end is found.
+use Rattle.std.proofs.Common.{ℕ, ◌+◌, ◌∙◌, ap, length, rules, tests}
+use Rattle.std.specs.Prelude.{Option}
+use Rattle.std.specs.Option.{option_map_or}
+use Rattle.std.proofs.lemmas.Iterator.{YieldsList-from_slice}
+use Rattle.std.proofs.lemmas.Iterator.Search.{position_from_yields_List}
+use Rattle.intel_hex.proofs.LineLaws.{is_end, size_by_end}
 use Rattle.intel_hex.proofs.lines.line_size.Goals as goal
 
-pub returns-then-text-i-eq10 : goal.returns-then-text-i-eq10
-returns-then-text-i-eq10 c =
-    let loop = c.loop-i in
-    omega
-    (arith, loop.invariant.1, size_ends c.args.text.now loop.i c.loop-i-test.true c.if-text-i-eq10.true)
+pub returns-in-Some : goal.returns-in-Some
+returns-in-Some c =
+    ap (λ (o : Option ℕ). option_map_or (λ at. at + 1) o (length c.args.text.now))
+    (position_from_yields_List is_end _ _ _ c.in-Some.ensures.ran (YieldsList-from_slice c.args.text.now cc)
+    (λ x b q k. search (rules, tests)))
+    ∙ size_by_end c.args.text.now
 
-pub loop-i-preserved : goal.loop-i-preserved
-loop-i-preserved c =
-    let loop = c.loop-i in
-    let more = size_more c.args.text.now loop.i c.loop-i-test.true c.if-text-i-eq10.false in
-    (omega arith, omega (arith, loop.invariant.1, more))
-
-pub returns : goal.returns
-returns c =
-    let loop = c.loop-i in
-    let over = drop_of_length-le c.args.text.now {i = loop.i} (omega arith) in
-    omega (arith, loop.invariant.1, ap line_size over, size_none)
+pub returns-in-None : goal.returns-in-None
+returns-in-None c =
+    ap (λ (o : Option ℕ). option_map_or (λ at. at + 1) o (length c.args.text.now))
+    (position_from_yields_List is_end _ _ _ c.in-None.ensures.ran (YieldsList-from_slice c.args.text.now cc)
+    (λ x b q k. search (rules, tests)))
+    ∙ size_by_end c.args.text.now

@@ -1,79 +1,65 @@
--- `lines::read_lines` meets its contract. The loop's invariant: the lines from here on decide.
-use Prim.Native.Nat.{◌≤◌}
-use native.Mathlib.Omega.{arith}
-use mathlib.Core.Path.{sym, ◌∙◌}
-use lib.ListN.{length, take}
-use lib.Seq.{length-take-le}
-use Rattle.intel_hex.proofs.LineLaws.{size_within, rest_less}
-use Rattle.intel_hex.proofs.ReadLaws.{line_faulty, line_on, turn_refused, turn_on, text_ends, text_breaks, number_next}
+-- `lines::read_lines` meets its contract.
+use Rattle.std.proofs.Common.{ℕ, ◌≡◌, ◌<◌, ◌∙◌, sym, arith, length, take}
+use borrow.Author.Tests.{eqb-true, eqb-false}
+use Rattle.intel_hex.specs.Lines.{without_last}
+use Rattle.intel_hex.proofs.LineLaws.{size_within, size_some}
+use Rattle.intel_hex.proofs.ReadLaws.{line_faulty, line_on, turn_refused, turn_on, text_ends, text_breaks}
 use Rattle.intel_hex.proofs.lines.read_lines.Goals as goal
 
-pub slice_bounds-without_last-end : goal.slice_bounds-without_last-end
-slice_bounds-without_last-end c =
-    let rest = c.loop-rest.rest.now in
-    let within : c.line_size-size.result ≤ length rest = rw c.line_size-size.ensures
-    (size_within rest) in
-    sym (length-take-le c.line_size-size.result rest within)
+not_zero : (n : ℕ) → (n ≡ 0 → ⊥) → 0 < n
+not_zero n h = omega arith
 
-pub returns-in-Faulty : goal.returns-in-Faulty
-returns-in-Faulty c =
-    let args = c.args in
+pub split_at-requires : goal.split_at-requires
+split_at-requires c = rw c.line_size.ensures (size_within c.loop-rest.rest.now)
+
+pub returns-in-Err : goal.returns-in-Err
+returns-in-Err c =
     let loop = c.loop-rest in
-    let size = c.line_size-size in
-    let called = c.take_line-taken in
-    let raw = take size.result loop.rest.now in
+    let size = c.line_size.result in
+    let raw = take size loop.rest.now in
+    let cut : c.without_last.result.now ≡ without_last 10 raw = rw (← c.split_at.ensures.front) c.without_last.ensures in
+    let some : 0 < length loop.rest.now =
+    not_zero _ (eqb-false _ _ (sym c.is_empty.ensures ∙ c.loop-rest-test.true)) in
     let faulted =
-    line_faulty args.first loop.ended loop.memory raw c.without_last.result.now
-    c.without_last-line.result.now c.without_last.ensures
-    c.without_last-line.ensures called.result
-    called.new.memory called.ensures c.in-Faulty.fault c.in-Faulty.is in
-    turn_refused args.first loop.ended loop.number loop.memory loop.rest.now size.result
-    c.loop-rest-test.true size.ensures c.in-Faulty.fault faulted
+    line_faulty c.args.first loop.ended loop.memory raw c.without_last.result.now c.without_last-line.result.now cut
+    c.without_last-line.ensures c.take_line.result c.take_line.new.memory c.take_line.ensures c.in-Err.fault
+    c.in-Err.is in
+    turn_refused c.args.first loop.ended loop.number loop.memory loop.rest.now size some c.line_size.ensures
+    c.in-Err.fault faulted
     ∙ loop.invariant.1
-
-pub slice_bounds-rest-count : goal.slice_bounds-rest-count
-slice_bounds-rest-count c = rw c.line_size-size.ensures (size_within c.loop-rest.rest.now)
-
-pub slice_bounds-rest-start : goal.slice_bounds-rest-start
-slice_bounds-rest-start c =
-    let within : c.line_size-size.result ≤ length c.loop-rest.rest.now = rw c.line_size-size.ensures (size_within c.loop-rest.rest.now) in
-    omega arith
 
 pub loop-rest-smaller : goal.loop-rest-smaller
 loop-rest-smaller c =
     let rest = c.loop-rest.rest.now in
-    let size = c.line_size-size in
-    rest_less rest size.result c.loop-rest-test.true size.ensures
+    let some : 0 < length rest = not_zero _ (eqb-false _ _ (sym c.is_empty.ensures ∙ c.loop-rest-test.true)) in
+    omega (arith, c.split_at.ensures.back_len, c.line_size.ensures, size_some rest some)
 
 pub loop-rest-preserved : goal.loop-rest-preserved
 loop-rest-preserved c =
-    let args = c.args in
     let loop = c.loop-rest in
-    let size = c.line_size-size in
-    let called = c.take_line-taken in
-    let raw = take size.result loop.rest.now in
+    let size = c.line_size.result in
+    let raw = take size loop.rest.now in
+    let cut : c.without_last.result.now ≡ without_last 10 raw = rw (← c.split_at.ensures.front) c.without_last.ensures in
+    let some : 0 < length loop.rest.now =
+    not_zero _ (eqb-false _ _ (sym c.is_empty.ensures ∙ c.loop-rest-test.true)) in
     let passed =
-    line_on args.first loop.ended loop.memory raw c.without_last.result.now
-    c.without_last-line.result.now c.without_last.ensures
-    c.without_last-line.ensures called.result
-    called.new.memory called.ensures c.in-On.on c.in-On.is in
-    let less = rest_less loop.rest.now size.result c.loop-rest-test.true size.ensures in (
-      number_next loop.number _ (length loop.rest.now) (length args.text.now) less loop.invariant.0,
-      turn_on args.first loop.ended loop.number loop.memory loop.rest.now size.result
-          c.loop-rest-test.true size.ensures c.in-On.on called.new.memory passed
+    line_on c.args.first loop.ended loop.memory raw c.without_last.result.now c.without_last-line.result.now cut
+    c.without_last-line.ensures c.take_line.result c.take_line.new.memory c.take_line.ensures c.in-Ok.on c.in-Ok.is in (
+      omega (arith, c.split_at.ensures.back_len, c.line_size.ensures, size_some loop.rest.now some),
+      rw c.split_at.ensures.back
+          (turn_on c.args.first loop.ended loop.number loop.memory loop.rest.now size some c.line_size.ensures
+          c.in-Ok.on c.take_line.new.memory passed)
           ∙ loop.invariant.1,
     )
 
-pub returns-then-not-ended : goal.returns-then-not-ended
-returns-then-not-ended c =
-    let args = c.args in
+pub returns-then-ended : goal.returns-then-ended
+returns-then-ended c =
     let loop = c.loop-rest in
-    text_breaks args.first loop.number loop.memory loop.rest.now (omega arith)
-    ∙ (rw (c.if-not-ended.true) at loop.invariant.1)
+    let none = eqb-true (length loop.rest.now) 0 (sym c.is_empty.ensures ∙ c.loop-rest-test.false) in
+    text_ends c.args.first loop.number loop.memory loop.rest.now none ∙ (rw c.if-ended.true at loop.invariant.1)
 
-pub returns : goal.returns
-returns c =
-    let args = c.args in
+pub returns-else-ended : goal.returns-else-ended
+returns-else-ended c =
     let loop = c.loop-rest in
-    text_ends args.first loop.number loop.memory loop.rest.now (omega arith)
-    ∙ (rw (c.if-not-ended.false) at loop.invariant.1)
+    let none = eqb-true (length loop.rest.now) 0 (sym c.is_empty.ensures ∙ c.loop-rest-test.false) in
+    text_breaks c.args.first loop.number loop.memory loop.rest.now none ∙ (rw c.if-ended.false at loop.invariant.1)

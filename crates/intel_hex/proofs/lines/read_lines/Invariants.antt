@@ -1,8 +1,5 @@
 -- `lines::read_lines` meets its contract. The loop's invariant: the lines from here on decide.
-use Prim.Native.Nat.{◌+◌, ◌≤◌}
-use mathlib.Core.Path.{◌≡◌}
-use mathlib.Core.Bool.{false}
-use lib.ListN.{length}
+use Rattle.std.proofs.Common.{◌≡◌, ◌+◌, ◌≤◌, false, length}
 use Rattle.intel_hex.specs.Lines.{lines_of}
 use Rattle.intel_hex.specs.Read.{after_lines}
 use Rattle.intel_hex.proofs.lines.read_lines.Given as goal

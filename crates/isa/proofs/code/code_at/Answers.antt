@@ -9,14 +9,13 @@ use Rattle.isa.proofs.ThreeBytes.{read_three}
 use Rattle.isa.proofs.code.code_at.Goals as goal
 
 pub returns : goal.returns
-returns c h low map =
-    let start = c.before.before.before.before.before.before.before in
-    let part = c.half-part in
-    let page = start.args.page.now in
-    let fixed = start.args.fixed.now in
-    let a = start.args.address in
-    let fits : a % 2048 + 3 ≤ length (half_of page fixed a) = rw part.ensures at c.if-part-at.false in
-    rw part.ensures
+returns c h low =
+    let half = c.half-half in
+    let page = c.args.space.page.now in
+    let fixed = c.args.space.fixed.now in
+    let a = c.args.address in
+    let fits : a % 2048 + 3 ≤ length (half_of page fixed a) = rw half.ensures at c.if-half-at.false in
+    rw half.ensures
     (read_three (page ++ fixed) a _ _ _
     (rom_in_lem page fixed h a low (omega arith))
     (rom_on page fixed h a 1 low (omega arith) (omega arith))

@@ -13,17 +13,6 @@ use Rattle.isa.proofs.Finite.{kept}
 use Rattle.isa.proofs.PlainColumns.{by_digit}
 use Rattle.isa.proofs.flow_at.flow_by.Goals as goal
 
-pub returns-in-0 : goal.returns-in-0
-unfolding form_of form_as entry_of flow_of
-returns-in-0 c =
-    let fits : SFits w8 c.short_displacement.result = search rules in
-    rw (
-      c.short.ensures,
-      kept fits,
-      c.short_displacement.ensures,
-    )
-    (⊎_elim (λ e. rw e) (λ e. rw e) c.in-0.is)
-
 pub returns-in-2 : goal.returns-in-2
 unfolding form_of form_as entry_of flow_of
 returns-in-2 c =
@@ -34,39 +23,6 @@ returns-in-2 c =
       c.short_displacement-in-2.ensures,
     )
     (⊎_elim (λ e. rw e) (λ e. rw e) c.in-2.is)
-
-pub returns-in-4 : goal.returns-in-4
-unfolding form_of form_as entry_of flow_of
-returns-in-4 c =
-    let fits : SFits w8 c.short_displacement-in-4.result = search rules in
-    rw (
-      c.short-in-4.ensures,
-      kept fits,
-      c.short_displacement-in-4.ensures,
-    )
-    (⊎_elim (λ e. rw e) (λ e. rw e) c.in-4.is)
-
-pub returns-in-6 : goal.returns-in-6
-unfolding form_of form_as entry_of flow_of
-returns-in-6 c =
-    let fits : SFits w8 c.short_displacement-in-6.result = search rules in
-    rw (
-      c.short-in-6.ensures,
-      kept fits,
-      c.short_displacement-in-6.ensures,
-    )
-    (⊎_elim (λ e. rw e) (λ e. rw e) c.in-6.is)
-
-pub returns-in-1 : goal.returns-in-1
-unfolding form_of form_as entry_of flow_of
-returns-in-1 c = rw (c.extended_target.ensures, c.in-1.is)
-
-pub returns-in-9 : goal.returns-in-9
-unfolding form_of form_as entry_of flow_of
-returns-in-9 c = rw (c.extended_target-in-9.ensures, c.in-9.is)
-
-pub returns-in-3 : goal.returns-in-3
-returns-in-3 c = c.column_3.ensures
 
 pub returns-in-13 : goal.returns-in-13
 returns-in-13 c = c.column_d.ensures _ _ _

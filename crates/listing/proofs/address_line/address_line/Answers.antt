@@ -8,7 +8,7 @@ use Rattle.listing.specs.AddressLine.{address_line}
 use Rattle.listing.specs.Pages.{page_text}
 use Rattle.listing.specs.Pieces.{Holds}
 use Rattle.listing.proofs.Fits.{line_fits, page_fits}
-use Rattle.listing.proofs.LineLaws.{pads, then, whole}
+use Rattle.text_line.proofs.LineLaws.{empty, pads, then, whole}
 use Rattle.listing.proofs.address_line.address_line.Goals as goal
 
 pub returns : goal.returns
@@ -18,10 +18,10 @@ returns c =
     let certificate = c.args.certificate.now in
     let bank = c.args.bank in
     let address = c.args.address in
-    let paged = then c.new.ensures c.page_text-paged.ensures in
+    let paged = then (empty c.new.ensures) c.page_text-paged.ensures in
     let few = page_fits (length image) bank address in
     let wide : c.length-wide.result ≡ length (page_text (length image) bank address) =
-    c.length-wide.ensures ∙ ap length (whole paged (omega arith)) in
+    c.length-wide.ensures.counted ∙ ap length (whole paged (omega arith)) in
     let begun = then (then paged c.address.ensures) c.word-begun.ensures in
     let coded = then begun c.code-coded.ensures in
     let padded = pads (c.length-wide.result + 15) (omega arith) coded c.spaces_to.ensures in

@@ -1,6 +1,6 @@
 -- `address_line::code` meets its contract.
 use Rattle.listing.specs.AddressLine.{code_text}
-use Rattle.listing.proofs.LineLaws.{both}
+use Rattle.text_line.proofs.LineLaws.{both}
 use Rattle.listing.proofs.address_line.code.Goals as goal
 
 pub returns : goal.returns

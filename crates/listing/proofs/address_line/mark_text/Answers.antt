@@ -1,6 +1,6 @@
 -- `address_line::mark_text` meets its contract.
 use Rattle.listing.specs.AddressLine.{mark_text}
-use Rattle.listing.proofs.LineLaws.{both}
+use Rattle.text_line.proofs.LineLaws.{both}
 use Rattle.listing.proofs.address_line.mark_text.Goals as goal
 
 pub returns : goal.returns

@@ -1,5 +1,5 @@
 -- `instruction::data` meets its contract.
-use Rattle.listing.proofs.LineLaws.{both}
+use Rattle.text_line.proofs.LineLaws.{both}
 use Rattle.listing.proofs.instruction.data.Goals as goal
 
 pub returns : goal.returns

@@ -1,5 +1,5 @@
 -- `instruction::load_immediate` meets its contract.
-use Rattle.listing.proofs.LineLaws.{both}
+use Rattle.text_line.proofs.LineLaws.{both}
 use Rattle.listing.proofs.instruction.load_immediate.Goals as goal
 
 pub returns : goal.returns

@@ -1,5 +1,5 @@
 -- `instruction::on_bit` meets its contract.
-use Rattle.listing.proofs.LineLaws.{both}
+use Rattle.text_line.proofs.LineLaws.{both}
 use Rattle.listing.proofs.instruction.on_bit.Goals as goal
 
 pub returns : goal.returns

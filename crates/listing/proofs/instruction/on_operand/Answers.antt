@@ -1,5 +1,5 @@
 -- `instruction::on_operand` meets its contract.
-use Rattle.listing.proofs.LineLaws.{both}
+use Rattle.text_line.proofs.LineLaws.{both}
 use Rattle.listing.proofs.instruction.on_operand.Goals as goal
 
 pub returns : goal.returns

@@ -1,5 +1,5 @@
 -- `instruction::store` meets its contract.
-use Rattle.listing.proofs.LineLaws.{both}
+use Rattle.text_line.proofs.LineLaws.{both}
 use Rattle.listing.proofs.instruction.store.Goals as goal
 
 pub returns : goal.returns

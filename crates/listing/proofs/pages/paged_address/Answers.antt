@@ -1,5 +1,5 @@
 -- `pages::paged_address` meets its contract.
-use Rattle.listing.proofs.LineLaws.{both}
+use Rattle.text_line.proofs.LineLaws.{both}
 use Rattle.listing.proofs.pages.paged_address.Goals as goal
 
 pub returns : goal.returns

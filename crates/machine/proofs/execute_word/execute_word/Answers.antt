@@ -7,6 +7,7 @@ use Rattle.isa.specs.Predecoded.{instruction_of_word}
 use Rattle.isa.proofs.Words.{above}
 use Rattle.control.specs.Transfers.{advance_of}
 use Rattle.machine.specs.Execute.{execute_of}
+use Rattle.machine.proofs.Stops.{goes}
 use Rattle.machine.proofs.execute_word.execute_word.Goals as goal
 
 pub on_transfer-requires : goal.on_transfer-requires
@@ -22,4 +23,4 @@ unfolding execute_of advance_of
 returns c =
     let on : flow_of (instruction_of_word c.args.word) c.args.c.pc ≡ flow.Next =
     above _ _ _ _ _ (ltb-false _ 12 (sym c.is_transfer.ensures ∙ c.if-is_transfer.false)) in
-    rw on (c.on_operation.ensures _)
+    goes (rw on (c.on_operation.ensures _))

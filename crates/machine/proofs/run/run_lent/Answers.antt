@@ -1,5 +1,4 @@
 -- `run::run_lent` meets its contract.
-use mathlib.Core.Path.{sym, ◌∙◌}
 use borrow.Author.Tests.{le-leb, lt-leb}
 use Rattle.machine.specs.Run.{run_of}
 use Rattle.machine.proofs.run.run_lent.Goals as goal
@@ -47,26 +46,3 @@ returns-then-not-requests_fit c =
       c.if-not-requests_fit.true,
     )
     (c.refused_run-then-not-requests_fit.ensures _ _)))
-
-pub by_store-requires : goal.by_store-requires
-by_store-requires c = (
-  c.if-n-gt-MOST_STEPS.false,
-  sym c.is_image_length.ensures ∙ c.if-not-is_image_length.false,
-  sym c.is_well_formed.ensures ∙ c.if-not-is_well_formed.false,
-  sym c.requests_fit.ensures ∙ c.if-not-requests_fit.false,
-)
-
-pub returns : goal.returns
-unfolding run_of
-returns c =
-    rw (
-      ← c.is_image_length.ensures,
-      c.if-not-is_image_length.false,
-    )
-    (rw (← c.is_well_formed.ensures, c.if-not-is_well_formed.false)
-    (rw (
-      le-leb _ _ c.if-n-gt-MOST_STEPS.false,
-      ← c.requests_fit.ensures,
-      c.if-not-requests_fit.false,
-    )
-    c.by_store.ensures))

@@ -44,8 +44,8 @@ returns-in-Executes c =
     rw c.pair-flags.ensures (put_back a.pairs a.c.mode) in (
       rw c.in-Executes.is
           (c.ended-in-Executes.ensures.0 _ _ ∙ c.executed-after.ensures a.pairs
-          ∙ ap (λ (p : FlagPairs). executed_of program (machine_of a.c a.stack.now p a.bytes.now) c.in-Executes.instruction
-          c.in-Executes.length c.in-Executes.cycles) own),
+          ∙ ap (λ (p : FlagPairs). executed_of program (machine_of a.c a.stack.now p a.bytes.now) c.in-Executes.decoded.instruction
+          c.in-Executes.decoded.length c.in-Executes.decoded.cycles) own),
       rw (c.in-Executes.is, ← c.origin_read-read.ensures c.requires) c.ended-in-Executes.ensures.1,
       c.ended-in-Executes.ensures.2 ∙ sym c.in-Executes.is,
     )

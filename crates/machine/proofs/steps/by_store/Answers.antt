@@ -6,7 +6,6 @@ use Rattle.machine.proofs.steps.by_store.Goals as goal
 pub all_steps-requires : goal.all_steps-requires
 all_steps-requires c = (
   c.requires.0,
-  c.timings-table.ensures,
   c.requires.1,
   c.requires.2,
   c.requires.3,
@@ -17,7 +16,6 @@ all_steps-requires c = (
 pub all_steps-requires-2 : goal.all_steps-requires-2
 all_steps-requires-2 c = (
   c.requires.0,
-  c.timings-table.ensures,
   c.requires.1,
   c.requires.2,
   c.requires.3,

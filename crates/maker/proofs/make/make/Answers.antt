@@ -3,8 +3,8 @@ use mathlib.Core.Path.{sym, ◌∙◌}
 use Rattle.maker.proofs.Answering.{new_sound}
 use Rattle.maker.proofs.make.make.Goals as goal
 
-pub complete-made-requires : goal.complete-made-requires
-complete-made-requires c =
+pub complete-requires : goal.complete-requires
+complete-requires c =
     rw c.marks_in-size.ensures (
       new_sound c.args.image.now _
           (sym c.is_image_length.ensures

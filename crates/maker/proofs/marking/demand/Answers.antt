@@ -1,31 +1,33 @@
 -- `marking::demand` meets its contract.
-use native.Mathlib.Omega.{arith}
-use mathlib.Core.Path.{refl}
 use mathlib.Core.Logic.{inl, inr}
 use Rattle.maker.proofs.Demands.{is_outside, is_too_deep, is_clash, is_raised, is_met}
 use Rattle.maker.proofs.marking.demand.Goals as goal
+use Rattle.maker.proofs.marking.demand.Goals.{else-mark-ne0-via-then-mark-ne0+else-mark-digit, else-mark-ne0-via-else-mark-ne0}
 
-pub returns-then-address-ge-PROGRAM_SPACE : goal.returns-then-address-ge-PROGRAM_SPACE
-returns-then-address-ge-PROGRAM_SPACE c = is_outside _ _ _ _ (inl c.if-address-ge-PROGRAM_SPACE.true)
-
-pub returns-then-end-lt-PROGRAM_SPACE : goal.returns-then-end-lt-PROGRAM_SPACE
-returns-then-end-lt-PROGRAM_SPACE c = is_outside _ _ _ _ (inr c.if-end-lt-PROGRAM_SPACE.true)
+pub returns-in_default : goal.returns-in_default
+returns-in_default c = is_outside _ _ _ _ c.in_default.ensures
 
 pub returns-then-need-gt-MOST_LEVELS : goal.returns-then-need-gt-MOST_LEVELS
 returns-then-need-gt-MOST_LEVELS c = is_too_deep _ _ _ _ c.if-need-gt-MOST_LEVELS.true
 
-pub returns-then-mark-eq0 : goal.returns-then-mark-eq0
-returns-then-mark-eq0 c = is_raised _ _ _ _ _ _ (omega arith) (omega arith) refl refl (inl c.if-mark-eq0.true) (omega arith)
+pub returns-then-mark-digit : goal.returns-then-mark-digit
+returns-then-mark-digit c = is_clash _ _ _ _ c.in-Some.ensures c.if-mark-ne0.true (rw c.from-digit.ensures at c.if-mark-digit.true)
 
-pub returns-then-mark-kind : goal.returns-then-mark-kind
-returns-then-mark-kind c = is_clash _ _ _ _ _ _ (omega arith) (omega arith) refl refl c.if-mark-eq0.false c.if-mark-kind.true
-
-pub returns-then-mark-wanted : goal.returns-then-mark-wanted
-returns-then-mark-wanted c =
-    is_raised _ _ _ _ _ _ (omega arith) (omega arith) refl refl (inr (c.if-mark-kind.false, c.if-mark-wanted.true))
-    (omega arith)
+pub returns-then-wanted-mark : goal.returns-then-wanted-mark
+returns-then-wanted-mark c =
+    is_met _ _ _ _ c.in-Some.ensures
+    (elim c.else-mark-ne0.branch [
+      | else-mark-ne0-via-then-mark-ne0+else-mark-digit w ↦ inr (rw c.from-digit.ensures at w.if-mark-digit.false)
+      | else-mark-ne0-via-else-mark-ne0 w ↦ inl w.if-mark-ne0.false
+    ])
+    (rw c.from-digit.ensures at c.if-wanted-mark.true)
 
 pub returns : goal.returns
 returns c =
-    is_met _ _ _ _ _ _ (omega arith) (omega arith) refl refl c.if-mark-eq0.false
-    c.if-mark-kind.false c.if-mark-wanted.false
+    rw c.from-digit.ensures
+    (is_raised _ _ _ _ c.in-Some.ensures
+    (elim c.else-mark-ne0.branch [
+      | else-mark-ne0-via-then-mark-ne0+else-mark-digit w ↦ inr (rw c.from-digit.ensures at w.if-mark-digit.false)
+      | else-mark-ne0-via-else-mark-ne0 w ↦ inl w.if-mark-ne0.false
+    ])
+    (rw c.from-digit.ensures at c.if-wanted-mark.false) c.if-need-gt-MOST_LEVELS.false)

@@ -1,6 +1,12 @@
 -- `spread::raise` meets its contract.
-use Rattle.maker.proofs.Edges.{raised_more}
+use Rattle.maker.proofs.Rising.{impossible}
+use Rattle.maker.proofs.Edges.{explored_more}
 use Rattle.maker.proofs.spread.raise.Goals as goal
 
-pub loop-left-preserved : goal.loop-left-preserved
-loop-left-preserved c = rw c.join-change.ensures (raised_more c.loop-left.invariant c.raise_into.ensures)
+pub returns-in_err-changed : goal.returns-in_err-changed
+returns-in_err-changed g c =
+    rw (impossible c.from_residual.result c.from_residual.ensures.0)
+    (λ image. explored_more (c.loop.invariant image) (c.in_err-changed.ensures image))
+
+pub loop-preserved : goal.loop-preserved
+loop-preserved g c = λ image. explored_more (c.loop.invariant image) (c.in_ok-changed.ensures image)

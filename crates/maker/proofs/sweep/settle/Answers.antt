@@ -3,13 +3,12 @@ use mathlib.Core.Path.{refl}
 use Rattle.maker.proofs.Final.{accepted_least, none_left}
 use Rattle.maker.proofs.sweep.settle.Goals as goal
 
-pub returns-in-Accepted : goal.returns-in-Accepted
-returns-in-Accepted c =
-    accepted_least c.loop-levels.invariant (rw c.in-Accepted.is at c.check.ensures)
+pub returns-in-Ok : goal.returns-in-Ok
+returns-in-Ok c = accepted_least c.loop-levels.invariant c.in-Ok.ensures
 
-pub returns-in-Same : goal.returns-in-Same
-returns-in-Same c = (
-  none_left c.loop-levels.invariant (rw c.in-Same.is at c.pass.ensures).told.1
-      c.requires.2 (rw c.in-Refused.is at c.check.ensures),
+pub returns-then-not-branch : goal.returns-then-not-branch
+returns-then-not-branch c = (
+  none_left c.loop-levels.invariant (rw c.if-not-branch.true at c.in_ok-pass.ensures).told.1
+      c.requires.1 c.in_default.ensures,
   refl,
 )

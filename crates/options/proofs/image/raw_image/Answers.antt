@@ -1,48 +1,24 @@
 -- `image::raw_image` meets its contract: by the file's size.
-use Prim.Native.Nat.{◌-◌}
-use native.Mathlib.Omega.{arith}
-use mathlib.Core.Path.{◌∙◌, sym}
-use lib.ListN.{length}
+use Rattle.std.proofs.Common.{◌-◌, sym, ◌∙◌, arith, length}
 use Rattle.isa.proofs.Halves.{sized}
 use Rattle.options.specs.Image.{raw_got}
 use Rattle.options.proofs.ImageLaws.{part_filled}
 use Rattle.options.proofs.image.raw_image.Goals as goal
 
-pub returns-then-not-is_image_length : goal.returns-then-not-is_image_length
-unfolding raw_got
-returns-then-not-is_image_length c =
-    let test = c.is_image_length in
-    rw (← test.ensures, c.if-not-is_image_length.true)
-
-pub returns-then-not-may_be : goal.returns-then-not-may_be
-unfolding raw_got
-returns-then-not-may_be c =
-    let asked = c.may_be in
-    let test = c.is_image_length in
-    rw (
-      ← test.ensures,
-      c.if-not-is_image_length.false,
-      ← c.size_of-rom.ensures,
-      ← asked.ensures,
-      c.if-not-may_be.true,
-    )
-
 pub returns : goal.returns
 unfolding raw_got
 returns c =
-    let asked = c.may_be in
-    let test = c.is_image_length in
-    let is = sym test.ensures ∙ c.if-not-is_image_length.false in
     let args = c.args in
+    let is = sym c.is_image_length.ensures ∙ c.if-not-is_image_length.false in
     let most = (sized (length args.file.now) is).most in
     let filled =
     part_filled args.space.now (20480 - length args.file.now) (omega (arith, c.requires)) args.file.now _
-    (omega (arith, c.requires)) c.copy.ensures.copied in
+    c.copy_from_slice.ensures.after in
     rw (
-      ← test.ensures,
+      ← c.is_image_length.ensures,
       c.if-not-is_image_length.false,
       ← c.size_of-rom.ensures,
-      ← asked.ensures,
+      ← c.may_be.ensures,
       c.if-not-may_be.false,
       filled,
     )

@@ -1,27 +1,31 @@
 -- `entries::first_entry` meets its contract: by the first byte, and by how many bytes there are.
-use Rattle.playback.proofs.Reading.{cut_step, leads_step, cut_store, leads_store, leads_reset, unknown}
+use Rattle.std.proofs.Common.{arith}
+use Rattle.playback.proofs.Reading.{leads_step, leads_store, leads_reset, leads_none}
 use Rattle.playback.proofs.entries.first_entry.Goals as goal
 
-pub returns-then-count-lt2 : goal.returns-then-count-lt2
-returns-then-count-lt2 c =
-    cut_step c.args.body.now c.requires c.if-kind-eq0.true c.if-count-lt2.true
+pub returns-in-1 : goal.returns-in-1
+returns-in-1 c = leads_store _ (omega arith) (omega arith)
 
-pub returns-then-kind-eq0 : goal.returns-then-kind-eq0
-returns-then-kind-eq0 c =
-    leads_step c.args.body.now c.if-kind-eq0.true c.if-count-lt2.false
+pub returns-in-0 : goal.returns-in-0
+returns-in-0 c = leads_step _ (grind arith) (grind arith)
 
-pub returns-then-count-lt3 : goal.returns-then-count-lt3
-returns-then-count-lt3 c =
-    cut_store c.args.body.now c.requires c.if-kind-eq1.true c.if-count-lt3.true
+pub returns-in-2 : goal.returns-in-2
+returns-in-2 c = leads_reset _ (omega arith) (omega arith)
 
-pub returns-then-kind-eq1 : goal.returns-then-kind-eq1
-returns-then-kind-eq1 c =
-    leads_store c.args.body.now c.if-kind-eq1.true c.if-count-lt3.false
+pub returns-in-2-2 : goal.returns-in-2-2
+returns-in-2-2 c = leads_reset _ (omega arith) (omega arith)
 
-pub returns-then-kind-eq2 : goal.returns-then-kind-eq2
-returns-then-kind-eq2 c =
-    leads_reset c.args.body.now c.requires c.if-kind-eq2.true
+pub returns-in-2-3 : goal.returns-in-2-3
+returns-in-2-3 c = leads_reset _ (omega arith) (omega arith)
 
-pub returns : goal.returns
-returns c =
-    unknown c.args.body.now c.requires c.if-kind-eq0.false c.if-kind-eq1.false c.if-kind-eq2.false
+pub returns-in_default : goal.returns-in_default
+returns-in_default c = leads_none _ (λ k h. omega arith) (λ k h. omega arith) (λ k h. omega arith)
+
+pub returns-in_default-2 : goal.returns-in_default-2
+returns-in_default-2 c = leads_none _ (λ k h. omega arith) (λ k h. omega arith) (λ k h. omega arith)
+
+pub returns-in_default-3 : goal.returns-in_default-3
+returns-in_default-3 c = leads_none _ (λ k h. omega arith) (λ k h. omega arith) (λ k h. omega arith)
+
+pub returns-in_default-4 : goal.returns-in_default-4
+returns-in_default-4 c = leads_none _ (λ k h. omega arith) (λ k h. omega arith) (λ k h. omega arith)

@@ -1,41 +1,24 @@
--- `entries::is_body` meets its contract. The loop's invariant: the rest is read exactly where the body is.
-use mathlib.Core.Path.{sym, ◌∙◌}
-use native.Mathlib.Omega.{arith}
-use Rattle.playback.proofs.Reading.{First, unread_body, first_is, none_is, rest_less, rest_body, empty_body}
+-- `entries::is_body` meets its contract: behind an entry the rest is read exactly where the whole is.
+use Rattle.std.proofs.Common.{sym, ap, ◌∙◌, arith, length-drop}
+use Rattle.playback.specs.Entries.{is_body}
+use Rattle.playback.proofs.Reading.{to_end, rest_body, none_body}
 use Rattle.playback.proofs.entries.is_body.Goals as goal
 
-pub returns-in_default : goal.returns-in_default
-returns-in_default c =
-    let rest = c.loop-rest.rest.now in
-    sym (sym c.loop-rest.invariant ∙ unread_body rest
-    (none_is rest c.first_entry-leading.result c.first_entry-leading.ensures c.in_default.is))
-
 pub slice_bounds-rest-count : goal.slice_bounds-rest-count
-slice_bounds-rest-count c =
-    let first : First c.loop-rest.rest.now c.in-Entry.field-0 c.in-Entry.size =
-    first_is _ c.first_entry-leading.result _ _ c.first_entry-leading.ensures c.in-Entry.is in
-    first.fits
+slice_bounds-rest-count c = c.in-Some.ensures.fits
 
 pub slice_bounds-rest-start : goal.slice_bounds-rest-start
-slice_bounds-rest-start c =
-    let first : First c.loop-rest.rest.now c.in-Entry.field-0 c.in-Entry.size =
-    first_is _ c.first_entry-leading.result _ _ c.first_entry-leading.ensures c.in-Entry.is in
-    omega (arith, first.fits)
+slice_bounds-rest-start c = omega (arith, c.in-Some.ensures.fits)
 
-pub loop-rest-smaller : goal.loop-rest-smaller
-loop-rest-smaller c =
-    let rest = c.loop-rest.rest.now in
-    rest_less rest c.in-Entry.field-0 c.in-Entry.size
-    (first_is rest c.first_entry-leading.result c.in-Entry.field-0 c.in-Entry.size c.first_entry-leading.ensures
-    c.in-Entry.is)
+pub loop-size-smaller : goal.loop-size-smaller
+loop-size-smaller c =
+    let first = c.in-Some.ensures in
+    rw (to_end _ _ first.fits) (omega (arith, length-drop c.in-Some.size c.loop-size.rest.now))
 
-pub loop-rest-preserved : goal.loop-rest-preserved
-loop-rest-preserved c =
-    let rest = c.loop-rest.rest.now in
-    rest_body rest c.in-Entry.field-0 c.in-Entry.size
-    (first_is rest c.first_entry-leading.result c.in-Entry.field-0 c.in-Entry.size c.first_entry-leading.ensures
-    c.in-Entry.is)
-    ∙ c.loop-rest.invariant
+pub loop-size-preserved : goal.loop-size-preserved
+loop-size-preserved c =
+    let first = c.in-Some.ensures in
+    ap is_body (to_end _ _ first.fits) ∙ rest_body _ _ _ first ∙ c.loop-size.invariant
 
 pub returns : goal.returns
-returns c = sym (sym c.loop-rest.invariant ∙ empty_body c.loop-rest.rest.now (omega arith))
+returns c = c.is_empty.ensures ∙ sym (none_body _ c.in_default.ensures) ∙ c.loop-size.invariant

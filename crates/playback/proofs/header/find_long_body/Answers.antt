@@ -4,26 +4,23 @@ use native.Mathlib.Omega.{arith}
 use mathlib.Core.Path.{◌≡◌}
 use lib.ListN.{length}
 use Rattle.isa.specs.Refusals.{plain}
-use Rattle.playback.specs.Record.{long_count_of, BodyFound}
+use Rattle.playback.specs.Record.{long_count_of}
 use Rattle.playback.specs.Refusals as why
 use Rattle.playback.proofs.HeaderCases.{starts, refuses}
 use Rattle.playback.proofs.header.find_long_body.Goals as goal
 
 pub returns-then-recording-lt-LONG_HEADER_BYTES : goal.returns-then-recording-lt-LONG_HEADER_BYTES
-unfolding BodyFound
 returns-then-recording-lt-LONG_HEADER_BYTES c =
     refuses _ (plain 28)
     (why.under_four (omega (arith, c.requires.0, c.if-recording-lt-LONG_HEADER_BYTES.true)) c.requires.1)
 
 pub returns-then-recording-count : goal.returns-then-recording-count
-unfolding BodyFound
 returns-then-recording-count c =
     refuses _ (plain 28)
     (why.wrong_long_count c.if-recording-lt-LONG_HEADER_BYTES.false c.requires.1
     (λ is. c.if-recording-count.true (omega (arith, is, c.long_count_of-count.ensures))))
 
 pub returns-then-count-lt-LEAST_LONG : goal.returns-then-count-lt-LEAST_LONG
-unfolding BodyFound
 returns-then-count-lt-LEAST_LONG c =
     let count = c.long_count_of-count.ensures in
     let same : length c.args.recording.now ≡ 4 + long_count_of c.args.recording.now =
@@ -32,7 +29,6 @@ returns-then-count-lt-LEAST_LONG c =
     (why.too_few c.requires.1 same (omega (arith, c.if-count-lt-LEAST_LONG.true, count)))
 
 pub returns-then-count-gt-MOST_LONG : goal.returns-then-count-gt-MOST_LONG
-unfolding BodyFound
 returns-then-count-gt-MOST_LONG c =
     let count = c.long_count_of-count.ensures in
     let same : length c.args.recording.now ≡ 4 + long_count_of c.args.recording.now =
@@ -41,7 +37,6 @@ returns-then-count-gt-MOST_LONG c =
     (why.too_many c.requires.1 same (omega (arith, c.if-count-gt-MOST_LONG.true, count)))
 
 pub returns : goal.returns
-unfolding BodyFound
 returns c =
     let long = c.if-recording-lt-LONG_HEADER_BYTES.false in
     let count = c.long_count_of-count.ensures in
@@ -52,4 +47,4 @@ returns c =
     let most : long_count_of c.args.recording.now ≤ 1048576 =
     omega (arith, c.if-count-gt-MOST_LONG.false, count) in
     let short : length c.args.recording.now ≤ 0xFFFFFF = omega (arith, same, most) in
-    (long, short, starts c.args.recording.now 4 (why.version_2 c.requires.1 same least most))
+    record { fits = long; short = short; is = starts c.args.recording.now 4 (why.version_2 c.requires.1 same least most) }

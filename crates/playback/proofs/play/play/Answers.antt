@@ -1,50 +1,37 @@
 -- `play::play` meets its contract: 1, then the header's refusals, then the body.
-use mathlib.Core.Path.{◌≡◌, sym, ◌∙◌}
-use mathlib.Core.Bool.{true}
-use native.Mathlib.Omega.{arith}
-use lib.ListN.{length, length-drop}
+use Rattle.std.proofs.Common.{◌≡◌, true, sym, ap, ◌∙◌, length}
+use Rattle.std.proofs.lemmas.Result.{err_from_is_err_and}
 use Rattle.isa.specs.Rom.{is_image}
-use Rattle.playback.specs.Play.{play_of}
-use Rattle.playback.proofs.HeaderCases.{BodyStarts, starts_at, starts_nowhere}
+use Rattle.playback.specs.Play.{play_of, played_by}
+use Rattle.playback.specs.Entries.{entries_of}
+use Rattle.playback.proofs.Reading.{to_end, not_body}
 use Rattle.playback.proofs.play.play.Goals as goal
 
 pub returns-then-not-is_image_length : goal.returns-then-not-is_image_length
 unfolding play_of
-returns-then-not-is_image_length c =
-    rw (← c.is_image_length.ensures, c.if-not-is_image_length.true) c.refused_play.ensures
+returns-then-not-is_image_length c = rw (← c.is_image_length.ensures, c.if-not-is_image_length.true)
 
-pub slice_bounds-play_body-count : goal.slice_bounds-play_body-count
-slice_bounds-play_body-count c =
-    let body : BodyStarts c.args.recording.now c.in-From.start =
-    starts_at c.args.recording.now c.find_body-body.result c.in-From.start c.find_body-body.ensures c.in-From.is in
-    body.fits
-
-pub slice_bounds-play_body-start : goal.slice_bounds-play_body-start
-slice_bounds-play_body-start c =
-    let body : BodyStarts c.args.recording.now c.in-From.start =
-    starts_at c.args.recording.now c.find_body-body.result c.in-From.start c.find_body-body.ensures c.in-From.is in
-    omega (arith, body.fits)
-
-pub play_body-requires : goal.play_body-requires
-play_body-requires c =
-    let body = starts_at c.args.recording.now c.find_body-body.result c.in-From.start c.find_body-body.ensures c.in-From.is in
-    rw (body.part, length-drop c.in-From.start c.args.recording.now) (omega (arith, body.short))
-
-pub returns-in-Refused : goal.returns-in-Refused
+pub returns-in_err-start : goal.returns-in_err-start
 unfolding play_of
-returns-in-Refused c =
+returns-in_err-start c =
     let size : is_image (length c.args.image.now) ≡ true =
     sym c.is_image_length.ensures ∙ c.if-not-is_image_length.false in
-    let none =
-    starts_nowhere c.args.recording.now c.find_body-body.result c.in-Refused.reason c.find_body-body.ensures
-    c.in-Refused.is in
-    rw (size, none) c.refused_play-in-Refused.ensures
+    let p = err_from_is_err_and c.from_residual.result c.from_residual.ensures.1 in
+    rw (size, c.in_err-start.ensures, p.1, p.2)
 
-pub returns-in-From : goal.returns-in-From
+pub returns-then-not-is_body : goal.returns-then-not-is_body
 unfolding play_of
-returns-in-From c =
-    let body =
-    starts_at c.args.recording.now c.find_body-body.result c.in-From.start c.find_body-body.ensures c.in-From.is in
+returns-then-not-is_body c =
     let size : is_image (length c.args.image.now) ≡ true =
     sym c.is_image_length.ensures ∙ c.if-not-is_image_length.false in
-    rw (size, body.is) (rw body.part at c.play_body.ensures)
+    let body = c.in_ok-start.ensures in
+    rw (size, body.is, ← to_end _ _ body.fits, not_body _ (sym c.is_body.ensures ∙ c.if-not-is_body.true))
+
+pub returns : goal.returns
+unfolding play_of
+returns c =
+    let size : is_image (length c.args.image.now) ≡ true =
+    sym c.is_image_length.ensures ∙ c.if-not-is_image_length.false in
+    let body = c.in_ok-start.ensures in
+    rw (size, body.is)
+    (c.play_entries.ensures ∙ ap (λ b. played_by c.args.image.now (entries_of b)) (to_end _ _ body.fits))

@@ -1,60 +1,59 @@
 -- `play::play_entries` meets its contract: what each key leaves is what its entry, or the row of steps, leaves.
-use mathlib.Core.Path.{sym, ◌∙◌}
-use Rattle.std.proofs.Common.{rules}
-use Rattle.playback.proofs.Turns.{is_step, is_over, first_kept, first_plays}
-use Rattle.playback.proofs.Turns.{after_run, after_store, after_reset}
+use Rattle.std.proofs.Common.{sym, ◌∙◌, arith}
+use Rattle.playback.specs.Entries.{First}
+use Rattle.playback.specs.declared.Entry.TheVariants.{Store, Reset}
+use Rattle.playback.proofs.Held.{first_held, all_played, part_held, store_held, store_ends, reset_held}
+use Rattle.playback.proofs.Held.{counted, row_held, row_ends}
 use Rattle.playback.proofs.play.play_entries.Goals as goal
 
-pub loop-turn-init : goal.loop-turn-init
-loop-turn-init c = record {
-  room = search rules;
-  kept = first_kept _ _ c.first_turn-turn.ensures;
-  plays = first_plays _ _ _ _ c.fresh-held.ensures c.first_turn-turn.ensures;
-}
+pub loop-entry-init : goal.loop-entry-init
+loop-entry-init c = first_held _ _ _ c.fresh-machine.ensures c.requires.0
 
-pub gather-count-requires : goal.gather-count-requires
-gather-count-requires c = (
-  (c.loop-turn-test.true, is_step c.loop-turn.turn c.if-turn-eq0.true, c.loop-turn.invariant.kept, c.requires.1),
-  c.loop-turn.invariant.room,
-)
+pub overflow_add-entries : goal.overflow_add-entries
+overflow_add-entries c =
+    let held = c.loop-entry.invariant in
+    let counts = counted _ _ _ _ _ _ held _ _ c.gather-count.ensures _ _ _ _ c.key_run-report.ensures in
+    omega (arith, counts.steps)
 
-pub loop-turn-smaller-then-turn-eq0 : goal.loop-turn-smaller-then-turn-eq0
-loop-turn-smaller-then-turn-eq0 c = (after_run _ _ _ _ _ c.after_run-turn.ensures _ c.gather-count.ensures).1
+pub overflow_add-cycles : goal.overflow_add-cycles
+overflow_add-cycles c =
+    let held = c.loop-entry.invariant in
+    let counts = counted _ _ _ _ _ _ held _ _ c.gather-count.ensures _ _ _ _ c.key_run-report.ensures in
+    omega (arith, counts.steps, counts.cycles)
 
-pub loop-turn-preserved-then-turn-eq0 : goal.loop-turn-preserved-then-turn-eq0
-loop-turn-preserved-then-turn-eq0 c =
-    let after = after_run _ _ _ _ _ c.after_run-turn.ensures _ c.gather-count.ensures in
-    record {
-      room = c.gather-count.array_long;
-      kept = after.0;
-      plays = after.2 c.args.image.now c.loop-turn.held c.key_run-report.new.m c.key_run-report.ensures ∙ c.loop-turn.invariant.plays;
-    }
+pub returns-then-is_err : goal.returns-then-is_err
+returns-then-is_err c =
+    row_ends _ _ _ _ _ _ c.loop-entry.invariant _ _ c.gather-count.ensures _ _ _ _ c.key_run-report.ensures
+    (sym c.is_err.ensures.value ∙ c.if-is_err.true)
 
-pub loop-turn-smaller-then-turn-eq1 : goal.loop-turn-smaller-then-turn-eq1
-loop-turn-smaller-then-turn-eq1 c = (after_store _ _ _ _ c.after_store-turn.ensures).1
+pub loop-entry-preserved-in-Step : goal.loop-entry-preserved-in-Step
+loop-entry-preserved-in-Step c =
+    let held = c.loop-entry.invariant in
+    part_held _ _ _ _ _ _ held _ c.gather-count.ensures.within _ _ _
+    (row_held _ _ _ _ _ _ held _ _ c.gather-count.ensures _ _ _ _ c.key_run-report.ensures
+    (sym c.is_err.ensures.value ∙ c.if-is_err.false))
 
-pub loop-turn-preserved-then-turn-eq1 : goal.loop-turn-preserved-then-turn-eq1
-loop-turn-preserved-then-turn-eq1 c =
-    let after = after_store _ _ _ _ c.after_store-turn.ensures in
-    record {
-      room = c.loop-turn.invariant.room;
-      kept = after.0;
-      plays = after.2 c.args.image.now c.loop-turn.held c.key_store-ending.new.m c.key_store-ending.ensures ∙ c.loop-turn.invariant.plays;
-    }
+pub returns-then-is_err-2 : goal.returns-then-is_err-2
+returns-then-is_err-2 c =
+    let first : First c.loop-entry.rest.now (Store c.in-Store.address c.in-Store.value) c.in-Some.size =
+    rw c.in-Store.is at c.in-Some.ensures in
+    store_ends _ _ _ _ _ _ c.loop-entry.invariant _ _ _ first _ _ c.key_store-ending.ensures
+    (sym c.is_err-in-Store.ensures.value ∙ c.if-is_err-2.true)
 
-pub loop-turn-smaller : goal.loop-turn-smaller
-loop-turn-smaller c = (after_reset _ _ _ c.after_reset-turn.ensures).1
+pub loop-entry-preserved-in-Store : goal.loop-entry-preserved-in-Store
+loop-entry-preserved-in-Store c =
+    let held = c.loop-entry.invariant in
+    let first : First c.loop-entry.rest.now (Store c.in-Store.address c.in-Store.value) c.in-Some.size =
+    rw c.in-Store.is at c.in-Some.ensures in
+    part_held _ _ _ _ _ _ held _ first.fits _ _ _
+    (store_held _ _ _ _ _ _ held _ _ _ first _ _ c.key_store-ending.ensures
+    (sym c.is_err-in-Store.ensures.value ∙ c.if-is_err-2.false))
 
-pub loop-turn-preserved : goal.loop-turn-preserved
-loop-turn-preserved c =
-    let after = after_reset _ _ _ c.after_reset-turn.ensures in
-    record {
-      room = c.loop-turn.invariant.room;
-      kept = after.0;
-      plays = after.2 c.args.image.now c.loop-turn.held c.key_reset.new.m c.key_reset.ensures ∙ c.loop-turn.invariant.plays;
-    }
+pub loop-entry-preserved : goal.loop-entry-preserved
+loop-entry-preserved c =
+    let held = c.loop-entry.invariant in
+    let first : First c.loop-entry.rest.now Reset c.in-Some.size = rw c.in-Reset.is at c.in-Some.ensures in
+    part_held _ _ _ _ _ _ held _ first.fits _ _ _ (reset_held _ _ _ _ _ _ held _ first _ c.key_reset.ensures)
 
 pub returns : goal.returns
-returns c =
-    c.ended.ensures ∙ sym (is_over c.args.image.now c.args.body.now c.loop-turn.held c.loop-turn.turn c.loop-turn-test.false)
-    ∙ c.loop-turn.invariant.plays
+returns c = all_played _ _ _ _ _ _ c.loop-entry.invariant c.in_default.ensures

@@ -1,18 +1,11 @@
--- `play::play_entries` meets its contract. The loop's invariant: from the machine and the turn, the playing is the whole
--- one.
-use mathlib.Core.Path.{◌≡◌}
-use lib.ListN.{length}
-use Rattle.playback.specs.Entries.{entries_of}
-use Rattle.playback.specs.Play.{played_by}
-use Rattle.playback.specs.Turn.{plays_on, left, Kept}
+-- `play::play_entries` meets its contract. The loop's invariant: from the machine that is held on, the rest is played
+-- as the whole playing is.
+use Rattle.std.proofs.Common.{length}
+use Rattle.playback.proofs.Held.{Held}
 use Rattle.playback.proofs.play.play_entries.Given as goal
 
-abbrev pub invariant-loop-turn : goal.invariant-loop-turn
-invariant-loop-turn l = record {
-  room : length l.requests ≡ 4096;
-  kept : Kept l.body l.turn;
-  plays : plays_on l.image l.body l.held l.turn ≡ played_by l.image (entries_of l.body);
-}
+abbrev pub invariant-loop-entry : goal.invariant-loop-entry
+invariant-loop-entry l = Held l.image l.body l.rest l.machine l.entries l.cycles
 
-abbrev pub decreases-loop-turn : goal.decreases-loop-turn
-decreases-loop-turn l = left l.body l.turn
+abbrev pub decreases-loop-entry : goal.decreases-loop-entry
+decreases-loop-entry l = length l.rest

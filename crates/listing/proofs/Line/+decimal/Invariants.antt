@@ -1,5 +1,0 @@
--- `Line::decimal` ends: a number's tenth part is smaller where the number has more than one digit.
-use Rattle.listing.proofs.Line.+decimal.Given as goal
-
-abbrev pub decreases-decimal : goal.decreases-decimal
-decreases-decimal l = l.n

@@ -1,9 +1,0 @@
--- `attempt::pass_pages` ends: the loop goes through the pages.
-use Rattle.std.proofs.Common.{◌≤◌, ◌-◌}
-use Rattle.reports.proofs.attempt.pass_pages.Given as goal
-
-abbrev pub invariant-loop-page : goal.invariant-loop-page
-invariant-loop-page l = l.page ≤ l.pages
-
-abbrev pub decreases-loop-page : goal.decreases-loop-page
-decreases-loop-page l = l.pages - l.page

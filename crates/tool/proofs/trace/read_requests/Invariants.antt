@@ -1,6 +1,0 @@
--- `trace::read_requests` ends: the loop goes through the arguments.
-use Rattle.std.proofs.Common.{◌-◌}
-use Rattle.tool.proofs.trace.read_requests.Given as goal
-
-abbrev pub decreases-loop-argument : goal.decreases-loop-argument
-decreases-loop-argument l = l.count - l.argument
