@@ -3,6 +3,7 @@ use Rattle.std.specs.Prelude.{ℕ, ◌+◌, Bool, true, cond, ◌&&◌, ◌||◌
 use Rattle.isa.specs.Refusals.{located, unless}
 use Rattle.isa.specs.declared.Flow.{Flow}
 use Rattle.isa.specs.declared.Flow.TheVariants as flow
+use Rattle.certificate.specs.declared.marks.Kind.{Kind}
 use Rattle.certificate.specs.declared.successors.Successor as program
 use Rattle.certificate.specs.declared.successors.Successors.{Successors}
 use Rattle.certificate.specs.declared.successors.Successors.TheVariants.{None, One, Two}
@@ -46,15 +47,22 @@ successors_of kind flow.Return next = []
 successors_of kind flow.ReturnFromInterrupt next = cond (eqb kind 1) (continues_at next 2 ∷ []) []
 successors_of kind flow.Sleep next = continues_at next kind ∷ []
 
--- the program's successor, its kind by number
-abbrev pub successor_of : program.Successor → Successor
-successor_of s = record { address = s.address; kind = kind_number (Some s.kind); levels = s.levels }
+-- the program's successor, its kind by the number that it stands for
+abbrev pub successor_by : {K : Type 0} → (number : K → ℕ) → program.Successor K → Successor
+successor_by number s = record { address = s.address; kind = number s.kind; levels = s.levels }
 
 -- the program's successors as a list
-abbrev pub listed : Successors → List Successor
-listed None = []
-listed (One s) = successor_of s ∷ []
-listed (Two s t) = successor_of s ∷ successor_of t ∷ []
+abbrev pub listed_by : {K : Type 0} → (number : K → ℕ) → Successors K → List Successor
+listed_by number None = []
+listed_by number (One s) = successor_by number s ∷ []
+listed_by number (Two s t) = successor_by number s ∷ successor_by number t ∷ []
+
+-- .. where the kinds are the four
+abbrev pub successor_of : program.Successor Kind → Successor
+successor_of = successor_by (λ kind. kind_number (Some kind))
+
+abbrev pub listed : Successors Kind → List Successor
+listed = listed_by (λ kind. kind_number (Some kind))
 
 -- "each successor": all of them pass a test
 abbrev pub every : (Successor → Bool) → List Successor → Bool

@@ -20,9 +20,9 @@ use isa::{Continuation, Refusal};
 
 // The first fault of a pass, and the mark where it is.
 #[derive(Clone, Copy, Debug, PartialEq, Eq)]
-struct Fault {
-    refusal: Refusal,
-    at: usize,
+pub struct Fault {
+    pub refusal: Refusal,
+    pub at: usize,
 }
 
 // 15, 16 and 17 at a marked address of a kind, with where its instruction continues.

@@ -1,5 +1,5 @@
 // Marks: the kind in the high digit, the need in the low one.
-ghost use Rattle.std.specs.Prelude.{◌≡◌, Some};
+ghost use Rattle.std.specs.Prelude.{◌≡◌, ℕ, Some};
 ghost use Rattle.certificate.specs.Marks.{mark_at, kind_of, kind_number, need_of, kind_at, need_at};
 
 use isa::rom::PROGRAM_SPACE;
@@ -19,6 +19,43 @@ impl From<Kind> for u8 {
 
     fn from(kind: Kind) -> u8 {
         kind as u8
+    }
+}
+
+// A kind as a rule of successors is asked about it: one of the four, or any number. A number that is no kind has rules
+// too: it may stand anywhere but where a return needs one of the four, and it goes on as what it is.
+pub trait KindNumber: Copy {
+    ghost number: { Self → ℕ };
+
+    fn number(self) -> u8
+        ensures { result ≡ number self };
+
+    // The kind that a rule names.
+    fn of(kind: Kind) -> Self
+        ensures { number result ≡ kind_number (Some kind) };
+}
+
+impl KindNumber for Kind {
+    ghost number = { λ kind. kind_number (Some kind) };
+
+    fn number(self) -> u8 {
+        self as u8
+    }
+
+    fn of(kind: Kind) -> Self {
+        kind
+    }
+}
+
+impl KindNumber for u8 {
+    ghost number = { λ kind. kind };
+
+    fn number(self) -> u8 {
+        self
+    }
+
+    fn of(kind: Kind) -> Self {
+        u8::from(kind)
     }
 }
 
@@ -52,6 +89,16 @@ pub fn kind_of(mark: u8) -> Option<Kind>
         3 => Some(Kind::Service),
         4 => Some(Kind::Subroutine),
         _ => None,
+    }
+}
+
+// The number of a mark's kind, 0 where there is no mark or it is malformed.
+pub fn kind_digit(mark: u8) -> u8
+    ensures { result ≡ kind_of mark }
+{
+    match kind_of(mark) {
+        Some(kind) => kind.number(),
+        None => 0,
     }
 }
 

@@ -3,45 +3,47 @@ ghost use Rattle.std.specs.Prelude.{◌≡◌, Some, true, false, MatchResult};
 ghost use Rattle.isa.specs.Refusals.{answered, located, unless};
 ghost use Rattle.certificate.specs.Marks.{mark_at, kind_number};
 ghost use Rattle.certificate.specs.Findings.{passes, fault};
-ghost use Rattle.certificate.specs.Successors.{placed, continues_at, successors_of, successor_of, listed};
+ghost use Rattle.certificate.specs.Successors.{placed, continues_at, successors_of, successor_by, listed_by};
 ghost use Rattle.certificate.specs.Successors.{has_kind, covers_mark, successors_found};
 
-use crate::marks::{Kind, kind_of, mark_at, need_of};
+use crate::marks::{Kind, KindNumber, kind_digit, mark_at, need_of};
 use isa::{Flow, Refusal};
 
 // A successor of an instruction or the target of a CALL: the kind that its mark must have, and the levels that going
 // there takes.
 #[derive(Clone, Copy, Debug, PartialEq, Eq)]
-pub struct Successor {
+pub struct Successor<K> {
     pub address: u16,
-    pub kind: Kind,
+    pub kind: K,
     pub levels: u8,
 }
 
 // The successors of an instruction, in the order in which the check looks: up to two, so no Option; an array with a count
 // would be gone through in a loop, and the time of the check is measured.
 #[derive(Clone, Copy, Debug, PartialEq, Eq)]
-pub enum Successors {
+pub enum Successors<K> {
     None,
-    One(Successor),
-    Two(Successor, Successor),
+    One(Successor<K>),
+    Two(Successor<K>, Successor<K>),
 }
 
 // Whether an instruction may stand in code of a kind: RET only in subroutines, RETI only in start-up and services.
 #[tactic(auto, unfolding(crate::specs::Successors::placed))]
-pub fn is_placed(kind: Kind, flow: Flow) -> bool
-    ensures { result ≡ placed (kind_number (Some kind)) flow }
+pub fn is_placed<K: KindNumber>(kind: K, flow: Flow) -> bool
+    ensures { result ≡ placed (K.number kind) flow }
 {
     match flow {
-        Flow::Return => kind == Kind::Subroutine,
-        Flow::ReturnFromInterrupt => kind == Kind::StartUp || kind == Kind::Service,
+        Flow::Return => kind.number() == Kind::Subroutine.number(),
+        Flow::ReturnFromInterrupt => {
+            kind.number() == Kind::StartUp.number() || kind.number() == Kind::Service.number()
+        }
         _ => true,
     }
 }
 
 // A successor in code of a kind, which takes no level.
-fn continues_at(address: u16, kind: Kind) -> Successor
-    ensures { successor_of result ≡ continues_at address (kind_number (Some kind)) }
+fn continues_at<K: KindNumber>(address: u16, kind: K) -> Successor<K>
+    ensures { successor_by K.number result ≡ continues_at address (K.number kind) }
 {
     Successor {
         address,
@@ -52,8 +54,8 @@ fn continues_at(address: u16, kind: Kind) -> Successor
 
 // Where an instruction in code of a kind leads. Only RETI leaves its kind: start-up code ends, and main code begins.
 #[tactic(auto, unfolding(crate::specs::Successors::successors_of))]
-pub fn successors_of(kind: Kind, flow: Flow, next: u16) -> Successors
-    ensures { listed result ≡ successors_of (kind_number (Some kind)) flow next }
+pub fn successors_of<K: KindNumber>(kind: K, flow: Flow, next: u16) -> Successors<K>
+    ensures { listed_by K.number result ≡ successors_of (K.number kind) flow next }
 {
     match flow {
         Flow::Next | Flow::Sleep => Successors::One(continues_at(next, kind)),
@@ -66,15 +68,15 @@ pub fn successors_of(kind: Kind, flow: Flow, next: u16) -> Successors
         Flow::Call(target) => Successors::Two(
             Successor {
                 address: target,
-                kind: Kind::Subroutine,
+                kind: K::of(Kind::Subroutine),
                 levels: 1,
             },
             continues_at(next, kind),
         ),
         Flow::Return => Successors::None,
         Flow::ReturnFromInterrupt => {
-            if kind == Kind::StartUp {
-                Successors::One(continues_at(next, Kind::Main))
+            if kind.number() == Kind::StartUp.number() {
+                Successors::One(continues_at(next, K::of(Kind::Main)))
             } else {
                 Successors::None
             }
@@ -84,15 +86,19 @@ pub fn successors_of(kind: Kind, flow: Flow, next: u16) -> Successors
 
 // 16: the mark of a successor, where it has the kind that it must have.
 #[tactic(auto, unfolding(crate::specs::Marks::kind_at))]
-fn check_kind(certificate: &[u8], address: u16, successor: Successor) -> Result<u8, Refusal>
+fn check_kind<K: KindNumber>(
+    certificate: &[u8],
+    address: u16,
+    successor: Successor<K>,
+) -> Result<u8, Refusal>
     ensures { MatchResult result
         (λ mark. (mark ≡ mark_at certificate.now successor.address)
-        × (has_kind certificate.now (successor_of successor) ≡ true))
+        × (has_kind certificate.now (successor_by K.number successor) ≡ true))
         (λ refusal. (refusal ≡ Refusal.SuccessorKind address)
-        × (has_kind certificate.now (successor_of successor) ≡ false)) }
+        × (has_kind certificate.now (successor_by K.number successor) ≡ false)) }
 {
     let mark = mark_at(certificate, successor.address);
-    if kind_of(mark) == Some(successor.kind) {
+    if kind_digit(mark) == successor.kind.number() {
         Ok(mark)
     } else {
         Err(Refusal::SuccessorKind(address))
@@ -114,13 +120,14 @@ fn check_need(address: u16, need: u8, mark: u8, levels: u8) -> Result<(), Refusa
 // 16 and 17 of the instruction at an address with a need: the 16 of either successor comes before the 17 of either. Each
 // mark is looked up once.
 #[tactic(auto, unfolding(crate::specs::Successors::successors_found, crate::specs::Successors::all_have_kind, crate::specs::Successors::covers_all, crate::specs::Marks::need_at))]
-pub fn check_successors(
+pub fn check_successors<K: KindNumber>(
     certificate: &[u8],
     address: u16,
     need: u8,
-    successors: Successors,
+    successors: Successors<K>,
 ) -> Result<(), Refusal>
-    ensures { answered result ≡ successors_found certificate.now address need (listed successors) }
+    ensures { answered result ≡ successors_found certificate.now address need
+        (listed_by K.number successors) }
 {
     match successors {
         Successors::None => Ok(()),

@@ -4,7 +4,7 @@ ghost use Rattle.isa.specs.Rom.{IsWhole, bytes_in};
 ghost use Rattle.isa.specs.Decode.{decode_of, code_as};
 
 use crate::rom::{HALF_SPACE, Space};
-use crate::table::timing_of;
+use crate::table::timing_by_map;
 
 // The bytes one by one: an instruction at the end of a half goes on in the other one.
 fn code_across(space: Space, address: u16) -> Option<(u8, u8, u8)>
@@ -12,7 +12,7 @@ fn code_across(space: Space, address: u16) -> Option<(u8, u8, u8)>
         → code_as address result ≡ decode_of (bytes_in space.entry) address }
 {
     let opcode = space.byte(address)?;
-    let timing = timing_of(opcode);
+    let timing = timing_by_map(opcode);
     let first = space.operand_byte(address, 1, timing.length)?;
     let second = space.operand_byte(address, 2, timing.length)?;
     Some((opcode, first, second))

@@ -7,7 +7,7 @@ use crate::code::code_at;
 use crate::map::form;
 use crate::parts::space_in;
 use crate::rom::{HALF_SPACE, is_image_length};
-use crate::table::timing_of;
+use crate::table::timing_by_map;
 use crate::{Decoded, Refusal};
 
 // Decoding without the tests of the image's length and the address, for a caller that has made them: the promise holds
@@ -26,7 +26,7 @@ pub fn decode_in_range(image: &[u8], bank: u8, address: u16) -> Result<Decoded, 
     let Some(instruction) = form(opcode, first, second) else {
         return Err(Refusal::UndefinedOpcode(address));
     };
-    let timing = timing_of(opcode);
+    let timing = timing_by_map(opcode);
     Ok(Decoded {
         instruction,
         length: timing.length,

@@ -14,7 +14,7 @@ use crate::displacement::{forward, long_displacement, short_displacement};
 use crate::map::{bit_number, extended_target};
 use crate::parts::space_in;
 use crate::rom::{HALF_SPACE, Space};
-use crate::table::timing_of;
+use crate::table::timing_by_map;
 use crate::{Condition, Continuation, Flow, Refusal};
 
 // Column 3: a branch on a bit, JRR in the even rows, JRS in the odd ones.
@@ -73,7 +73,7 @@ pub fn flow_at(space: Space, address: u16) -> Result<Continuation, Refusal>
     let Some((opcode, first, second)) = code_at(space, address) else {
         return Err(Refusal::OutsideRom(address));
     };
-    let timing = timing_of(opcode);
+    let timing = timing_by_map(opcode);
     if timing.length == 0 {
         return Err(Refusal::UndefinedOpcode(address));
     }

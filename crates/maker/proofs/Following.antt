@@ -182,7 +182,7 @@ as_flow : (kind : ℕ) {n m : ℕ} {l : List Successor} {f g : Flow} → l ≡ s
 as_flow kind e p q = e ∙ rw (p, q)
 
 -- a visit, by what following its successors did
-abbrev pub visit_by : Change → Successors → Result Visit Impossible
+abbrev pub visit_by : Change → Successors Kind → Result Visit Impossible
 visit_by (Ok changed) successors = Ok record { changed = changed; successors = successors }
 visit_by (Err e) successors = Err e
 
@@ -239,7 +239,7 @@ module _ (image certificate : List ℕ) (page a : ℕ) (kind : Kind) (kind_is : 
         )
 
     -- what follows from its successors
-    module _ (successors : Successors)
+    module _ (successors : Successors Kind)
         (l : listed successors ≡ successors_of (kind_number (Some kind)) (flow_of i a) (forward_of a bytes)) where
       every_leads : {wired : ℕ} → Sound image wired certificate
           → Every (LeadsTo image a (kind_number (Some kind))) (listed successors)
@@ -281,7 +281,7 @@ module _ (image certificate : List ℕ) (page a : ℕ) (kind : Kind) (kind_is : 
         let c = continues a (decode_of (space_of image page) a) f n d in
         misplaced_here c.decodes (rw c.flow_is at p)
 
-    pub visits : {after : List ℕ} (successors : Successors) (p : Change) → placed (kind_number (Some kind)) f ≡ true
+    pub visits : {after : List ℕ} (successors : Successors Kind) (p : Change) → placed (kind_number (Some kind)) f ≡ true
         → listed successors ≡ successors_of (kind_number (Some kind)) f n
         → Followed certificate after a (kind_number (Some kind)) (listed successors) p
         → Visited image certificate after page a (visit_by p successors)

@@ -6,10 +6,11 @@
 // Each link that is noted is an edge of the program with some page in place (`Known`). All else only chooses which
 // addresses and edges are looked at, and when: in the end the check finds whether anything was left out, so it needs no
 // promise.
-ghost use Rattle.std.specs.Prelude.{◌≡◌, [], ◌∷◌, ◌+◌, ◌*◌, ◌<◌, IfSome};
+ghost use Rattle.std.specs.Prelude.{◌≡◌, [], ◌∷◌, ◌+◌, ◌*◌, ◌<◌, MatchOption};
 ghost use Rattle.certificate.specs.Successors.{successor_of, listed};
-ghost use Rattle.maker.specs.Making.{leaves, FirstEdge, NoEdges, Recorded, IsLink};
+ghost use Rattle.maker.specs.Making.{leaves, FirstEdge, NoEdges, Recorded, link_at, IsLink};
 
+use certificate::marks::Kind;
 use certificate::successors::{Successor, Successors};
 
 pub const ADDRESSES: u16 = 4096;
@@ -142,7 +143,7 @@ impl<const N: usize> Graph<N> {
     }
 
     // Notes an edge, and finds the address to which it leads.
-    fn note_edge(&mut self, edge: u16, to: Successor)
+    fn note_edge(&mut self, edge: u16, to: Successor<Kind>)
         requires { edge < 40992 }
         ensures { Recorded self.old.edges self.new.edges (leaves edge) (successor_of to ∷ []) }
     {
@@ -161,7 +162,7 @@ impl<const N: usize> Graph<N> {
     }
 
     // Notes the edges that leave an address with a page in place.
-    pub fn note_edges(&mut self, from: u16, page: u8, successors: Successors)
+    pub fn note_edges(&mut self, from: u16, page: u8, successors: Successors<Kind>)
         ensures { Recorded self.old.edges self.new.edges from (listed successors) }
     {
         if ADDRESSES <= from {
@@ -191,9 +192,9 @@ impl<const N: usize> Graph<N> {
         noted(self.edges[edge as usize].earlier)
     }
 
-    // Where an edge leads, as noted.
+    // Where an edge leads, as noted; none exactly where it is not.
     pub fn link(&self, edge: u16) -> Option<Link>
-        ensures { IfSome result (IsLink self.now.edges edge) }
+        ensures { MatchOption result (link_at self.now.edges edge ≡ 0) (IsLink self.now.edges edge) }
     {
         if N <= edge as usize {
             return None;

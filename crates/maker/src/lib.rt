@@ -12,6 +12,7 @@ mod sweep;
 ghost use Rattle.std.specs.Prelude.{◌≡◌};
 ghost use Rattle.isa.specs.declared.Refusal.TheVariants.{NoCertificate};
 
+use certificate::marks::Kind;
 use certificate::successors::Successors;
 use isa::Refusal;
 
@@ -34,5 +35,5 @@ pub type Change = Result<bool, Impossible>;
 #[derive(Clone, Copy)]
 pub struct Visit {
     pub changed: bool,
-    pub successors: Successors,
+    pub successors: Successors<Kind>,
 }

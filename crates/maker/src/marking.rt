@@ -1,5 +1,5 @@
 // Marks are raised until they meet what an instruction demands of them.
-ghost use Rattle.std.specs.Prelude.{◌≡◌, [], ◌∷◌, Some, MatchOption};
+ghost use Rattle.std.specs.Prelude.{◌≡◌, ◌≤◌, [], ◌∷◌, Some, MatchOption};
 ghost use Rattle.isa.specs.Rom.{IsImage};
 ghost use Rattle.certificate.specs.Marks.{kind_number, kind_at};
 ghost use Rattle.certificate.specs.Successors.{successor_of, listed};
@@ -7,7 +7,7 @@ ghost use Rattle.certificate.specs.Links.{Every};
 ghost use Rattle.maker.specs.Making.{Outside, IsPlace, Small, Demanded, Followed, Visited};
 
 use crate::{Change, Impossible, Visit};
-use certificate::marks::{Kind, MOST_LEVELS, kind_at, need_at};
+use certificate::marks::{Kind, KindNumber, MOST_LEVELS, kind_at, need_at};
 use certificate::successors::{Successor, Successors, is_placed, successors_of};
 use isa::flow_at::flow_in;
 use isa::rom::PROGRAM_SPACE;
@@ -26,8 +26,9 @@ fn place_of(certificate: &[u8], address: u16) -> Option<usize>
 }
 
 // Demands a kind and at least a need at an address.
-pub fn demand(certificate: &mut [u8], address: u16, kind: Kind, need: u8) -> Change
-    ensures { Demanded certificate.old certificate.new address (kind_number (Some kind)) need result }
+pub fn demand<K: KindNumber>(certificate: &mut [u8], address: u16, kind: K, need: u8) -> Change
+    requires { K.number kind ≤ 4 }
+    ensures { Demanded certificate.old certificate.new address (K.number kind) need result }
 {
     let Some(at) = place_of(certificate, address) else {
         return Err(Impossible);
@@ -36,7 +37,7 @@ pub fn demand(certificate: &mut [u8], address: u16, kind: Kind, need: u8) -> Cha
         return Err(Impossible);
     }
     let mark = certificate[at];
-    let digit = u8::from(kind);
+    let digit = kind.number();
     if mark != 0 && mark / 16 != digit {
         return Err(Impossible);
     }
@@ -69,7 +70,7 @@ pub fn raise_at(certificate: &mut [u8], address: u16, need: u8) -> Change
 
 // Follows the way from an address, in code of a kind, to a successor: this has its kind, and the need here suffices
 // for it.
-fn follow(certificate: &mut [u8], address: u16, kind: Kind, successor: Successor) -> Change
+fn follow(certificate: &mut [u8], address: u16, kind: Kind, successor: Successor<Kind>) -> Change
     requires { Small (successor_of successor) }
     ensures { Followed certificate.old certificate.new address (kind_number (Some kind))
         (successor_of successor ∷ []) result }
@@ -85,7 +86,12 @@ fn follow(certificate: &mut [u8], address: u16, kind: Kind, successor: Successor
 }
 
 // Follows the ways to all successors.
-fn follow_all(certificate: &mut [u8], address: u16, kind: Kind, successors: Successors) -> Change
+fn follow_all(
+    certificate: &mut [u8],
+    address: u16,
+    kind: Kind,
+    successors: Successors<Kind>,
+) -> Change
     requires { Every Small (listed successors) }
     ensures { Followed certificate.old certificate.new address (kind_number (Some kind))
         (listed successors) result }

@@ -1,46 +1,69 @@
--- The places of what a command line can give.
-use Rattle.std.specs.Prelude.{ℕ, Bool, eqb, get_or, set, replicate, Option, None, Some, is_none}
+-- The places of what a command line can give. A list of places has at each the number of the argument that gives it,
+-- and 0 where none does.
+use Rattle.std.specs.Prelude.{ℕ}
 use Rattle.options.specs.declared.places.Place.{Place}
-use Rattle.options.specs.declared.places.Place.TheVariants as place
-use Rattle.options.specs.declared.places.Places.{Places}
+use Rattle.options.specs.declared.places.Place.TheVariants as named
 
--- a place's number, from 0
-abbrev pub index_of : Place → ℕ
-index_of place.Image = 0
-index_of place.Record = 1
-index_of place.Wired = 2
-index_of place.Marks = 3
-index_of place.Output = 4
-index_of place.Steps = 5
-index_of place.Request = 6
-index_of place.Count = 7
-index_of place.Rom = 8
-index_of place.Fill = 9
-index_of place.Raw = 10
-index_of place.Quiet = 11
-index_of place.Help = 12
+-- how many a list of places has
+abbrev pub size : ℕ
+size = 16
 
--- two places are the same
-abbrev pub is_place : (p q : Place) → Bool
-is_place p q = eqb (index_of p) (index_of q)
+-- here stands the place whose value comes next, and 0 for none
+abbrev pub awaited : ℕ
+awaited = 0
 
--- no word is read
-abbrev pub nothing_given : Places
-nothing_given = record { arguments = replicate 13 None; awaited = None }
+abbrev pub image : ℕ
+image = 1
 
--- the number of the argument that gives a place
-abbrev pub argument_of : Places → (p : Place) → Option ℕ
-argument_of places p = get_or places.arguments (index_of p) None
+-- the record of a session, to play
+abbrev pub session : ℕ
+session = 2
 
--- no argument gives a place
-abbrev pub is_open : Places → (p : Place) → Bool
-is_open places p = is_none (argument_of places p)
+abbrev pub wired : ℕ
+wired = 3
 
--- an argument gives a place
-abbrev pub given : Places → (p : Place) → (argument : ℕ) → Places
-given places p argument =
-    record { arguments = set places.arguments (index_of p) (Some argument); awaited = places.awaited }
+abbrev pub marks : ℕ
+marks = 4
 
--- the place whose value comes next
-abbrev pub awaiting : Places → (awaited : Option Place) → Places
-awaiting places awaited = record { arguments = places.arguments; awaited = awaited }
+abbrev pub output : ℕ
+output = 5
+
+abbrev pub steps : ℕ
+steps = 6
+
+abbrev pub request : ℕ
+request = 7
+
+abbrev pub count : ℕ
+count = 8
+
+abbrev pub rom : ℕ
+rom = 9
+
+abbrev pub fill : ℕ
+fill = 10
+
+abbrev pub raw : ℕ
+raw = 11
+
+abbrev pub quiet : ℕ
+quiet = 12
+
+abbrev pub help : ℕ
+help = 13
+
+-- the number of a place that is named
+abbrev pub number_of : Place → ℕ
+number_of named.Image = image
+number_of named.Record = session
+number_of named.Wired = wired
+number_of named.Marks = marks
+number_of named.Output = output
+number_of named.Steps = steps
+number_of named.Request = request
+number_of named.Count = count
+number_of named.Rom = rom
+number_of named.Fill = fill
+number_of named.Raw = raw
+number_of named.Quiet = quiet
+number_of named.Help = help

@@ -35,7 +35,7 @@ fn mark_of(kind: Kind, need: u8) -> u8 {
 }
 
 // Raises the need of an address in code of a kind, as far as a mark can have it, to what a successor asks for.
-fn raise(certificate: &mut [u8], address: u16, kind: Kind, successor: Successor) -> bool {
+fn raise(certificate: &mut [u8], address: u16, kind: Kind, successor: Successor<Kind>) -> bool {
     if kind_at(certificate, successor.address) != Some(successor.kind) {
         return false;
     }
@@ -48,7 +48,7 @@ fn raise(certificate: &mut [u8], address: u16, kind: Kind, successor: Successor)
     true
 }
 
-fn follow(certificate: &mut [u8], address: u16, kind: Kind, successor: Successor) -> bool {
+fn follow(certificate: &mut [u8], address: u16, kind: Kind, successor: Successor<Kind>) -> bool {
     let begun = begin(certificate, successor.address, successor.kind);
     let raised = raise(certificate, address, kind, successor);
     begun || raised

@@ -2,7 +2,7 @@
 use crate::levels::put_levels;
 use crate::machine_lines::counted;
 use crate::output::{Written, put};
-use certificate::marks::{MOST_LEVELS, kind_at, mark_at, need_at};
+use certificate::marks::{MOST_LEVELS, kind_digit, mark_at, need_at};
 use certificate::successors::{Successor, Successors, successors_of};
 use isa::Refusal;
 use isa::decode::decode;
@@ -32,20 +32,20 @@ fn mark_text(line: Line, mark: u8) -> Line {
 }
 
 // The successor whose kind is wrong, the first of two before the second.
-fn wrong_kind(certificate: &[u8], first: Successor, second: Successor) -> Successor {
-    if kind_at(certificate, first.address) != Some(first.kind) {
+fn wrong_kind(certificate: &[u8], first: Successor<u8>, second: Successor<u8>) -> Successor<u8> {
+    if kind_digit(mark_at(certificate, first.address)) != first.kind {
         return first;
     }
     second
 }
 
 // The levels that a successor asks for.
-fn asked(certificate: &[u8], successor: Successor) -> u32 {
+fn asked(certificate: &[u8], successor: Successor<u8>) -> u32 {
     u32::from(need_at(certificate, successor.address)) + u32::from(successor.levels)
 }
 
 // The successor that asks for more levels.
-fn deeper(certificate: &[u8], first: Successor, second: Successor) -> Successor {
+fn deeper(certificate: &[u8], first: Successor<u8>, second: Successor<u8>) -> Successor<u8> {
     if asked(certificate, first) < asked(certificate, second) {
         return second;
     }
@@ -59,7 +59,7 @@ fn put_wrong_kind(
     bank: u8,
     certificate: &[u8],
     at: u16,
-    to: Successor,
+    to: Successor<u8>,
 ) -> Written {
     let there = to.address;
     let begun = instruction_at(image, bank, at).word(b" leads to ");
@@ -72,7 +72,7 @@ fn put_wrong_kind(
         mark_text(led.word(b", which is "), mark_at(certificate, there)),
     )?;
     let wanted = Line::new().word(b"there must be a mark of kind ");
-    put(rt, kind_name(wanted, u8::from(to.kind) * 16))
+    put(rt, kind_name(wanted, to.kind % 16 * 16))
 }
 
 // 17 where no mark would do: the need of a subroutine that calls itself has no bound.
@@ -90,7 +90,7 @@ fn put_shallow(
     bank: u8,
     certificate: &[u8],
     at: u16,
-    to: Successor,
+    to: Successor<u8>,
 ) -> Written {
     if u32::from(MOST_LEVELS) < asked(certificate, to) {
         return put_bottomless(rt, image, bank, at);
@@ -104,11 +104,10 @@ fn put_shallow(
     put(rt, mark_text(cause, mark_at(certificate, there)))
 }
 
-// The successors of the marked instruction at an address.
-fn successors_at(image: &[u8], bank: u8, certificate: &[u8], address: u16) -> Successors {
-    let Some(kind) = kind_at(certificate, address) else {
-        return Successors::None;
-    };
+// The successors of the instruction at an address, as code of its mark's kind. By numbers: where the mark has no kind,
+// what follows must have none either.
+fn successors_at(image: &[u8], bank: u8, certificate: &[u8], address: u16) -> Successors<u8> {
+    let kind = kind_digit(mark_at(certificate, address));
     match flow_at(Space::of(image, bank), address) {
         Ok(continuation) => successors_of(kind, continuation.flow, continuation.next),
         Err(_) => Successors::None,

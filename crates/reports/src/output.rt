@@ -1,5 +1,5 @@
 // Standard output and standard error.
-ghost use Rattle.std.specs.Prelude.{◌≡◌};
+ghost use Rattle.std.specs.Prelude.{◌≡◌, ℕ};
 ghost use Rattle.reports.specs.Output.{code_of, exit_status};
 
 use crate::Status;
@@ -66,12 +66,37 @@ pub fn put_system_error(rt: &HostRuntime, error: &io::Error) {
     put_error(rt, b"\n");
 }
 
+// How a program ends: by a status, or by any number.
+pub trait StatusCode: Copy {
+    ghost code: { Self → ℕ };
+
+    // That not all of an answer could be written.
+    fn failed() -> Self
+        ensures { code result ≡ 2 };
+}
+
+impl StatusCode for Status {
+    ghost code = { code_of };
+
+    fn failed() -> Status {
+        Status::Failed
+    }
+}
+
+impl StatusCode for u8 {
+    ghost code = { λ status. status };
+
+    fn failed() -> u8 {
+        u8::from(Status::Failed)
+    }
+}
+
 // How the program ends: as the answer says, unless not all of it could be written.
-pub fn finish(status: Status, written: Written) -> Status
-    ensures { code_of result ≡ exit_status (code_of status) written }
+pub fn finish<S: StatusCode>(status: S, written: Written) -> S
+    ensures { S.code result ≡ exit_status (S.code status) written }
 {
     match written {
         Ok(()) => status,
-        Err(NotWritten) => Status::Failed,
+        Err(NotWritten) => S::failed(),
     }
 }

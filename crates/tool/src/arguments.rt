@@ -6,7 +6,7 @@ use crate::files::file_space;
 use crate::{certify, check, help, list, play, size, trace};
 use options::Command;
 use options::command_line::{Usage, bad_value, lacks, take_word};
-use options::places::{Place, Places};
+use options::places::{PLACES, Place};
 use options::words::command_of;
 use reports::Status;
 use std::env::FillError;
@@ -50,34 +50,42 @@ pub fn read_as<T, F: FnOnce(&[u8]) -> Option<T>>(
     parse(&word[..length])
 }
 
+// Whether an argument gives a place.
+pub fn is_given(places: &[usize; PLACES], place: Place) -> bool {
+    places[place.number()] != 0
+}
+
 // The argument that gives a place, which is needed.
-pub fn argument_of(places: &Places, place: Place) -> Result<usize, Usage> {
-    places.argument(place).ok_or(Usage::Missing(place))
+pub fn argument_of(places: &[usize; PLACES], place: Place) -> Result<usize, Usage> {
+    match places[place.number()] {
+        0 => Err(Usage::Missing(place.number())),
+        argument => Ok(argument),
+    }
 }
 
 // The value that an argument gives an option, which has some value only.
 pub fn value_of<T: Drop, F: FnOnce(&[u8]) -> Option<T>>(
     rt: &HostRuntime,
-    places: &Places,
+    places: &[usize; PLACES],
     place: Place,
     parse: F,
 ) -> Result<T, Usage>
     requires { F.IsAlwaysCallable parse }
 {
     let argument = argument_of(places, place)?;
-    read_as(rt, argument, parse).ok_or(bad_value(places, place))
+    read_as(rt, argument, parse).ok_or(bad_value(places, place.number()))
 }
 
 // Reads one argument into its place.
 pub fn read_argument(
     rt: &HostRuntime,
-    places: &mut Places,
+    places: &mut [usize; PLACES],
     command: Command,
     argument: usize,
 ) -> Result<(), Usage> {
     let mut word = [0u8; WORD];
     match rt.arg(argument, &mut word) {
-        Ok(length) => take_word(places, command, &word[..length], argument),
+        Ok(length) => take_word(places, Some(command), &word[..length], argument),
         Err(_) => Err(Usage::TooLong(argument)),
     }
 }
@@ -85,14 +93,14 @@ pub fn read_argument(
 // The words after the command's name.
 fn read_words(
     rt: &HostRuntime,
-    places: &mut Places,
+    places: &mut [usize; PLACES],
     command: Command,
     count: usize,
 ) -> Result<(), Usage> {
     for argument in 2..count {
         read_argument(rt, places, command, argument)?;
     }
-    lacks(places, command)
+    lacks(places, Some(command))
 }
 
 // No word stands after `--help` or `--version`.
@@ -104,7 +112,7 @@ fn read_none(count: usize) -> Result<(), Usage> {
 }
 
 // Reads all arguments into their places, or finds what is wrong with them. The first names the command.
-pub fn read_arguments(rt: &HostRuntime, places: &mut Places) -> Result<Command, Usage> {
+pub fn read_arguments(rt: &HostRuntime, places: &mut [usize; PLACES]) -> Result<Command, Usage> {
     let count = argument_count(rt);
     if count < 2 {
         return Err(Usage::NoCommand);
@@ -121,8 +129,12 @@ pub fn read_arguments(rt: &HostRuntime, places: &mut Places) -> Result<Command, 
 
 // Runs the command, whose arguments stand in their places. There is room for one file, which is lent to whatever reads
 // one, so that the stack has it once.
-pub fn run(rt: &HostRuntime, command: Command, places: &Places) -> Result<Status, Failure> {
-    if places.has(Place::Help) {
+pub fn run(
+    rt: &HostRuntime,
+    command: Command,
+    places: &[usize; PLACES],
+) -> Result<Status, Failure> {
+    if is_given(places, Place::Help) {
         return Ok(help::put_help(rt, command));
     }
     let mut file = file_space();

@@ -7,7 +7,7 @@ use crate::files::write_file;
 use crate::image::{image_start, load_image, marks_start, subject_of};
 use maker::make::make;
 use options::image::SPACE;
-use options::places::{Place, Places};
+use options::places::{PLACES, Place};
 use options::wired::wired_of;
 use reports::Status;
 use reports::answers::{Subject, put_checked, put_refusal};
@@ -31,7 +31,7 @@ fn answer(
     }
 }
 
-pub fn run(rt: &HostRuntime, places: &Places, file: &mut [u8]) -> Result<Status, Failure> {
+pub fn run(rt: &HostRuntime, places: &[usize; PLACES], file: &mut [u8]) -> Result<Status, Failure> {
     let wired = value_of(rt, places, Place::Wired, |word| wired_of(word))?;
     let mut space = [0u8; SPACE];
     let mut marks = [0u8; 4096];

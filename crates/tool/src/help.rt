@@ -213,48 +213,48 @@ fn put_argument(rt: &HostRuntime, argument: usize, reason: &[u8]) {
 }
 
 // The name of an option, by its place.
-fn put_name(rt: &HostRuntime, place: Place) {
-    match place {
-        Place::Wired => put_error(rt, b"--wired"),
-        Place::Marks => put_error(rt, b"--marks"),
-        Place::Output => put_error(rt, b"-o"),
-        Place::Steps => put_error(rt, b"--steps"),
-        Place::Request => put_error(rt, b"--request"),
-        Place::Count => put_error(rt, b"--count"),
-        Place::Rom => put_error(rt, b"--rom"),
-        Place::Fill => put_error(rt, b"--fill"),
-        Place::Raw => put_error(rt, b"--raw"),
-        Place::Quiet => put_error(rt, b"--quiet"),
-        Place::Help => put_error(rt, b"--help"),
-        Place::Image | Place::Record => put_error(rt, b"a file"),
+fn put_name(rt: &HostRuntime, place: usize) {
+    match Place::of(place) {
+        Some(Place::Wired) => put_error(rt, b"--wired"),
+        Some(Place::Marks) => put_error(rt, b"--marks"),
+        Some(Place::Output) => put_error(rt, b"-o"),
+        Some(Place::Steps) => put_error(rt, b"--steps"),
+        Some(Place::Request) => put_error(rt, b"--request"),
+        Some(Place::Count) => put_error(rt, b"--count"),
+        Some(Place::Rom) => put_error(rt, b"--rom"),
+        Some(Place::Fill) => put_error(rt, b"--fill"),
+        Some(Place::Raw) => put_error(rt, b"--raw"),
+        Some(Place::Quiet) => put_error(rt, b"--quiet"),
+        Some(Place::Help) => put_error(rt, b"--help"),
+        _ => put_error(rt, b"a file"),
     }
 }
 
 // What is wrong with an option: `st62: OPTION: reason`.
-fn put_option(rt: &HostRuntime, place: Place, reason: &[u8]) {
+fn put_option(rt: &HostRuntime, place: usize, reason: &[u8]) {
     put_error(rt, b"st62: ");
     put_name(rt, place);
     put_error(rt, reason);
 }
 
 // What an option's value can be.
-fn put_values(rt: &HostRuntime, place: Place) {
-    match place {
-        Place::Wired => put_error(
+fn put_values(rt: &HostRuntime, place: usize) {
+    match Place::of(place) {
+        Some(Place::Wired) => put_error(
             rt,
             b": sources are nmi, 1, 2, 3, 4 with commas between them, or none\n",
         ),
-        Place::Steps => put_error(rt, b": 0 to 65535\n"),
-        Place::Request => put_error(rt, b": STEP=SOURCE, a step below --steps\n"),
-        Place::Count => put_error(rt, b": 0 to 255\n"),
-        Place::Rom => put_error(rt, b": 2K or 4K\n"),
-        Place::Fill => put_error(rt, b": two hexadecimal digits\n"),
+        Some(Place::Steps) => put_error(rt, b": 0 to 65535\n"),
+        Some(Place::Request) => put_error(rt, b": STEP=SOURCE, a step below --steps\n"),
+        Some(Place::Count) => put_error(rt, b": 0 to 255\n"),
+        Some(Place::Rom) => put_error(rt, b": 2K or 4K\n"),
+        Some(Place::Fill) => put_error(rt, b": two hexadecimal digits\n"),
         _ => put_error(rt, b": no such value\n"),
     }
 }
 
 // An option's value that it cannot have: `st62: OPTION VALUE: what it can be`.
-fn put_bad_value(rt: &HostRuntime, place: Place, argument: usize) {
+fn put_bad_value(rt: &HostRuntime, place: usize, argument: usize) {
     let mut word = [0u8; WORD];
     let length = word_at(rt, argument, &mut word);
     put_option(rt, place, b" ");
@@ -263,17 +263,17 @@ fn put_bad_value(rt: &HostRuntime, place: Place, argument: usize) {
 }
 
 // What is missing.
-fn put_missing(rt: &HostRuntime, place: Place) {
-    match place {
-        Place::Image => put_error(rt, b"st62: no image\n"),
-        Place::Record => put_error(rt, b"st62: no record\n"),
-        Place::Wired => put_error(
+fn put_missing(rt: &HostRuntime, place: usize) {
+    match Place::of(place) {
+        Some(Place::Image) => put_error(rt, b"st62: no image\n"),
+        Some(Place::Record) => put_error(rt, b"st62: no record\n"),
+        Some(Place::Wired) => put_error(
             rt,
             b"st62: --wired is missing: the wired sources are never assumed\n",
         ),
-        Place::Output => put_error(rt, b"st62: -o is missing\n"),
-        Place::Steps => put_error(rt, b"st62: --steps is missing\n"),
-        Place::Count => put_error(rt, b"st62: --count is missing\n"),
+        Some(Place::Output) => put_error(rt, b"st62: -o is missing\n"),
+        Some(Place::Steps) => put_error(rt, b"st62: --steps is missing\n"),
+        Some(Place::Count) => put_error(rt, b"st62: --count is missing\n"),
         _ => put_error(rt, b"st62: an option is missing\n"),
     }
 }
@@ -288,15 +288,8 @@ fn put_wrong(rt: &HostRuntime, usage: Usage) {
         Usage::Unfit(place) => put_option(rt, place, b": not an option of this command\n"),
         Usage::Twice(place) => put_option(rt, place, b": given twice\n"),
         Usage::NoValue(place) => put_option(rt, place, b": its value is missing\n"),
-        Usage::BadValue {
-            place,
-            argument: Some(argument),
-        } => put_bad_value(rt, place, argument),
-        Usage::BadValue {
-            place,
-            argument: None,
-        }
-        | Usage::Missing(place) => put_missing(rt, place),
+        Usage::BadValue { place, argument } => put_bad_value(rt, place, argument),
+        Usage::Missing(place) => put_missing(rt, place),
     }
 }
 

@@ -1,7 +1,7 @@
 // The image that the arguments ask for, read from its file.
 ghost use Rattle.std.specs.Prelude.{◌≤◌};
 
-use crate::arguments::{argument_of, value_of};
+use crate::arguments::{argument_of, is_given, value_of};
 use crate::failure::Failure;
 use crate::files::{put_file_error, read_file};
 use certificate::check::marks_in;
@@ -10,13 +10,13 @@ use isa::rom::PROGRAM_SPACE;
 use options::command_line::Usage;
 use options::image::{Asked, ImageError, ImageFound, Rom, SPACE, asked_of, bytes_of, image_of};
 use options::numbers::byte_of;
-use options::places::{Place, Places};
+use options::places::{PLACES, Place};
 use reports::answers::Subject;
 use reports::output::put_error;
 
 // What `--rom` asks for, if it is given.
-fn asked_for(rt: &HostRuntime, places: &Places) -> Result<Option<Asked>, Usage> {
-    if !places.has(Place::Rom) {
+fn asked_for(rt: &HostRuntime, places: &[usize; PLACES]) -> Result<Option<Asked>, Usage> {
+    if !is_given(places, Place::Rom) {
         return Ok(None);
     }
     let asked = value_of(rt, places, Place::Rom, |word| asked_of(word))?;
@@ -24,8 +24,8 @@ fn asked_for(rt: &HostRuntime, places: &Places) -> Result<Option<Asked>, Usage> 
 }
 
 // The byte that `--fill` gives, 00h where it is not given.
-fn fill_of(rt: &HostRuntime, places: &Places) -> Result<u8, Usage> {
-    if !places.has(Place::Fill) {
+fn fill_of(rt: &HostRuntime, places: &[usize; PLACES]) -> Result<u8, Usage> {
+    if !is_given(places, Place::Fill) {
         return Ok(0);
     }
     value_of(rt, places, Place::Fill, |word| byte_of(word))
@@ -89,7 +89,7 @@ pub struct Loaded {
 // Reads the image that the arguments ask for.
 pub fn load_image(
     rt: &HostRuntime,
-    places: &Places,
+    places: &[usize; PLACES],
     file: &mut [u8],
     space: &mut [u8],
 ) -> Result<Loaded, Failure> {
@@ -97,7 +97,13 @@ pub fn load_image(
     let fill = fill_of(rt, places)?;
     let argument = argument_of(places, Place::Image)?;
     let length = read_file(rt, argument, file)?;
-    match image_of(&file[..length], asked, fill, places.has(Place::Raw), space) {
+    match image_of(
+        &file[..length],
+        asked,
+        fill,
+        is_given(places, Place::Raw),
+        space,
+    ) {
         Ok(found) => Ok(Loaded { found, fill }),
         Err(error) => {
             put_image_error(rt, argument, error);
@@ -129,12 +135,12 @@ pub fn marks_start(rom: Rom) -> usize
 }
 
 // What an answer on an image is about.
-pub fn subject_of(places: &Places, image: Loaded, wired: u8, made: bool) -> Subject {
+pub fn subject_of(places: &[usize; PLACES], image: Loaded, wired: u8, made: bool) -> Subject {
     Subject {
         found: image.found,
         fill: image.fill,
         wired,
         made,
-        quiet: places.has(Place::Quiet),
+        quiet: is_given(places, Place::Quiet),
     }
 }

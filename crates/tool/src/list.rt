@@ -1,7 +1,7 @@
 // `st62 list`: what is marked, an address to a line.
 ghost use Rattle.std.specs.Prelude.{◌≤◌};
 
-use crate::arguments::value_of;
+use crate::arguments::{is_given, value_of};
 use crate::failure::Failure;
 use crate::image::{image_start, load_image, marks_start, subject_of};
 use crate::marks::{NoMarks, load_marks};
@@ -9,7 +9,7 @@ use certificate::marks::mark_at;
 use listing::address_line::address_line;
 use listing::pages::choices_in;
 use options::image::SPACE;
-use options::places::{Place, Places};
+use options::places::{PLACES, Place};
 use options::wired::wired_of;
 use reports::Status;
 use reports::answers::{Subject, put_end, put_refusal};
@@ -44,7 +44,7 @@ fn put_listing(rt: &HostRuntime, image: &[u8], marks: &[u8], subject: Subject) -
 
 fn answer(
     rt: &HostRuntime,
-    places: &Places,
+    places: &[usize; PLACES],
     file: &mut [u8],
     image: &[u8],
     marks: &mut [u8],
@@ -57,8 +57,8 @@ fn answer(
     }
 }
 
-pub fn run(rt: &HostRuntime, places: &Places, file: &mut [u8]) -> Result<Status, Failure> {
-    let wired = if places.has(Place::Wired) {
+pub fn run(rt: &HostRuntime, places: &[usize; PLACES], file: &mut [u8]) -> Result<Status, Failure> {
+    let wired = if is_given(places, Place::Wired) {
         value_of(rt, places, Place::Wired, |word| wired_of(word))?
     } else {
         0
@@ -66,7 +66,7 @@ pub fn run(rt: &HostRuntime, places: &Places, file: &mut [u8]) -> Result<Status,
     let mut space = [0u8; SPACE];
     let mut marks = [0u8; 4096];
     let image = load_image(rt, places, file, &mut space)?;
-    let subject = subject_of(places, image, wired, !places.has(Place::Marks));
+    let subject = subject_of(places, image, wired, !is_given(places, Place::Marks));
     let first = image_start(image.found.rom);
     let first_mark = marks_start(image.found.rom);
     Ok(answer(

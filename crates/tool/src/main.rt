@@ -16,13 +16,13 @@ mod size;
 mod trace;
 
 use failure::Failure;
-use options::places::Places;
+use options::places::PLACES;
 use reports::Status;
 use std::process::ExitCode;
 
 // Does what the arguments ask for.
 fn st62(rt: &HostRuntime) -> Result<Status, Failure> {
-    let mut places = Places::new();
+    let mut places = [0usize; PLACES];
     let command = arguments::read_arguments(rt, &mut places)?;
     arguments::run(rt, command, &places)
 }

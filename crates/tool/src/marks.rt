@@ -6,7 +6,7 @@ use intel_hex::HexError;
 use isa::Refusal;
 use maker::make::make;
 use options::image::is_hex;
-use options::places::{Place, Places};
+use options::places::{PLACES, Place};
 
 // Why there are no marks for the check to look at.
 #[derive(Clone, Copy, Debug, PartialEq, Eq)]
@@ -56,16 +56,17 @@ fn marks_of(
 // Puts the marks that the arguments give, or else those that the maker makes, into a buffer.
 pub fn load_marks(
     rt: &HostRuntime,
-    places: &Places,
+    places: &[usize; PLACES],
     file: &mut [u8],
     image: &[u8],
     wired: u8,
     marks: &mut [u8],
 ) -> Result<(), NoMarks> {
-    let Some(argument) = places.argument(Place::Marks) else {
+    let argument = places[Place::Marks.number()];
+    if argument == 0 {
         make(image, wired, marks)?;
         return Ok(());
-    };
+    }
     let length = read_file(rt, argument, file)?;
     marks_of(rt, &file[..length], argument, marks)
 }

@@ -6,7 +6,7 @@ use crate::image::{image_start, load_image, subject_of};
 use isa::Refusal;
 use listing::Line;
 use options::image::SPACE;
-use options::places::{Place, Places};
+use options::places::{PLACES, Place};
 use playback::Played;
 use playback::play::play;
 use reports::Status;
@@ -84,7 +84,7 @@ fn answer(rt: &HostRuntime, image: &[u8], recording: &[u8], subject: Subject) ->
     }
 }
 
-pub fn run(rt: &HostRuntime, places: &Places, file: &mut [u8]) -> Result<Status, Failure> {
+pub fn run(rt: &HostRuntime, places: &[usize; PLACES], file: &mut [u8]) -> Result<Status, Failure> {
     let mut space = [0u8; SPACE];
     let image = load_image(rt, places, file, &mut space)?;
     let subject = subject_of(places, image, 0, false);

@@ -1,5 +1,5 @@
 // `st62 size`: the width that the gauge would show for a slide count.
-use crate::arguments::value_of;
+use crate::arguments::{is_given, value_of};
 use crate::failure::Failure;
 use crate::image::{image_start, load_image, marks_start, subject_of};
 use crate::marks::{NoMarks, load_marks};
@@ -10,7 +10,7 @@ use listing::Line;
 use options::command_line::bad_value;
 use options::image::SPACE;
 use options::numbers::decimal_of;
-use options::places::{Place, Places};
+use options::places::{PLACES, Place};
 use reports::Status;
 use reports::answers::{Subject, put_end, put_refusal};
 use reports::machine_lines::counted;
@@ -43,7 +43,7 @@ fn put_sizing(
 // An image with pages is the gauge's to refuse, before marks are read or made.
 fn answer(
     rt: &HostRuntime,
-    places: &Places,
+    places: &[usize; PLACES],
     file: &mut [u8],
     image: &[u8],
     marks: &mut [u8],
@@ -60,15 +60,15 @@ fn answer(
     }
 }
 
-pub fn run(rt: &HostRuntime, places: &Places, file: &mut [u8]) -> Result<Status, Failure> {
+pub fn run(rt: &HostRuntime, places: &[usize; PLACES], file: &mut [u8]) -> Result<Status, Failure> {
     let number = value_of(rt, places, Place::Count, |word| decimal_of(word))?;
     let Ok(count) = u8::try_from(number) else {
-        return Err(Failure::Usage(bad_value(places, Place::Count)));
+        return Err(Failure::Usage(bad_value(places, Place::Count.number())));
     };
     let mut space = [0u8; SPACE];
     let mut marks = [0u8; 4096];
     let image = load_image(rt, places, file, &mut space)?;
-    let subject = subject_of(places, image, 0, !places.has(Place::Marks));
+    let subject = subject_of(places, image, 0, !is_given(places, Place::Marks));
     let first = image_start(image.found.rom);
     let first_mark = marks_start(image.found.rom);
     Ok(answer(

@@ -17,14 +17,14 @@ use options::Command;
 use options::command_line::Usage;
 use options::image::SPACE;
 use options::numbers::decimal_of;
-use options::places::{Place, Places};
+use options::places::{AWAITED, PLACES, Place};
 use options::wired::request_of;
 use reports::Status;
 use reports::answers::{Subject, put_end, refusal_line};
 use reports::changes::changes;
 use reports::explain::put_reason;
 use reports::machine_lines::{bank_of, counted, read_name};
-use reports::output::{NotWritten, Written, put};
+use reports::output::{Written, finish, put};
 
 // A request byte for each step of the longest trace.
 const MOST_STEPS: usize = 65536;
@@ -154,14 +154,14 @@ fn put_stop(
     put_end(rt, image, subject)
 }
 
-// The steps of a fresh machine, up to the first that stops.
+// The steps of a fresh machine, up to the first that stops, or whose line cannot be written.
 fn put_steps(
     rt: &HostRuntime,
     image: &[u8],
     requests: &[u8; MOST_STEPS],
     steps: u16,
     subject: Subject,
-) -> Result<Status, NotWritten> {
+) -> Status {
     let mut m = fresh();
     let mut latest = Source::Nmi;
     for i in 0..steps {
@@ -169,31 +169,35 @@ fn put_steps(
         match stepped.report.answer {
             Ok(cycles) => {
                 latest = latest_source(latest, request_in(stepped.report.action));
-                put_step(rt, i, image.len(), m, stepped, latest, cycles)?;
+                let written = put_step(rt, i, image.len(), m, stepped, latest, cycles);
+                if written.is_err() {
+                    return finish(Status::Done, written);
+                }
             }
             Err(refusal) => {
-                put_stop(rt, image, subject, stepped.machine, refusal)?;
-                return Ok(Status::Refused);
+                return finish(
+                    Status::Refused,
+                    put_stop(rt, image, subject, stepped.machine, refusal),
+                );
             }
         }
         m = stepped.machine;
     }
-    put_end(rt, image, subject)?;
-    Ok(Status::Done)
+    finish(Status::Done, put_end(rt, image, subject))
 }
 
 // Reads an argument as the command line is read, and notes the request that it gives, if any: within the steps, where
 // one is awaited.
 fn note_request(
     rt: &HostRuntime,
-    places: &mut Places,
+    places: &mut [usize; PLACES],
     argument: usize,
     steps: u16,
     requests: &mut [u8; MOST_STEPS],
 ) -> Result<(), Usage> {
-    let awaited = places.awaited;
+    let awaited = places[AWAITED];
     let _ = read_argument(rt, places, Command::Trace, argument);
-    if awaited != Some(Place::Request) {
+    if awaited != Place::Request.number() {
         return Ok(());
     }
     match read_as(rt, argument, |word| request_of(word)) {
@@ -202,8 +206,8 @@ fn note_request(
             Ok(())
         }
         _ => Err(Usage::BadValue {
-            place: Place::Request,
-            argument: Some(argument),
+            place: Place::Request.number(),
+            argument,
         }),
     }
 }
@@ -214,14 +218,14 @@ fn read_requests(
     steps: u16,
     requests: &mut [u8; MOST_STEPS],
 ) -> Result<(), Usage> {
-    let mut places = Places::new();
+    let mut places = [0usize; PLACES];
     for argument in 2..argument_count(rt) {
         note_request(rt, &mut places, argument, steps, requests)?;
     }
     Ok(())
 }
 
-pub fn run(rt: &HostRuntime, places: &Places, file: &mut [u8]) -> Result<Status, Failure> {
+pub fn run(rt: &HostRuntime, places: &[usize; PLACES], file: &mut [u8]) -> Result<Status, Failure> {
     let steps = value_of(rt, places, Place::Steps, |word| decimal_of(word))?;
     let mut requests = [0u8; MOST_STEPS];
     read_requests(rt, steps, &mut requests)?;
@@ -229,8 +233,5 @@ pub fn run(rt: &HostRuntime, places: &Places, file: &mut [u8]) -> Result<Status,
     let image = load_image(rt, places, file, &mut space)?;
     let subject = subject_of(places, image, 0, false);
     let first = image_start(image.found.rom);
-    match put_steps(rt, &space[first..], &requests, steps, subject) {
-        Ok(status) => Ok(status),
-        Err(NotWritten) => Ok(Status::Failed),
-    }
+    Ok(put_steps(rt, &space[first..], &requests, steps, subject))
 }

@@ -27,7 +27,7 @@ returns-in_default-form c is low =
 
 pub returns : goal.returns
 returns c is low =
-    rw (c.timing_of-timing.ensures.0, c.timing_of-timing.ensures.1)
+    rw (c.timing_by_map-timing.ensures.0, c.timing_by_map-timing.ensures.1)
     (by_form _ _ _ _ _ _
     (decoded c.args.image.now c.args.bank c.args.address _ _ _ _ c.space_in.ensures.page c.space_in.ensures.fixed is
     (λ h. c.code_at.ensures h low) c.in-Some.is)

@@ -8,7 +8,7 @@ returns-then-timing-eq0 c h low =
     rw (
       ← c.code_at.ensures h low,
       c.in-Some.is,
-      undefined _ _ _ (sym c.timing_of-timing.ensures.0 ∙ c.if-timing-eq0.true),
+      undefined _ _ _ (sym c.timing_by_map-timing.ensures.0 ∙ c.if-timing-eq0.true),
     )
 
 pub returns : goal.returns
@@ -16,8 +16,8 @@ returns c h low =
     rw (
       c.flow_by.ensures,
       c.forward.ensures,
-      c.timing_of-timing.ensures.0,
+      c.timing_by_map-timing.ensures.0,
       ← c.code_at.ensures h low,
       c.in-Some.is,
     )
-    (sym (continues _ _ _ _ (λ none. c.if-timing-eq0.false (c.timing_of-timing.ensures.0 ∙ none))))
+    (sym (continues _ _ _ _ (λ none. c.if-timing-eq0.false (c.timing_by_map-timing.ensures.0 ∙ none))))
