@@ -1,5 +1,5 @@
 -- A run step by step.
-use Prim.Native.Nat.{ℕ, zero, suc, ◌+◌, ◌-◌, ◌<◌}
+use Prim.Native.Nat.{ℕ, zero, suc, ◌+◌, ◌-◌, ◌≤◌, ◌<◌}
 use mathlib.Core.Path.{◌≡◌, refl, sym, ap, ◌∙◌}
 use mathlib.Core.Bool.{Bool, true, false, and-eq-true_iff}
 use mathlib.Core.List.{List}
@@ -13,17 +13,18 @@ use lib.ListN.{get_or, length, take, get_or-eq_default, length-take}
 use Rattle.std.proofs.lemmas.List.{get_or-take}
 use Rattle.std.specs.Bool.{MatchBool}
 use Rattle.std.specs.List.{AllWithin, HoldsAt}
-use Rattle.std.specs.Prelude.{Result, Ok, Err, is_err}
+use Rattle.std.specs.Prelude.{None, Result, Ok, Err, is_err}
 use Rattle.isa.specs.declared.Refusal.{Refusal}
 use Rattle.isa.specs.Refusals.{Numbered, done, refused, answered}
 use Rattle.isa.specs.Sources.{names_only_sources}
 use Rattle.isa.specs.Rom.{is_image}
 use Rattle.isa.specs.Decode.{decode_at}
 use Rattle.data.specs.Space.{program_of}
+use Rattle.control.specs.Requests.{requested_of}
 use Rattle.machine.specs.declared.Machine.{Machine}
 use Rattle.machine.specs.State.{is_well_formed}
 use Rattle.machine.specs.Advance.{Step, done_of, refused_of, acted_of, advanced_of}
-use Rattle.machine.specs.Actions.{decoded_action, unrequested_action}
+use Rattle.machine.specs.Actions.{enabled_of, decoded_action, unrequested_action, due_of}
 use Rattle.machine.specs.Step.{step_of}
 use Rattle.machine.specs.Steps.{Run, run_at, settled_by, continued_of, steps_of, requests_fit}
 use Rattle.machine.proofs.Due.{action_due}
@@ -109,6 +110,13 @@ pub awake :
 unfolding unrequested_action
 awake image m e = rw e
 
+-- a step of a sleeper with nothing to take leaves the machine, and takes no cycles
+pub idle_advance :
+    (image : List ℕ) (m : Machine) (request : ℕ) → m.control.asleep ≡ true →
+    requested_of m.control.mode (enabled_of m.bytes) request ≡ None → done_of m 0 ≡ advanced_of image m request
+unfolding due_of advanced_of
+idle_advance image m request e f = rw f (idle image m e)
+
 -- a run that has ended stays as it is
 ended_stays :
     (image : List ℕ) (r : Run) (request : ℕ) (n : Numbered) → r.report.ending ≡ refused n →
@@ -147,6 +155,33 @@ module _ (image requests : List ℕ) (m : Machine) where
       ≡ continued_of image (run_at n i cycles (done tt)) (get_or requests i 0) =
       rw (← s) in
       joined ∙ after i (run_at n i cycles (done tt)) e ∙ ap (steps_of image requests m) (sym (add-one i))
+
+  -- steps that leave the machine and take no cycles, after i that completed
+  idle_steps :
+      (i cycles : ℕ) (o : Machine) → run_at o i cycles (done tt) ≡ steps_of image requests m i → (d : ℕ) →
+      ((k : ℕ) → i ≤ k → k < i + d → done_of o 0 ≡ step_of image o (get_or requests k 0)) →
+      run_at o (i + d) cycles (done tt) ≡ steps_of image requests m (i + d)
+  idle_steps i cycles o e zero f =
+      let here : i + 0 ≡ i = omega arith in
+      rw here e
+  idle_steps i cycles o e (suc d) f =
+      let next : i + suc d ≡ (i + d) + 1 = omega arith in
+      let same : cycles + 0 ≡ cycles = omega arith in
+      rw next (rw same at
+      (one_more (i + d) cycles 0 o o (idle_steps i cycles o e d (λ k l h. f k l (omega arith)))
+      (f (i + d) (omega arith) (omega arith))))
+
+  -- and those that leave a well-formed machine by what the program knows
+  pub idles_on :
+      (i j n cycles : ℕ) (o : Machine) → is_image (length image) ≡ true → is_well_formed o ≡ true →
+      requests_fit requests n ≡ true → i ≤ j → j ≤ n →
+      ((k : ℕ) → i ≤ k → k < j → done_of o 0 ≡ advanced_of (program_of image o.bytes) o (get_or requests k 0)) →
+      run_at o i cycles (done tt) ≡ steps_of image requests m i →
+      run_at o j cycles (done tt) ≡ steps_of image requests m j
+  idles_on i j n cycles o v w fits l h f e =
+      let whole : i + (j - i) ≡ j = omega arith in
+      rw whole at (idle_steps i cycles o e (j - i) (λ k a b.
+      stepped image requests o n k _ _ v w fits (omega arith) refl (f k a (omega arith))))
 
   -- a step that stops, after i that completed, ends the run
   pub stops_at :

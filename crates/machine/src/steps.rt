@@ -1,18 +1,23 @@
 // The steps of a run, with request byte i at step i.
-ghost use Rattle.std.specs.Prelude.{◌≡◌, List, true, ℕ, ◌*◌, ◌≤◌, ◌<◌, get_or, length};
+ghost use Rattle.std.specs.Prelude.{◌≡◌, List, true, ℕ, ◌*◌, ◌≤◌, ◌<◌, get_or, length, is_some};
 ghost use Rattle.isa.specs.Rom.{IsImage};
 ghost use Rattle.isa.specs.Refusals.{done};
+ghost use Rattle.control.specs.Requests.{requested_of};
 ghost use Rattle.control.specs.WellFormed.{well_formed};
+ghost use Rattle.machine.specs.Actions.{enabled_of};
+ghost use Rattle.machine.specs.Advance.{done_of, advanced_of};
 ghost use Rattle.machine.specs.Fetch.{Coherent};
 ghost use Rattle.machine.specs.Pairs.{with_pair_of};
 ghost use Rattle.machine.specs.State.{machine_of};
 ghost use Rattle.machine.specs.declared.Machine.{Machine};
 ghost use Rattle.machine.specs.Steps.{progress_as, part_as, run_at, settled, requests_fit, steps_of};
 
+use crate::advance::is_enabled;
 use crate::pairs::{pair, with_pair};
 use crate::run_step::advance;
 use crate::{FlagPairs, Part, Report, RunProgress};
 use alu::Flags;
+use control::requests::requested;
 use control::{Control, Mode};
 use data::space::BANK;
 use isa::rom::page_number;
@@ -32,6 +37,29 @@ fn stays(bytes: &[u8; 256], bank: u8, mode: Mode, before: Mode, i: u32, n: u32) 
     ensures { result ≡ true → (i < n) × (mode ≡ before) × (get_or bytes.now 0xCA 0 ≡ bank) }
 {
     i < n && bytes[BANK] == bank && mode == before
+}
+
+// The first step from the i-th on that is not idle, or the run's end. An idle step leaves the machine as it was, so of a
+// sleeper's steps only the requests need be looked at.
+fn past_idle(bytes: &[u8; 256], c: Control, requests: &[u8], i: u32, n: u32) -> u32
+    requires { i ≤ n }
+    ensures { (i ≤ result) × (result ≤ n)
+        × ((image stack : List ℕ) (flags : FlagPairs) (k : ℕ) → i ≤ k → k < result
+        → done_of (machine_of c stack flags bytes.now) 0
+        ≡ advanced_of image (machine_of c stack flags bytes.now) (get_or requests.now k 0))
+        × (result < n → c.asleep ≡ true
+        → is_some (requested_of c.mode (enabled_of bytes.now) (get_or requests.now result 0)) ≡ true) }
+{
+    if !c.asleep {
+        return i;
+    }
+    let enabled = is_enabled(bytes);
+    for k in i..n {
+        if requested(c.mode, enabled, request_at(requests, k)).is_some() {
+            return k;
+        }
+    }
+    n
 }
 
 // Steps from the first on, at least one, as long as the bank byte and the mode stay: the page is then a constant of the
@@ -96,7 +124,7 @@ fn steps_in_mode(
                 };
             }
         }
-        i += 1;
+        i = past_idle(bytes, c, requests, i + 1, n);
         same = stays(bytes, bank, c.mode, start.mode, i, n);
     }
     Part {

@@ -9,7 +9,7 @@ use Rattle.control.proofs.StaysWellFormed.{formed_exactly}
 use Rattle.machine.specs.Pairs.{with_pair_of}
 use Rattle.machine.specs.State.{machine_of, cleared_pairs}
 use Rattle.machine.proofs.StaysWellFormed.{formed_step}
-use Rattle.machine.proofs.StepByStep.{stepped, one_more, stops_at}
+use Rattle.machine.proofs.StepByStep.{stepped, one_more, idles_on, stops_at}
 use Rattle.machine.proofs.steps.steps_in_mode.Goals as goal
 
 pub loop-same-init : goal.loop-same-init
@@ -76,14 +76,16 @@ loop-same-preserved c =
     let image = c.args.image.now in
     let requests = c.args.requests.now in
     let n = c.args.n in
-    let goes = loop.invariant.6 c.loop-same-test.true in (
-      omega (arith, loop.invariant.0),
-      omega (arith, goes.0),
-      omega (arith, loop.invariant.2),
-      formed_step image (λ j. (c.type_inv.image j).fits)
-          (machine_of loop.c loop.stack (with_pair_of cleared_pairs loop.c.mode loop.flags) loop.bytes)
-          loop.invariant.3 _ _
-          (c.advance-after.ensures.0 cleared_pairs),
+    let goes = loop.invariant.6 c.loop-same-test.true in
+    let idle = c.past_idle-i.ensures in
+    let formed = formed_step image (λ j. (c.type_inv.image j).fits)
+    (machine_of loop.c loop.stack (with_pair_of cleared_pairs loop.c.mode loop.flags) loop.bytes)
+    loop.invariant.3 _ _
+    (c.advance-after.ensures.0 cleared_pairs) in (
+      omega (arith, loop.invariant.0, idle.0),
+      idle.1,
+      omega (arith, loop.invariant.2, idle.0),
+      formed,
       search rules,
       c.advance-after.ensures.1,
       λ e. (
@@ -91,16 +93,17 @@ loop-same-preserved c =
         (c.stays-same.ensures e).1,
         (c.stays-same.ensures e).2,
       ),
-      λ e. omega (arith, loop.invariant.0),
+      λ e. omega (arith, loop.invariant.0, idle.0),
       λ pairs m e.
-          rw (← goes.1)
+          idles_on image requests m _ _ n _ _ c.requires.3 formed c.requires.5 idle.0 idle.1 (idle.2 _ _ _)
+          (rw (← goes.1)
           (one_more image requests m _ _ _ _ _ (rw (← goes.1) at (loop.invariant.8 pairs m e))
           (rw c.in-Ok.is at
           (stepped image requests
           (machine_of loop.c loop.stack (with_pair_of pairs loop.c.mode loop.flags) loop.bytes) n
           loop.i _ _ c.requires.3 loop.invariant.3 c.requires.5 goes.0
           c.request_at.ensures
-          (c.advance-after.ensures.0 pairs)))),
+          (c.advance-after.ensures.0 pairs))))),
     )
 
 pub returns : goal.returns
