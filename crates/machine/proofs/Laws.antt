@@ -5,7 +5,6 @@ use mathlib.Core.Bool.{true}
 use mathlib.Core.List.{List, []}
 use native.Mathlib.Omega.{arith}
 use native.Mathlib.Nat.{zero-add, add-zero, add-suc, add_assoc}
-use native.Mathlib.Numerals.{add-one}
 use lib.ListN.{length, get_or, drop}
 use lib.Seq.{get_or-drop}
 use Rattle.isa.specs.Refusals.{Answer, Ended, done, refused}
@@ -19,14 +18,13 @@ use Rattle.isa.proofs.Halves.{is_space_lem}
 use Rattle.machine.specs.declared.Machine.{Machine}
 use Rattle.machine.specs.Execute.{execute_of}
 use Rattle.machine.specs.State.{is_well_formed}
-use Rattle.machine.specs.Advance.{Step, done_of, completed_of, executed_of, acted_of}
+use Rattle.machine.specs.Advance.{Step, done_of, completed_of, executed_of}
 use Rattle.machine.specs.Refusals.{TakesNone}
 use Rattle.machine.specs.Step.{step_of}
 use Rattle.machine.specs.Steps.{Run, run_at, joined_by, joined_of, continued_by, continued_of, steps_of, requests_fit}
 use Rattle.machine.specs.Laws.{Does, stops, takes, idles, executes, DataGoesOn, StopsOnly, RunEndsByStop, followed_by, RunIsSteps, SleeperStays}
 use Rattle.machine.proofs.StepDoes.{step_does, stops_numbered}
-use Rattle.machine.proofs.StepByStep.{fits_at, next_step}
-use Rattle.machine.proofs.Due.{idles_due, action_due}
+use Rattle.machine.proofs.StepByStep.{step_advances, fits_at, idle_advance, next_step, idle_steps}
 use Rattle.machine.proofs.StaysWellFormed.{stays_well_formed}
 
 pub data_goes_on : DataGoesOn
@@ -117,14 +115,13 @@ module _ (image : List ℕ) (m : Machine) (size : is_image (length image) ≡ tr
   none = refl
 
   idles_on : step_of image m 0 ≡ done_of m 0
-  unfolding step_of acted_of
   idles_on =
-      rw (action_due image m 0 size formed refl, idles_due (program_of image m.bytes) m 0 none asleep)
+      step_advances image m 0 size formed refl ∙ sym (idle_advance (program_of image m.bytes) m 0 asleep none)
 
   all_idle : (n : ℕ) → steps_of image [] m n ≡ run_at m n 0 (done tt)
   unfolding steps_of
-  all_idle zero = refl
-  all_idle (suc n) = rw (all_idle n, idles_on, add-one n)
+  all_idle n =
+      sym (rw (zero-add n) at (idle_steps image [] m 0 0 m refl n (λ k from to. sym idles_on)))
 
 pub sleeper_stays : SleeperStays
 sleeper_stays = record { by_step = idles_on; by_steps = all_idle }

@@ -24,10 +24,10 @@ use Rattle.control.specs.Requests.{requested_of}
 use Rattle.machine.specs.declared.Machine.{Machine}
 use Rattle.machine.specs.State.{is_well_formed}
 use Rattle.machine.specs.Advance.{Step, done_of, refused_of, acted_of, advanced_of}
-use Rattle.machine.specs.Actions.{enabled_of, decoded_action, unrequested_action, due_of}
+use Rattle.machine.specs.Actions.{enabled_of, decoded_action, unrequested_action}
 use Rattle.machine.specs.Step.{step_of}
 use Rattle.machine.specs.Steps.{Run, run_at, settled_by, continued_of, steps_of, requests_fit}
-use Rattle.machine.proofs.Due.{action_due}
+use Rattle.machine.proofs.Due.{idles_due, action_due}
 
 apart : ◌≡◌ {A = Bool} false true → ⊥
 apart e = let z : ◌≡◌ {A = ℕ} 0 1 = cc in omega arith
@@ -114,8 +114,8 @@ awake image m e = rw e
 pub idle_advance :
     (image : List ℕ) (m : Machine) (request : ℕ) → m.control.asleep ≡ true →
     requested_of m.control.mode (enabled_of m.bytes) request ≡ None → done_of m 0 ≡ advanced_of image m request
-unfolding due_of advanced_of
-idle_advance image m request e f = rw f (idle image m e)
+unfolding acted_of advanced_of
+idle_advance image m request e f = ap (acted_of image m) (sym (idles_due image m request f e))
 
 -- a run that has ended stays as it is
 ended_stays :
@@ -157,7 +157,7 @@ module _ (image requests : List ℕ) (m : Machine) where
       joined ∙ after i (run_at n i cycles (done tt)) e ∙ ap (steps_of image requests m) (sym (add-one i))
 
   -- steps that leave the machine and take no cycles, after i that completed
-  idle_steps :
+  pub idle_steps :
       (i cycles : ℕ) (o : Machine) → run_at o i cycles (done tt) ≡ steps_of image requests m i → (d : ℕ) →
       ((k : ℕ) → i ≤ k → k < i + d → done_of o 0 ≡ step_of image o (get_or requests k 0)) →
       run_at o (i + d) cycles (done tt) ≡ steps_of image requests m (i + d)
@@ -172,13 +172,13 @@ module _ (image requests : List ℕ) (m : Machine) where
       (f (i + d) (omega arith) (omega arith))))
 
   -- and those that leave a well-formed machine by what the program knows
-  pub idles_on :
+  pub idle_to :
       (i j n cycles : ℕ) (o : Machine) → is_image (length image) ≡ true → is_well_formed o ≡ true →
       requests_fit requests n ≡ true → i ≤ j → j ≤ n →
       ((k : ℕ) → i ≤ k → k < j → done_of o 0 ≡ advanced_of (program_of image o.bytes) o (get_or requests k 0)) →
       run_at o i cycles (done tt) ≡ steps_of image requests m i →
       run_at o j cycles (done tt) ≡ steps_of image requests m j
-  idles_on i j n cycles o v w fits l h f e =
+  idle_to i j n cycles o v w fits l h f e =
       let whole : i + (j - i) ≡ j = omega arith in
       rw whole at (idle_steps i cycles o e (j - i) (λ k a b.
       stepped image requests o n k _ _ v w fits (omega arith) refl (f k a (omega arith))))

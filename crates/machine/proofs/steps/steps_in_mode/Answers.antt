@@ -9,7 +9,7 @@ use Rattle.control.proofs.StaysWellFormed.{formed_exactly}
 use Rattle.machine.specs.Pairs.{with_pair_of}
 use Rattle.machine.specs.State.{machine_of, cleared_pairs}
 use Rattle.machine.proofs.StaysWellFormed.{formed_step}
-use Rattle.machine.proofs.StepByStep.{stepped, one_more, idles_on, stops_at}
+use Rattle.machine.proofs.StepByStep.{stepped, one_more, idle_to, stops_at}
 use Rattle.machine.proofs.steps.steps_in_mode.Goals as goal
 
 pub loop-same-init : goal.loop-same-init
@@ -95,7 +95,7 @@ loop-same-preserved c =
       ),
       λ e. omega (arith, loop.invariant.0, idle.0),
       λ pairs m e.
-          idles_on image requests m _ _ n _ _ c.requires.3 formed c.requires.5 idle.0 idle.1 (idle.2 _ _ _)
+          idle_to image requests m _ _ n _ _ c.requires.3 formed c.requires.5 idle.0 idle.1 (idle.2 _ _ _)
           (rw (← goes.1)
           (one_more image requests m _ _ _ _ _ (rw (← goes.1) at (loop.invariant.8 pairs m e))
           (rw c.in-Ok.is at
