@@ -1,8 +1,9 @@
 -- The places of what a command line can give. A list of places has at each the number of the argument that gives it,
--- and 0 where none does.
-use Rattle.std.specs.Prelude.{ℕ}
+-- and 0 where none does; the struct Places says by Option which are given.
+use Rattle.std.specs.Prelude.{ℕ, Bool, eqb, get_or, set, replicate, Option, None, Some, is_none}
 use Rattle.options.specs.declared.places.Place.{Place}
 use Rattle.options.specs.declared.places.Place.TheVariants as named
+use Rattle.options.specs.declared.places.Places.{Places}
 
 -- how many a list of places has
 abbrev pub size : ℕ
@@ -67,3 +68,44 @@ number_of named.Fill = fill
 number_of named.Raw = raw
 number_of named.Quiet = quiet
 number_of named.Help = help
+
+-- a place's number, from 0
+abbrev pub index_of : Place → ℕ
+index_of named.Image = 0
+index_of named.Record = 1
+index_of named.Wired = 2
+index_of named.Marks = 3
+index_of named.Output = 4
+index_of named.Steps = 5
+index_of named.Request = 6
+index_of named.Count = 7
+index_of named.Rom = 8
+index_of named.Fill = 9
+index_of named.Raw = 10
+index_of named.Quiet = 11
+index_of named.Help = 12
+
+-- two places are the same
+abbrev pub is_place : (p q : Place) → Bool
+is_place p q = eqb (index_of p) (index_of q)
+
+-- no word is read
+abbrev pub nothing_given : Places
+nothing_given = record { arguments = replicate 13 None; awaited = None }
+
+-- the number of the argument that gives a place
+abbrev pub argument_of : Places → (p : Place) → Option ℕ
+argument_of places p = get_or places.arguments (index_of p) None
+
+-- no argument gives a place
+abbrev pub is_open : Places → (p : Place) → Bool
+is_open places p = is_none (argument_of places p)
+
+-- an argument gives a place
+abbrev pub given : Places → (p : Place) → (argument : ℕ) → Places
+given places p argument =
+    record { arguments = set places.arguments (index_of p) (Some argument); awaited = places.awaited }
+
+-- the place whose value comes next
+abbrev pub awaiting : Places → (awaited : Option Place) → Places
+awaiting places awaited = record { arguments = places.arguments; awaited = awaited }

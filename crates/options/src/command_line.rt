@@ -1,12 +1,13 @@
-// The command line, word by word: which argument gives what, or what is wrong with it.
-ghost use Rattle.std.specs.Prelude.{◌≡◌, ◌<◌, [], ◌∷◌};
-ghost use Rattle.options.specs.Places.{image, number_of};
-ghost use Rattle.options.specs.CommandLine.{after_word, bad_value_of, has_option, is_open, lack_of, missing_of};
+// The command line, word by word: which argument gives what, or what is wrong with it. Places go by name, in a struct
+// where an argument numbered 0 is given too; `by_number` is the same by number.
+ghost use Rattle.std.specs.Prelude.{◌≡◌, [], ◌∷◌};
+ghost use Rattle.options.specs.declared.places.Place.TheVariants.{Image};
+ghost use Rattle.options.specs.CommandLine.{after_word, bad_value_of, has_option, lack_of, missing_of};
 ghost use Rattle.options.specs.CommandLine.{more_files, more_needed, noted, noted_file, noted_option, step};
 
-use crate::Command;
-use crate::places::{AWAITED, PLACES, Place};
+use crate::places::{Place, Places};
 use crate::words::{Word, word_of};
+use crate::{Command, by_number};
 
 // What is wrong with a command line: by the number of an argument, or by the place of an option.
 #[derive(Clone, Copy, Debug, PartialEq, Eq)]
@@ -18,127 +19,87 @@ pub enum Usage {
     TooManyFiles(usize),
     TooLong(usize),
     // By the place.
-    Unfit(usize),
-    Twice(usize),
-    NoValue(usize),
-    Missing(usize),
+    Unfit(Place),
+    Twice(Place),
+    NoValue(Place),
+    Missing(Place),
     // By both.
-    BadValue { place: usize, argument: usize },
+    BadValue {
+        place: Place,
+        argument: Option<usize>,
+    },
 }
 
-// Whether a command has an option that is named.
-#[tactic(auto, unfolding(crate::specs::CommandLine::has_option))]
-fn has(command: Option<Command>, place: Place) -> bool
-    ensures { result ≡ has_option command (number_of place) }
-{
-    match place {
-        Place::Rom | Place::Fill | Place::Raw | Place::Quiet | Place::Help => true,
-        Place::Wired => {
-            matches!(
-                command,
-                Some(Command::Check | Command::Certify | Command::List)
-            )
-        }
-        Place::Marks => {
-            matches!(
-                command,
-                Some(Command::Check | Command::List | Command::Size)
-            )
-        }
-        Place::Output => matches!(command, Some(Command::Certify)),
-        Place::Steps | Place::Request => matches!(command, Some(Command::Trace)),
-        Place::Count => matches!(command, Some(Command::Size)),
-        Place::Image | Place::Record => false,
-    }
-}
-
-// Whether a command has an option. None, a command without a name, has only those that every command has.
-pub fn takes(command: Option<Command>, place: usize) -> bool
+// Whether a command has an option.
+#[tactic(auto, unfolding(crate::specs::CommandLine::has_option, crate::specs::ByNumber::has_option))]
+pub fn takes(command: Command, place: Place) -> bool
     ensures { result ≡ has_option command place }
 {
-    match Place::of(place) {
-        Some(named) => has(command, named),
-        None => false,
-    }
-}
-
-// Whether no argument gives a place.
-fn is_open(places: &[usize; PLACES], place: Place) -> bool
-    ensures { result ≡ is_open places.now (number_of place) }
-{
-    places[place.number()] == 0
+    by_number::takes(Some(command), place.number())
 }
 
 // Notes that an argument gives a place. Only requests may be given more than once.
 #[tactic(auto, unfolding(crate::specs::CommandLine::noted))]
-fn note(places: &mut [usize; PLACES], place: usize, argument: usize) -> Result<(), Usage>
+fn note(places: &mut Places, place: Place, argument: usize) -> Result<(), Usage>
     ensures { step result places.new ≡ noted places.old place argument }
 {
-    if PLACES <= place {
-        return Err(Usage::UnknownOption(argument));
-    }
-    if place != Place::Request.number() && places[place] != 0 {
+    if place != Place::Request && places.has(place) {
         return Err(Usage::Twice(place));
     }
-    places[place] = argument;
+    places.give(place, argument);
     Ok(())
 }
 
 // Notes a file's name: the image, then, to play, the record.
-fn note_file(
-    places: &mut [usize; PLACES],
-    command: Option<Command>,
-    argument: usize,
-) -> Result<(), Usage>
-    ensures { step result places.new ≡ noted_file places.old (image ∷ more_files command) argument }
+fn note_file(places: &mut Places, command: Command, argument: usize) -> Result<(), Usage>
+    ensures { step result places.new ≡ noted_file places.old (Image ∷ more_files command) argument }
 {
-    let file = if is_open(places, Place::Image) {
+    let file = if !places.has(Place::Image) {
         Place::Image
-    } else if command == Some(Command::Play) && is_open(places, Place::Record) {
+    } else if command == Command::Play && !places.has(Place::Record) {
         Place::Record
     } else {
         return Err(Usage::TooManyFiles(argument));
     };
-    places[file.number()] = argument;
+    places.give(file, argument);
     Ok(())
 }
 
 // Notes an option, of which the command must know; one with a value awaits it.
 #[tactic(auto, unfolding(crate::specs::CommandLine::noted_option))]
 fn note_option(
-    places: &mut [usize; PLACES],
-    command: Option<Command>,
+    places: &mut Places,
+    command: Command,
     place: Place,
     argument: usize,
     has_value: bool,
 ) -> Result<(), Usage>
     ensures { step result places.new
-        ≡ noted_option places.old command (number_of place) argument has_value }
+        ≡ noted_option places.old command place argument has_value }
 {
-    if !has(command, place) {
-        return Err(Usage::Unfit(place.number()));
+    if !takes(command, place) {
+        return Err(Usage::Unfit(place));
     }
     if has_value {
-        places[AWAITED] = place.number();
+        places.awaited = Some(place);
         return Ok(());
     }
-    note(places, place.number(), argument)
+    note(places, place, argument)
 }
 
 // Takes the next word of the command line.
 #[tactic(auto, unfolding(crate::specs::CommandLine::after_word))]
 pub fn take_word(
-    places: &mut [usize; PLACES],
-    command: Option<Command>,
+    places: &mut Places,
+    command: Command,
     word: &[u8],
     argument: usize,
 ) -> Result<(), Usage>
     ensures { step result places.new
         ≡ after_word places.old command word.now argument }
 {
-    let awaited = places[AWAITED];
-    if awaited != 0 {
-        places[AWAITED] = 0;
+    if let Some(awaited) = places.awaited {
+        places.awaited = None;
         return note(places, awaited, argument);
     }
     match word_of(word) {
@@ -150,58 +111,101 @@ pub fn take_word(
 }
 
 // Whether a place that is needed is not given.
-fn missing(places: &[usize; PLACES], place: Place) -> Result<(), Usage>
-    ensures { result ≡ missing_of places.now (number_of place ∷ []) }
+fn missing(places: &Places, place: Place) -> Result<(), Usage>
+    ensures { result ≡ missing_of places.now (place ∷ []) }
 {
-    if is_open(places, place) {
-        Err(Usage::Missing(place.number()))
-    } else {
+    if places.has(place) {
         Ok(())
+    } else {
+        Err(Usage::Missing(place))
     }
 }
 
 // What a command line lacks of what its command needs. The sources that are wired are never assumed.
-fn needs(places: &[usize; PLACES], command: Option<Command>) -> Result<(), Usage>
-    ensures { result ≡ missing_of places.now (image ∷ more_needed command) }
+fn needs(places: &Places, command: Command) -> Result<(), Usage>
+    ensures { result ≡ missing_of places.now (Image ∷ more_needed command) }
 {
     missing(places, Place::Image)?;
     match command {
-        Some(Command::Check) => missing(places, Place::Wired),
-        Some(Command::Certify) => {
+        Command::Check => missing(places, Place::Wired),
+        Command::Certify => {
             missing(places, Place::Wired)?;
             missing(places, Place::Output)
         }
-        Some(Command::Trace) => missing(places, Place::Steps),
-        Some(Command::Size) => missing(places, Place::Count),
-        Some(Command::Play) => missing(places, Place::Record),
-        Some(Command::List | Command::Help | Command::Version) | None => Ok(()),
+        Command::Trace => missing(places, Place::Steps),
+        Command::Size => missing(places, Place::Count),
+        Command::Play => missing(places, Place::Record),
+        Command::List | Command::Help | Command::Version => Ok(()),
     }
 }
 
 // What the whole command line lacks, once all words are taken.
 #[tactic(auto, unfolding(crate::specs::CommandLine::lack_of))]
-pub fn lacks(places: &[usize; PLACES], command: Option<Command>) -> Result<(), Usage>
+pub fn lacks(places: &Places, command: Command) -> Result<(), Usage>
     ensures { result ≡ lack_of places.now command }
 {
-    if !is_open(places, Place::Help) {
+    if places.has(Place::Help) {
         return Ok(());
     }
-    let awaited = places[AWAITED];
-    if awaited != 0 {
+    if let Some(awaited) = places.awaited {
         return Err(Usage::NoValue(awaited));
     }
     needs(places, command)
 }
 
 // That the value of an option is none that it can have.
-pub fn bad_value(places: &[usize; PLACES], place: usize) -> Usage
+pub fn bad_value(places: &Places, place: Place) -> Usage
     ensures { result ≡ bad_value_of places.now place }
 {
-    if PLACES <= place {
-        return Usage::UnknownOption(place);
-    }
     Usage::BadValue {
         place,
-        argument: places[place],
+        argument: places.argument(place),
+    }
+}
+
+#[cfg(test)]
+mod tests {
+    use super::*;
+
+    // The words after `st62 check`, the first of them numbered 0; with `--help` nothing is lacking.
+    #[test]
+    fn line_of_check_is_taken(rt: HostRuntime) {
+        let mut places = Places::new();
+        let image = take_word(&mut places, Command::Check, b"a.hex", 0);
+        assert_eq!(rt; image, Ok(()));
+        let lack = lacks(&places, Command::Check);
+        assert_eq!(rt; lack, Err(Usage::Missing(Place::Wired)));
+        let option = take_word(&mut places, Command::Check, b"--wired", 1);
+        assert_eq!(rt; option, Ok(()));
+        let lack = lacks(&places, Command::Check);
+        assert_eq!(rt; lack, Err(Usage::NoValue(Place::Wired)));
+        let value = take_word(&mut places, Command::Check, b"none", 2);
+        assert_eq!(rt; value, Ok(()));
+        let lack = lacks(&places, Command::Check);
+        assert_eq!(rt; lack, Ok(()));
+        let mut places = Places::new();
+        let help = take_word(&mut places, Command::Check, b"--help", 0);
+        assert_eq!(rt; help, Ok(()));
+        let lack = lacks(&places, Command::Check);
+        assert_eq!(rt; lack, Ok(()));
+    }
+
+    #[test]
+    fn faults_are_told_by_place(rt: HostRuntime) {
+        let mut places = Places::new();
+        assert!(rt; takes(Command::Size, Place::Count));
+        assert!(rt; !takes(Command::Check, Place::Count));
+        let unfit = take_word(&mut places, Command::Check, b"--count", 2);
+        assert_eq!(rt; unfit, Err(Usage::Unfit(Place::Count)));
+        let given = take_word(&mut places, Command::List, b"--quiet", 0);
+        assert_eq!(rt; given, Ok(()));
+        let twice = take_word(&mut places, Command::List, b"--quiet", 2);
+        assert_eq!(rt; twice, Err(Usage::Twice(Place::Quiet)));
+        let bad = bad_value(&places, Place::Quiet);
+        let told = Usage::BadValue {
+            place: Place::Quiet,
+            argument: Some(0),
+        };
+        assert_eq!(rt; bad, told);
     }
 }

@@ -2,6 +2,7 @@
 // holds.
 #![tactic(auto)]
 
+pub mod by_number;
 pub mod command_line;
 pub mod image;
 pub mod numbers;

@@ -5,7 +5,7 @@ use crate::failure::Failure;
 use crate::files::file_space;
 use crate::{certify, check, help, list, play, size, trace};
 use options::Command;
-use options::command_line::{Usage, bad_value, lacks, take_word};
+use options::by_number::{Usage, bad_value, lacks, take_word};
 use options::places::{PLACES, Place};
 use options::words::command_of;
 use reports::Status;

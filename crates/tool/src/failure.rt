@@ -1,5 +1,5 @@
 // Why a command has no answer.
-use options::command_line::Usage;
+use options::by_number::Usage;
 
 // Why something failed has been said on standard error.
 #[derive(Clone, Copy, Debug, PartialEq, Eq)]

@@ -1,7 +1,7 @@
 // Help, version, and what is wrong with a command line.
 use crate::arguments::{WORD, word_at};
 use options::Command;
-use options::command_line::Usage;
+use options::by_number::Usage;
 use options::places::Place;
 use reports::Status;
 use reports::output::{Stream, Written, finish, put_error, put_text, put_to};

@@ -7,7 +7,7 @@ use crate::files::{put_file_error, read_file};
 use certificate::check::marks_in;
 use intel_hex::{Fault, LineFault};
 use isa::rom::PROGRAM_SPACE;
-use options::command_line::Usage;
+use options::by_number::Usage;
 use options::image::{Asked, ImageError, ImageFound, Rom, SPACE, asked_of, bytes_of, image_of};
 use options::numbers::byte_of;
 use options::places::{PLACES, Place};

@@ -7,7 +7,7 @@ use gauge::Measured;
 use gauge::width::width;
 use isa::rom::PROGRAM_SPACE;
 use listing::Line;
-use options::command_line::bad_value;
+use options::by_number::bad_value;
 use options::image::SPACE;
 use options::numbers::decimal_of;
 use options::places::{PLACES, Place};

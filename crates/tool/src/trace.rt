@@ -14,7 +14,7 @@ use machine::state::fresh;
 use machine::step::step;
 use machine::{Action, Machine, StepReport, Stepped, request_in};
 use options::Command;
-use options::command_line::Usage;
+use options::by_number::Usage;
 use options::image::SPACE;
 use options::numbers::decimal_of;
 use options::places::{AWAITED, PLACES, Place};

@@ -1,4 +1,4 @@
--- `command_line::takes` meets its contract: a number that is no place's is no option's.
+-- `by_number::takes` meets its contract: a number that is no place's is no option's.
 use Prim.Native.Nat.{ℕ}
 use mathlib.Core.Path.{◌≡◌, refl, sym}
 use mathlib.Core.Bool.{false}
@@ -10,8 +10,8 @@ use Rattle.options.specs.declared.Command.TheVariants as command
 use Rattle.options.specs.declared.places.Place.{Place}
 use Rattle.options.specs.declared.places.Place.TheVariants as place
 use Rattle.options.specs.Places.{number_of}
-use Rattle.options.specs.CommandLine.{common_options, has_option, is_among, options_of}
-use Rattle.options.proofs.command_line.takes.Goals as goal
+use Rattle.options.specs.ByNumber.{common_options, has_option, is_among, options_of}
+use Rattle.options.proofs.by_number.takes.Goals as goal
 
 module _ (n : ℕ) (other : (p : Place) → eqb n (number_of p) ≡ false) where
   no_common : is_among n common_options ≡ false
